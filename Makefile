@@ -117,11 +117,14 @@ check: crate toolchain
 test: toolchain docs
 	RT_JOBS=$${RT_JOBS-$$(.ci/jobs)} rt ci
 
-#: make docs                         checks the documents: links, names of files and clauses, lengths of lines; that manual pages and
-#:                                   completions have the options of the programs; and that each wrong body can be applied
+#: make docs                         checks the documents: links, names of files and clauses, lengths of lines, the index of public calls;
+#:                                   that manual pages and completions have the options of the programs; and that each wrong body
+#:                                   can be applied
 docs:
 	docs/check --try
 	docs/check
+	docs/contracts --try
+	docs/contracts
 	install/check --try
 	install/check
 	wrong-bodies/run --dry

@@ -43,7 +43,7 @@ rounds_of_batches() {
                 $PRIORITY "$BATCHES" "$size" "$OUT/inputs/$name.codes" < "$OUT/inputs/$name" | sed "s/^/$name /"
             done
         done
-        $PRIORITY "$OURS_CALLS" columns < "$OUT/inputs/rows" | sed -nE 's/^encode(_lines)? /rows &/p'
+        $PRIORITY "$OURS_CALLS" columns < "$OUT/inputs/rows" | sed -nE 's/^(encode|encode_lines) 1 /rows \1 /p'
     done
 }
 

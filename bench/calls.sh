@@ -20,7 +20,7 @@ take_priority() {
 rounds_of_calls() {
     local round hash
     for ((round = 0; round < CALL_ROUNDS; round++)); do
-        $PRIORITY "$OURS_CALLS" round | sed 's/^/ours /'
+        $PRIORITY "$OURS_CALLS" round | sed -E 's/^([^ ]+) ([^ ]+) /ours \2 \1 /'
         $PRIORITY "$STANDARD_CALLS" | sed 's/^/std /'
         for hash in $HASHES; do
             $PRIORITY "$CALLS" "$hash" | sed "s/^/$hash /"

@@ -30,7 +30,7 @@ need_pandas() {
 rounds_of_columns() {
     local round hash
     for ((round = 0; round < COLUMN_ROUNDS; round++)); do
-        "$COLUMNS_OURS" columns < "$1" | sed -E 's/^(encode_shared|encode_in_parts|private) /\1_/; s/^/ours /'
+        "$COLUMNS_OURS" columns < "$1" | sed -E 's/^(encode_shared|encode_in_parts|private) /\1_/; s/^([a-z_]+) 1 /\1 /; s/^/ours /'
         for hash in $HASHES; do
             "$COLUMNS" "$hash" < "$1" | sed 's/^/rust /'
         done

@@ -1,6 +1,6 @@
 //! How long it takes threads to read texts of one list at once, behind a lock and in a plain list, over the same texts
-//! and at the same positions as `lasso_bench` reads them from the log of a shared interner. Prints the nanoseconds
-//! that a call takes each thread.
+//! and at the same positions as `lasso_bench` reads them from the log of a shared interner. Prints lines of the list, the call, the
+//! number of threads or of texts, and the nanoseconds that a call takes each thread.
 mod opaque;
 mod positions;
 
@@ -25,8 +25,6 @@ const COPIES: usize = 65_536;
 /// A list that threads read at once.
 trait SharedTexts: Sync {
     fn read(&self, position: usize) -> Option<&'static str>;
-
-    fn count(&self) -> usize;
 }
 
 impl SharedTexts for Vec<&'static str> {
@@ -34,23 +32,12 @@ impl SharedTexts for Vec<&'static str> {
     fn read(&self, position: usize) -> Option<&'static str> {
         self.get(position).copied()
     }
-
-    // The list is hidden, so that its length is asked for in each call.
-    #[inline(always)]
-    fn count(&self) -> usize {
-        black_box(self).len()
-    }
 }
 
 impl SharedTexts for RwLock<Vec<&'static str>> {
     #[inline(always)]
     fn read(&self, position: usize) -> Option<&'static str> {
         RwLock::read(self).unwrap().get(position).copied()
-    }
-
-    #[inline(always)]
-    fn count(&self) -> usize {
-        RwLock::read(self).unwrap().len()
     }
 }
 
@@ -62,16 +49,6 @@ fn read_all<T: SharedTexts>(texts: &T, positions: &[u32]) -> usize {
         if let Some(text) = texts.read(*position as usize) {
             sum = sum.wrapping_add(text.len());
         }
-    }
-    sum
-}
-
-// The sum of the lengths of the list, which is asked for so often.
-#[inline(never)]
-fn count_all<T: SharedTexts>(texts: &T, calls: usize) -> usize {
-    let mut sum = 0usize;
-    for _ in 0..calls {
-        sum = sum.wrapping_add(texts.count());
     }
     sum
 }
@@ -89,21 +66,18 @@ fn time(threads: usize, wanted: usize, work: impl Fn() -> usize + Sync) -> f64 {
     start.elapsed().as_secs_f64() * 1e9 / CALLS as f64
 }
 
-// Prints a line for each call, with a column for each number of threads.
-fn measure<T: SharedTexts>(name: &str, call: &str, texts: &T, positions: &[u32]) {
+// Prints a line for each number of threads.
+fn measure<T: SharedTexts>(name: &str, texts: &T, positions: &[u32]) {
     let lengths: usize = positions.iter().map(|position| format!("text {position}").len()).sum();
     let mut read = [f64::INFINITY; 3];
-    let mut count = [f64::INFINITY; 3];
     for _ in 0..ROUNDS {
         for (position, threads) in THREADS.iter().enumerate() {
             let once = time(*threads, lengths, || read_all(black_box(texts), black_box(positions)));
             read[position] = read[position].min(once);
-            let once = time(*threads, TEXTS * CALLS, || count_all(black_box(texts), CALLS));
-            count[position] = count[position].min(once);
         }
     }
-    for (call, times) in [(call, read), ("len", count)] {
-        println!("{name:<26}{call:<10}{:>9.1}{:>9.1}{:>9.1}", times[0], times[1], times[2]);
+    for (threads, time) in THREADS.iter().zip(read) {
+        println!("{name} read {threads} {time:.1}");
     }
 }
 
@@ -132,8 +106,7 @@ fn time_copies(text: &[u8; 16]) -> f64 {
 fn main() {
     let texts: Vec<&'static str> = (0..TEXTS).map(|n| &*Box::leak(format!("text {n}").into_boxed_str())).collect();
     let positions = random_positions(TEXTS as u32, CALLS as u32);
-    measure("RwLock<Vec<&str>>", "index", &RwLock::new(texts.clone()), &positions);
-    measure("Vec<&str>", "index", &texts, &positions);
-    println!("{COPIES} texts of 16 bytes");
-    println!("{:<18}{:<18}{:>9.1}", "AtomicUsize", "add, memcpy", time_copies(b"a text of length"));
+    measure("RwLock<Vec<&str>>", &RwLock::new(texts.clone()), &positions);
+    measure("Vec<&str>", &texts, &positions);
+    println!("AtomicUsize copy {COPIES} {:.1}", time_copies(b"a text of length"));
 }

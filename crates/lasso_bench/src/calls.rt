@@ -67,6 +67,15 @@ impl Calls for Plain {
     }
 }
 
+/// An interner with these texts; `None` if one is refused.
+pub fn filled<R: AllocGlobal + Wait>(rt: &R, texts: &[String]) -> Option<SpurThreadedRodeo> {
+    let Ok(rodeo) = ThreadedRodeo::default(rt.alloc()) else {
+        return None;
+    };
+    WithPass::intern_all(rt, &rodeo, texts)?;
+    Some(rodeo)
+}
+
 /// Interns each line of the reader as it comes, in a new interner, and returns how many texts there are then.
 /// It fails if a read does, and if a text is refused.
 pub fn fill<R: AllocGlobal + Wait, B: BufRead + Drop>(rt: &R, reader: B) -> Result<usize> {

@@ -1,53 +1,50 @@
 //! Texts that collide under the fixed seed, in an interner with the hasher of that seed and in one with a keyed hasher.
-use crate::timing::{ensure_so, sum_of_positions, tenths_a_call};
+use crate::table::Table;
+use crate::timing::{REFUSED, Tenths, elapsed_since, least, started, sum_of_positions, tenths_if};
 use anyhow::Result;
 use lasso::{FixedState, Key, LassoResult, Rodeo, Spur};
 use lasso_examples::keyed::{colliding, keyed_by};
 use std::alloc::Global;
 use std::hash::BuildHasher;
 use std::rt::Clock;
-use std::time::{Duration, Instant};
 
 // How often each interner is filled.
 const ROUNDS: u32 = 4;
 
-/// The least that it took to fill an interner with texts that collide, in tenths of a nanosecond a text.
-#[derive(Clone, Copy, Debug)]
-pub struct CollideTimings {
-    /// With the hasher of fixed seed.
-    pub fixed: u64,
-    /// With a keyed hasher.
-    pub keyed: u64,
-}
-
-/// Fills interners with `count` texts that collide under the fixed seed. It fails where the clock does, where memory runs out, and
-/// where a key is wrong.
-pub fn time_collisions<R: AllocGlobal + Clock>(rt: &R, count: u32) -> Result<CollideTimings> {
+/// Times filling interners with `count` texts that collide under the fixed seed: the least of several rounds, by a text. It fails if
+/// there is no memory for the texts, or no keyed hasher.
+pub fn time_collisions<R: AllocGlobal + Clock + Print>(
+    rt: &R,
+    table: &mut Table,
+    count: u32,
+) -> Result<()> {
     let texts = colliding(rt.alloc(), count)?;
     let hasher = keyed_by(*b"sixteen of bytes")?;
-    let mut fixed = fill(rt, FixedState::new(), &texts)?;
-    let mut keyed = fill(rt, hasher, &texts)?;
-    for _ in 1..ROUNDS {
-        fixed = fixed.min(fill(rt, FixedState::new(), &texts)?);
-        keyed = keyed.min(fill(rt, hasher, &texts)?);
+    let mut fixed = Ok(u64::MAX);
+    let mut keyed = Ok(u64::MAX);
+    for _ in 0..ROUNDS {
+        fixed = least(fixed, time_filling(rt, FixedState::new(), &texts));
+        keyed = least(keyed, time_filling(rt, hasher, &texts));
     }
-    Ok(CollideTimings {
-        fixed: tenths_a_call(fixed, texts.len()),
-        keyed: tenths_a_call(keyed, texts.len()),
-    })
+    table.add(rt, "fixed", texts.len(), fixed);
+    table.add(rt, "keyed", texts.len(), keyed);
+    Ok(())
 }
 
 // Fills a new interner with the texts.
-fn fill<S: BuildHasher + Drop, R: AllocGlobal + Clock>(
+fn time_filling<S: BuildHasher + Drop, R: AllocGlobal + Clock>(
     rt: &R,
     hasher: S,
     texts: &[String],
-) -> Result<Duration> {
-    let start = Instant::now(rt)?;
-    let sum = intern_all(rt.alloc(), hasher, texts)?;
-    let elapsed = start.elapsed(rt)?;
-    ensure_so(sum == sum_of_positions(texts.len()), "a key is wrong")?;
-    Ok(elapsed)
+) -> Tenths {
+    let start = started(rt);
+    let sum = intern_all(rt.alloc(), hasher, texts);
+    let elapsed = elapsed_since(rt, start);
+    let Ok(sum) = sum else {
+        return Err(REFUSED);
+    };
+    let are_keys = sum == sum_of_positions(texts.len());
+    tenths_if(are_keys, "a key is wrong", elapsed, texts.len())
 }
 
 // Interns the texts in a new interner, and gives the sum of their positions.

@@ -3,52 +3,37 @@ ghost use Rattle.std.specs.Prelude.{◌≡◌, IfOk};
 ghost use Rattle.lasso_log.specs.SharedBuckets.{SharedView};
 ghost use Rattle.lasso_log.specs.Views.{InternerId};
 
-use crate::timing::{ROUNDS, ensure_so, tenths_a_call};
+use crate::table::Table;
+use crate::timing::{ROUNDS, Tenths, elapsed_since, least, started, tenths_if, tenths_of};
 use anyhow::Result;
 use lasso_log::log::bucket::SharedBucket;
 use lasso_log::log::{Log, NewLog, OpeningTexts};
 use lasso_parts::keys::Spur;
 use std::rt::Clock;
 use std::sync::Wait;
-use std::time::Instant;
 
-/// How many texts are copied in a round, and how many passes are made.
-pub const COPIES: u32 = 65_536;
+// How many texts are copied in a round, and how many passes are made.
+const COPIES: u32 = 65_536;
 
 // The text that is copied, of 16 bytes.
 const TEXT: &str = "a text of length";
 
-/// How long a call takes, in tenths of a nanosecond.
-#[derive(Clone, Copy, Debug)]
-pub struct CopyTimings {
-    /// To take 16 bytes of a bucket, and to fill them.
-    pub copy: u64,
-    /// To make a pass.
-    pub pass: u64,
-}
-
-/// The least that each call took in several rounds, each with a new bucket. It fails if the clock does, when
-/// out of memory, and if a text was not copied.
-pub fn best_copy_timings<R: AllocGlobal + Clock + Wait>(rt: &R) -> Result<CopyTimings> {
-    let mut best = CopyTimings {
-        copy: u64::MAX,
-        pass: u64::MAX,
-    };
+/// Times taking 16 bytes of a bucket and filling them, and making a pass: the least of several rounds, each with a new bucket. It
+/// fails if there is no memory for a bucket.
+pub fn time_copying<R: AllocGlobal + Clock + Print + Wait>(
+    rt: &R,
+    table: &mut Table,
+) -> Result<()> {
+    let mut copy = Ok(u64::MAX);
+    let mut pass = Ok(u64::MAX);
     for _ in 0..ROUNDS {
-        let timings = round(rt)?;
-        best.copy = best.copy.min(timings.copy);
-        best.pass = best.pass.min(timings.pass);
+        let (log, bucket) = one_bucket(rt)?;
+        copy = least(copy, time_copies(rt, &log, &bucket));
+        pass = least(pass, time_passes(rt, &log));
     }
-    Ok(best)
-}
-
-// What each call took in one round.
-fn round<R: AllocGlobal + Clock + Wait>(rt: &R) -> Result<CopyTimings> {
-    let (log, bucket) = one_bucket(rt)?;
-    Ok(CopyTimings {
-        copy: time_copies(rt, &log, &bucket)?,
-        pass: time_passes(rt, &log)?,
-    })
+    table.add(rt, "copy", COPIES as usize, copy);
+    table.add(rt, "pass", COPIES as usize, pass);
+    Ok(())
 }
 
 // A log with a bucket that has room for all copies.
@@ -65,26 +50,31 @@ fn one_bucket<R: AllocGlobal>(rt: &R) -> Result<(Log<Spur>, SharedBucket<Spur>)>
 }
 
 // Copies texts into the bucket.
-fn time_copies<R: Clock + Wait>(rt: &R, log: &Log<Spur>, bucket: &SharedBucket<Spur>) -> Result<u64>
+fn time_copies<R: Clock + Wait>(rt: &R, log: &Log<Spur>, bucket: &SharedBucket<Spur>) -> Tenths
     requires { bucket.now.of ≡ log.now }
 {
-    let start = Instant::now(rt)?;
+    let start = started(rt);
     let copied = copy_texts(rt, log, bucket);
-    let elapsed = start.elapsed(rt)?;
-    ensure_so(copied == COPIES, "a text was not copied")?;
-    Ok(tenths_a_call(elapsed, COPIES as usize))
+    let elapsed = elapsed_since(rt, start);
+    tenths_if(
+        copied == COPIES,
+        "a text was not copied",
+        elapsed,
+        COPIES as usize,
+    )
 }
 
 // Makes passes.
-fn time_passes<R: Clock>(rt: &R, log: &Log<Spur>) -> Result<u64> {
-    let start = Instant::now(rt)?;
+fn time_passes<R: Clock>(rt: &R, log: &Log<Spur>) -> Tenths {
+    let start = started(rt);
     make_passes(log);
-    Ok(tenths_a_call(start.elapsed(rt)?, COPIES as usize))
+    let elapsed = elapsed_since(rt, start);
+    tenths_of(elapsed, COPIES as usize)
 }
 
-/// Copies the text while the bucket has room for it, at most `COPIES` times, and returns the number of
-/// copies.
-pub fn copy_texts<R: Wait>(rt: &R, log: &Log<Spur>, bucket: &SharedBucket<Spur>) -> u32
+// Copies the text while the bucket has room for it, at most `COPIES` times, and returns the number of
+// copies.
+fn copy_texts<R: Wait>(rt: &R, log: &Log<Spur>, bucket: &SharedBucket<Spur>) -> u32
     requires { bucket.now.of ≡ log.now }
 {
     let mut pass = log.pass();

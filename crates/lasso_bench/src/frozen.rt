@@ -1,19 +1,15 @@
-//! Frozen interners: how long it takes to freeze one, and to read a key's text from it.
-ghost use Rattle.std.specs.Prelude.{◌≡◌, ◌<◌, ◌↔◌, ℕ, All, IfOk, IsTrue, List, Some, length, slice_get};
+//! Frozen interners: how long it takes to read a key's text from one.
+ghost use Rattle.std.specs.Prelude.{◌≡◌, ◌<◌, ◌↔◌, ℕ, All, IfOk, IfSome, IsTrue, List, Some, length, slice_get};
 
-use crate::pools::{RodeoPool, TextPool};
 use crate::positions::random_positions;
-use crate::texts::numbered_text;
-use crate::timing::{ROUNDS, ensure_so, intern_all, last_byte, tenths_a_call};
-use anyhow::Result;
-use lasso::{FixedState, Key, RodeoReader, RodeoResolver, Spur};
+use crate::single::filled;
+use crate::table::Table;
+use crate::timing::{
+    NO_MEMORY, REFUSED, ROUNDS, Tenths, elapsed_since, if_so, last_byte, least, started, tenths_if,
+};
+use lasso::{Key, Spur, SpurRodeoReader, SpurRodeoResolver};
 use std::alloc::{AllocError, Global};
 use std::rt::Clock;
-use std::time::{Duration, Instant};
-
-type Reader = RodeoReader<Spur, FixedState, Global>;
-
-type Resolver = RodeoResolver<Spur, Global>;
 
 /// Texts that no longer change, read by keys that each stand for one of them.
 pub trait FrozenTexts: Drop {
@@ -30,7 +26,7 @@ pub trait FrozenTexts: Drop {
         ensures { slice_get (texts self.now) (⟦<Spur as Key>⟧.number key) ≡ Some result.now };
 }
 
-impl FrozenTexts for Reader {
+impl FrozenTexts for SpurRodeoReader {
     ghost texts = { λ reader. reader };
 
     fn contains_key(&self, key: Spur) -> bool {
@@ -42,7 +38,7 @@ impl FrozenTexts for Reader {
     }
 }
 
-impl FrozenTexts for Resolver {
+impl FrozenTexts for SpurRodeoResolver {
     ghost texts = { λ resolver. resolver };
 
     fn contains_key(&self, key: Spur) -> bool {
@@ -54,128 +50,69 @@ impl FrozenTexts for Resolver {
     }
 }
 
-/// Texts to freeze, and positions to read them at.
-#[derive(Drop)]
-pub struct FrozenSample {
-    /// Distinct texts, in the order in which they are interned.
-    texts: Vec<String>,
-    /// Random positions of them, which may repeat.
-    positions: Vec<u32>,
-    /// The sum of the last bytes of the texts there.
-    last_bytes: usize,
-}
-
-impl FrozenSample {
-    /// `count` texts, and `count` positions. The only error is out of memory.
-    pub fn new(alloc: Global, count: u32) -> Result<Self, AllocError>
-        requires { 0 < count }
-    {
-        let mut texts = Vec::new(alloc);
-        for number in 0..count {
-            texts.push(numbered_text(alloc, u64::from(number))?)?;
-        }
-        let positions = random_positions(alloc, count, count)?;
-        let mut last_bytes = 0usize;
-        for position in &positions {
-            if let Some(text) = texts.get(*position as usize) {
-                last_bytes = last_bytes.wrapping_add(last_byte(text.as_str()));
-            }
-        }
-        Ok(FrozenSample {
-            texts,
-            positions,
-            last_bytes,
-        })
-    }
-}
-
-/// How long a call takes, in tenths of a nanosecond.
-#[derive(Clone, Copy, Debug)]
-pub struct FrozenTimings {
-    /// To freeze an interner to a reader.
-    pub into_reader: u64,
-    /// To read a key's text from a reader.
-    pub reader_resolve: u64,
-    /// To freeze a reader to a resolver.
-    pub into_resolver: u64,
-    /// To read a key's text from a resolver.
-    pub resolver_resolve: u64,
-}
-
-impl FrozenTimings {
-    // The less of both, for each operation.
-    fn least(self, other: FrozenTimings) -> FrozenTimings {
-        FrozenTimings {
-            into_reader: self.into_reader.min(other.into_reader),
-            reader_resolve: self.reader_resolve.min(other.reader_resolve),
-            into_resolver: self.into_resolver.min(other.into_resolver),
-            resolver_resolve: self.resolver_resolve.min(other.resolver_resolve),
-        }
-    }
-}
-
-/// The least that each operation took in several rounds. It fails if the clock does, when out of memory, and
-/// if a text was wrong.
-pub fn best_frozen_timings<R: AllocGlobal + Clock>(
+/// Times reading keys' texts from an interner of these `count` texts, frozen to a reader and then to a resolver. Out of memory is
+/// a fault.
+pub fn time_frozen<R: AllocGlobal + Clock + Print>(
     rt: &R,
-    sample: &FrozenSample,
-) -> Result<FrozenTimings> {
-    let mut best = frozen_round(rt, sample)?;
-    for _ in 1..ROUNDS {
-        best = best.least(frozen_round(rt, sample)?);
-    }
-    Ok(best)
+    table: &mut Table,
+    texts: &[String],
+    count: u32,
+)
+    requires { 0 < count }
+{
+    let Ok(positions) = random_positions(rt.alloc(), count, count) else {
+        return table.fail(NO_MEMORY);
+    };
+    let Some(rodeo) = filled(rt.alloc(), texts) else {
+        return table.fail(REFUSED);
+    };
+    let [reader, resolver] = round(rt, rodeo.into_reader(), texts, &positions);
+    table.add(rt, "reader", positions.len(), reader);
+    table.add(rt, "resolver", positions.len(), resolver);
 }
 
-/// Times each freezing once, and resolving in several passes; the least time counts. It fails as
-/// `best_frozen_timings` does.
-pub fn frozen_round<R: AllocGlobal + Clock>(
+// What a call took of a reader of these texts, and of the resolver that it is frozen to.
+fn round<R: AllocGlobal + Clock>(
     rt: &R,
-    sample: &FrozenSample,
-) -> Result<FrozenTimings> {
-    let mut pool = RodeoPool::new(rt.alloc())?;
-    intern_all(&mut pool, &sample.texts)?;
-    let (reader, into_reader) = timed_reader(rt, pool)?;
-    let reader_resolve = best_resolve(rt, &reader, sample)?;
-    let (resolver, into_resolver) = timed_resolver(rt, reader)?;
-    let resolver_resolve = best_resolve(rt, &resolver, sample)?;
-    Ok(FrozenTimings {
-        into_reader: tenths_a_call(into_reader, 1),
-        reader_resolve,
-        into_resolver: tenths_a_call(into_resolver, 1),
-        resolver_resolve,
-    })
-}
-
-// Freezes the interner of the pool to a reader, and tells how long that took.
-fn timed_reader<R: Clock>(rt: &R, pool: RodeoPool) -> Result<(Reader, Duration)> {
-    let start = Instant::now(rt)?;
-    let reader = pool.into_rodeo().into_reader();
-    let elapsed = start.elapsed(rt)?;
-    Ok((reader, elapsed))
-}
-
-// Freezes the reader to a resolver, and tells how long that took.
-fn timed_resolver<R: Clock>(rt: &R, reader: Reader) -> Result<(Resolver, Duration)> {
-    let start = Instant::now(rt)?;
+    reader: SpurRodeoReader,
+    texts: &[String],
+    positions: &[u32],
+) -> [Tenths; 2] {
+    let last_bytes = sum_of_last_bytes_at(texts, positions);
+    let by_reader = best_resolve(rt, &reader, positions, last_bytes);
     let resolver = reader.into_resolver();
-    let elapsed = start.elapsed(rt)?;
-    Ok((resolver, elapsed))
+    [
+        by_reader,
+        best_resolve(rt, &resolver, positions, last_bytes),
+    ]
 }
 
-// The least that a call took in several passes over the sample's positions.
+// The sum of the last bytes of the texts at these positions.
+fn sum_of_last_bytes_at(texts: &[String], positions: &[u32]) -> usize {
+    let mut sum = 0usize;
+    for position in positions {
+        if let Some(text) = texts.get(*position as usize) {
+            sum = sum.wrapping_add(last_byte(text.as_str()));
+        }
+    }
+    sum
+}
+
+// The least that a call took in several passes over the positions, whose texts have this sum of their last bytes.
 fn best_resolve<T: FrozenTexts, R: AllocGlobal + Clock>(
     rt: &R,
     texts: &T,
-    sample: &FrozenSample,
-) -> Result<u64> {
-    let keys = keys_at(rt.alloc(), texts, &sample.positions)?;
-    ensure_so(keys.len() == sample.positions.len(), "a key is missing")?;
-    let mut best = u64::MAX;
+    positions: &[u32],
+    last_bytes: usize,
+) -> Tenths {
+    let Ok(keys) = keys_at(rt.alloc(), texts, positions) else {
+        return Err(NO_MEMORY);
+    };
+    let mut best = Ok(u64::MAX);
     for _ in 0..ROUNDS {
-        best = best.min(time_resolve(rt, texts, &keys, sample.last_bytes)?);
+        best = least(best, time_resolve(rt, texts, &keys, last_bytes));
     }
-    Ok(best)
+    if_so(keys.len() == positions.len(), "a key is missing", best)
 }
 
 // What a call took in one pass over the keys, whose texts have this sum of their last bytes.
@@ -184,14 +121,13 @@ fn time_resolve<T: FrozenTexts, R: Clock>(
     texts: &T,
     keys: &[Spur],
     last_bytes: usize,
-) -> Result<u64>
+) -> Tenths
     requires { All (λ key. ⟦<Spur as Key>⟧.number key < length (T.texts texts.now)) keys.now }
 {
-    let start = Instant::now(rt)?;
+    let start = started(rt);
     let sum = resolve_all(texts, keys);
-    let elapsed = start.elapsed(rt)?;
-    ensure_so(sum == last_bytes, "a text is wrong")?;
-    Ok(tenths_a_call(elapsed, keys.len()))
+    let elapsed = elapsed_since(rt, start);
+    tenths_if(sum == last_bytes, "a text is wrong", elapsed, keys.len())
 }
 
 /// The keys of the texts at these positions; a position with no text has none.
@@ -204,13 +140,22 @@ pub fn keys_at<T: FrozenTexts>(
 {
     let mut keys = Vec::new(alloc);
     for position in positions {
-        if let Some(key) = Spur::try_from_usize(*position as usize)
-            && texts.contains_key(key)
-        {
+        if let Some(key) = key_at(texts, *position) {
             keys.push(key)?;
         }
     }
     Ok(keys)
+}
+
+// The key of the text at this position, if there is one.
+fn key_at<T: FrozenTexts>(texts: &T, position: u32) -> Option<Spur>
+    ensures { IfSome result (λ key. ⟦<Spur as Key>⟧.number key < length (T.texts texts.now)) }
+{
+    let key = Spur::try_from_usize(position as usize)?;
+    if texts.contains_key(key) {
+        return Some(key);
+    }
+    None
 }
 
 /// Resolves the keys, which all stand for texts, and returns the sum of their texts' last bytes.

@@ -1,80 +1,71 @@
 //! An interner that threads share: how long a call takes each of them.
-use crate::calls::{Calls, WithPass};
+use crate::calls::{Calls, Plain, WithPass, filled};
 use crate::lines::Lines;
+use crate::table::Table;
 use crate::threads::THREADS;
-use crate::timing::{ensure_so, sum_of_positions, tenths_a_call};
-use anyhow::{Result, bail};
+use crate::timing::{
+    NO_MEMORY, REFUSED, Tenths, elapsed_since, if_so, started, sum_of_positions, tenths_if_all,
+    tenths_of,
+};
 use lasso::{Spur, SpurThreadedRodeo, ThreadedRodeo};
 use std::alloc::AllocError;
 use std::rt::Clock;
 use std::sync::Wait;
 use std::thread::{Threads, map_chunks, map_indices};
-use std::time::Instant;
 
-/// How long a call of a filled interner takes each thread with each number of threads, in tenths of a nanosecond.
-#[derive(Clone, Copy, Debug)]
-pub struct FilledTimings {
-    /// To intern a present text: each thread interns all lines.
-    pub present: [u64; 3],
-    /// To resolve a key: each thread resolves the keys of all lines.
-    pub resolve: [u64; 3],
-}
-
-/// How long a call of an interner that was empty at first takes each thread with each number of threads, in tenths of a
-/// nanosecond.
-#[derive(Clone, Copy, Debug)]
-pub struct FillingTimings {
-    /// To intern a text that is not there: the threads share out the distinct lines.
-    pub new: [u64; 3],
-    /// To intern a line: the threads share out the lines.
-    pub intern: [u64; 3],
-}
-
-/// What each call of an interner that has all lines took in one round. It fails if the clock does, when out
-/// of memory, and if an answer was wrong.
-pub fn time_filled<C: Calls, R: AllocGlobal + Clock + Threads + Wait + Sync>(
+/// Times one round of each call with each number of threads over the lines.
+pub fn time_interners<R: AllocGlobal + Clock + Print + Threads + Wait + Sync>(
     rt: &R,
+    table: &mut Table,
     lines: &Lines,
-) -> Result<FilledTimings> {
-    let rodeo = ThreadedRodeo::default(rt.alloc())?;
-    let filled = WithPass::intern_all(rt, &rodeo, &lines.distinct);
-    ensure_so(filled.is_some(), "a text was refused")?;
-    let keys = keys_of(rt, &rodeo, &lines.again)?;
-    time_calls::<C, R>(rt, &rodeo, &keys, lines)
+) {
+    for threads in THREADS {
+        table.add(rt, "new", threads, time_new(rt, lines, threads));
+        table.add(rt, "intern", threads, time_intern(rt, lines, threads));
+    }
+    time_filled::<WithPass, R>(rt, table, ["present", "resolve"], lines);
+    time_filled::<Plain, R>(rt, table, ["plain_present", "plain_resolve"], lines);
 }
 
-// What each call of a filled interner took with each number of threads.
-fn time_calls<C: Calls, R: AllocGlobal + Clock + Threads + Wait + Sync>(
+// Times the calls of an interner that has all lines: to intern present texts, and to resolve keys.
+fn time_filled<C: Calls, R: AllocGlobal + Clock + Print + Threads + Wait + Sync>(
     rt: &R,
+    table: &mut Table,
+    names: [&str; 2],
+    lines: &Lines,
+) {
+    let Some(rodeo) = filled(rt, &lines.distinct) else {
+        return table.fail(REFUSED);
+    };
+    time_calls::<C, R>(rt, table, names, &rodeo, lines);
+}
+
+// Times the calls of a filled interner with each number of threads.
+fn time_calls<C: Calls, R: AllocGlobal + Clock + Print + Threads + Wait + Sync>(
+    rt: &R,
+    table: &mut Table,
+    names: [&str; 2],
     rodeo: &SpurThreadedRodeo,
-    keys: &[Spur],
     lines: &Lines,
-) -> Result<FilledTimings> {
-    let mut timings = FilledTimings {
-        present: [u64::MAX; 3],
-        resolve: [u64::MAX; 3],
+) {
+    let Ok(keys) = keys_of(rt, rodeo, &lines.again) else {
+        return table.fail(NO_MEMORY);
     };
-    for at in 0..3usize {
-        timings.present[at] = time_present::<C, R>(rt, rodeo, lines, THREADS[at])?;
-        timings.resolve[at] = time_resolve::<C, R>(rt, rodeo, keys, lines, THREADS[at])?;
+    let [present, resolve] = names;
+    for threads in THREADS {
+        table.add(
+            rt,
+            present,
+            threads,
+            time_present::<C, R>(rt, rodeo, lines, threads),
+        );
+        table.add(
+            rt,
+            resolve,
+            threads,
+            time_resolve::<C, R>(rt, rodeo, &keys, lines, threads),
+        );
     }
-    Ok(timings)
-}
-
-/// What each call that fills an interner took in one round, with a pass for each thread. It fails as `time_filled` does.
-pub fn time_filling<R: AllocGlobal + Clock + Threads + Wait + Sync>(
-    rt: &R,
-    lines: &Lines,
-) -> Result<FillingTimings> {
-    let mut timings = FillingTimings {
-        new: [u64::MAX; 3],
-        intern: [u64::MAX; 3],
-    };
-    for at in 0..3usize {
-        timings.new[at] = time_new(rt, lines, THREADS[at])?;
-        timings.intern[at] = time_intern(rt, lines, THREADS[at])?;
-    }
-    Ok(timings)
 }
 
 // The keys of the present texts.
@@ -98,18 +89,17 @@ fn time_present<C: Calls, R: AllocGlobal + Clock + Threads + Wait + Sync>(
     rodeo: &SpurThreadedRodeo,
     lines: &Lines,
     threads: usize,
-) -> Result<u64> {
-    let start = Instant::now(rt)?;
+) -> Tenths {
+    let start = started(rt);
     let sums = map_indices(
         rt,
         rt.alloc(),
         threads,
         &|_| C::intern_all(rt, rodeo, &lines.again),
-    )?;
-    let elapsed = start.elapsed(rt)?;
-    let are_keys = sums.iter().all(|sum| *sum == Some(lines.positions));
-    ensure_so(are_keys, "a key is wrong")?;
-    Ok(tenths_a_call(elapsed, lines.again.len()))
+    );
+    let elapsed = elapsed_since(rt, start);
+    let wanted = Some(lines.positions);
+    tenths_if_all(sums, &wanted, "a key is wrong", elapsed, lines.again.len())
 }
 
 // Has `threads` threads resolve all keys of the lines at once.
@@ -119,13 +109,11 @@ fn time_resolve<C: Calls, R: AllocGlobal + Clock + Threads + Sync>(
     keys: &[Spur],
     lines: &Lines,
     threads: usize,
-) -> Result<u64> {
-    let start = Instant::now(rt)?;
-    let sums = map_indices(rt, rt.alloc(), threads, &|_| C::resolve_all(rodeo, keys))?;
-    let elapsed = start.elapsed(rt)?;
-    let are_texts = sums.iter().all(|sum| *sum == lines.lengths);
-    ensure_so(are_texts, "a text is wrong")?;
-    Ok(tenths_a_call(elapsed, keys.len()))
+) -> Tenths {
+    let start = started(rt);
+    let sums = map_indices(rt, rt.alloc(), threads, &|_| C::resolve_all(rodeo, keys));
+    let elapsed = elapsed_since(rt, start);
+    tenths_if_all(sums, &lines.lengths, "a text is wrong", elapsed, keys.len())
 }
 
 // Has `threads` threads intern the distinct lines, each a part of them, in a new interner.
@@ -133,12 +121,13 @@ fn time_new<R: AllocGlobal + Clock + Threads + Wait + Sync>(
     rt: &R,
     lines: &Lines,
     threads: usize,
-) -> Result<u64> {
-    let rodeo = ThreadedRodeo::default(rt.alloc())?;
-    let (sum, tenths) = time_parts(rt, &rodeo, &lines.distinct, threads)?;
-    let are_keys = sum == sum_of_positions(lines.distinct.len());
-    ensure_so(are_keys, "a key is wrong")?;
-    Ok(tenths)
+) -> Tenths {
+    let Ok(rodeo) = ThreadedRodeo::default(rt.alloc()) else {
+        return Err(NO_MEMORY);
+    };
+    let (sum, tenths) = time_parts(rt, &rodeo, &lines.distinct, threads);
+    let are_keys = sum == Some(sum_of_positions(lines.distinct.len()));
+    if_so(are_keys, "a text was refused, or a key is wrong", tenths)
 }
 
 // Has `threads` threads intern the lines, each a part of them, in a new interner.
@@ -146,42 +135,44 @@ fn time_intern<R: AllocGlobal + Clock + Threads + Wait + Sync>(
     rt: &R,
     lines: &Lines,
     threads: usize,
-) -> Result<u64> {
-    let rodeo = ThreadedRodeo::default(rt.alloc())?;
-    let (_, tenths) = time_parts(rt, &rodeo, &lines.texts, threads)?;
-    ensure_so(rodeo.len() == lines.distinct.len(), "a text is wrong")?;
-    Ok(tenths)
+) -> Tenths {
+    let Ok(rodeo) = ThreadedRodeo::default(rt.alloc()) else {
+        return Err(NO_MEMORY);
+    };
+    let (sum, tenths) = time_parts(rt, &rodeo, &lines.texts, threads);
+    let are_texts = sum.is_some() && rodeo.len() == lines.distinct.len();
+    if_so(are_texts, "a text was refused, or is wrong", tenths)
 }
 
-// Has `threads` threads intern the texts, each a part of them. Returns the sum of their positions, and what a
-// call takes each thread.
+// Has `threads` threads intern the texts, each a part of them. Returns the sum of their positions, or `None` if one is refused, and
+// what a call takes each thread.
 fn time_parts<R: AllocGlobal + Clock + Threads + Wait + Sync>(
     rt: &R,
     rodeo: &SpurThreadedRodeo,
     texts: &[String],
     threads: usize,
-) -> Result<(usize, u64)> {
+) -> (Option<usize>, Tenths) {
     let size = texts.len().div_ceil(threads.max(1)).max(1);
-    let start = Instant::now(rt)?;
+    let start = started(rt);
     let sums = map_chunks(
         rt,
         rt.alloc(),
         texts,
         size,
         &|_, part| WithPass::intern_all(rt, rodeo, part),
-    )?;
-    let elapsed = start.elapsed(rt)?;
-    Ok((sum_of_parts(&sums)?, tenths_a_call(elapsed, size)))
+    );
+    let elapsed = elapsed_since(rt, start);
+    let Ok(sums) = sums else {
+        return (None, Err(NO_MEMORY));
+    };
+    (sum_of_parts(&sums), tenths_of(elapsed, size))
 }
 
-// The sum of the parts' sums. It fails if one was refused.
-fn sum_of_parts(parts: &[Option<usize>]) -> Result<usize> {
+// The sum of the parts' sums; `None` if one was refused.
+fn sum_of_parts(parts: &[Option<usize>]) -> Option<usize> {
     let mut sum = 0usize;
     for part in parts {
-        let Some(part) = *part else {
-            bail!("a text was refused");
-        };
-        sum = sum.wrapping_add(part);
+        sum = sum.wrapping_add((*part)?);
     }
-    Ok(sum)
+    Some(sum)
 }

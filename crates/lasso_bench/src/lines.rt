@@ -1,9 +1,12 @@
 //! The lines of an input, and what interning them has to answer.
-use crate::pools::{KeyedTexts, MapPool, TextPool};
 use crate::texts::jumped;
 use anyhow::{Result, bail, ensure};
 use std::alloc::{AllocError, Global};
+use std::collections::HashMap;
 use std::io::BufRead;
+
+// The position of each text among the distinct ones.
+type Positions = HashMap<String, usize>;
 
 /// The lines of an input, at least one.
 #[derive(Drop)]
@@ -32,7 +35,7 @@ impl Lines {
     // The `count` lines.
     fn of(alloc: Global, texts: Vec<String>, count: u32) -> Result<Lines, AllocError> {
         let again = in_other_order(alloc, &texts, count)?;
-        let mut positions = MapPool::new(alloc)?;
+        let mut positions = HashMap::new(alloc);
         let distinct = distinct_texts(alloc, &mut positions, &texts)?;
         Ok(Lines {
             positions: sum_of_found(&positions, &texts),
@@ -73,28 +76,28 @@ fn in_other_order(alloc: Global, texts: &[String], count: u32) -> Result<Vec<Str
     Ok(again)
 }
 
-// Copies of the texts, each once, in the order in which they first come; they are put into the pool too.
+// Copies of the texts, each once, in the order in which they first come; their positions are put into the map.
 fn distinct_texts(
     alloc: Global,
-    pool: &mut MapPool,
+    positions: &mut Positions,
     texts: &[String],
 ) -> Result<Vec<String>, AllocError> {
     let mut distinct = Vec::new(alloc);
     for text in texts {
-        if pool.get(text.as_str()).is_none() {
-            pool.intern(text.as_str())?;
+        if positions.get(text.as_str()).is_none() {
+            positions.insert(text.clone()?, distinct.len())?;
             distinct.push(text.clone()?)?;
         }
     }
     Ok(distinct)
 }
 
-// The sum of the positions that the texts have in the pool.
-fn sum_of_found(pool: &MapPool, texts: &[String]) -> usize {
+// The sum of the positions that the texts have.
+fn sum_of_found(positions: &Positions, texts: &[String]) -> usize {
     let mut sum = 0usize;
     for text in texts {
-        if let Some(key) = pool.get(text.as_str()) {
-            sum = sum.wrapping_add(MapPool::position(key));
+        if let Some(position) = positions.get(text.as_str()) {
+            sum = sum.wrapping_add(*position);
         }
     }
     sum

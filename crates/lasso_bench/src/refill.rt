@@ -1,84 +1,78 @@
-//! An interner that is cleared and filled with the same texts round after round, beside a new one for each round.
-use crate::pools::{RodeoPool, TextPool};
-use crate::timing::{ensure_so, intern_all, sum_of_positions, tenths_a_call};
-use anyhow::Result;
+//! An interner that is cleared and filled with the same texts round after round, compared with a new one for each round.
+use crate::single::intern_all;
+use crate::table::Table;
+use crate::timing::{
+    NO_MEMORY, Tenths, elapsed_since, if_so, least, started, sum_of_positions, tenths_if,
+};
+use lasso::SpurRodeo;
+use std::alloc::Global;
 use std::rt::Clock;
-use std::time::{Duration, Instant};
 
-/// What rounds of the same texts took.
-#[derive(Clone, Copy, Debug)]
-pub struct RefillTimings {
-    /// The bytes that the buckets of the kept interner take after the first round, the second and the last.
-    pub usages: [usize; 3],
-    /// The least that a round took which clears the kept interner and fills it, in tenths of a nanosecond a text.
-    pub refilled: u64,
-    /// The same of a round which makes an interner, fills it and lets it go.
-    pub anew: u64,
-}
-
-/// Fills an interner with the texts `rounds` times, at least twice, with a clear before each time, and a new
-/// interner as many times. It fails if the clock does, when out of memory, if a key is wrong, and if the kept
-/// interner takes other memory after a later round than after the second.
-pub fn best_refill_timings<R: AllocGlobal + Clock>(
+/// Times filling an interner with the texts `rounds` times, with a clear before each time, and a new interner as many times: the
+/// least of them, by a text. Returns the bytes that the buckets of the kept one take after the last but one round and after the last. It is
+/// a fault if these differ, and out of memory is one.
+pub fn time_refilling<R: AllocGlobal + Clock + Print>(
     rt: &R,
+    table: &mut Table,
     texts: &[String],
     rounds: u32,
-) -> Result<RefillTimings> {
-    let mut kept = RodeoPool::new(rt.alloc())?;
-    let first = both_rounds(rt, &mut kept, texts)?;
-    let first_usage = kept.usage();
-    let second = both_rounds(rt, &mut kept, texts)?;
-    let second_usage = kept.usage();
-    let mut best = least(first, second);
-    for _ in 2..rounds {
-        best = least(best, both_rounds(rt, &mut kept, texts)?);
-        ensure_so(kept.usage() == second_usage, "a round took more memory")?;
+) -> [usize; 2] {
+    let Ok(mut kept) = SpurRodeo::new(rt.alloc()) else {
+        table.fail(NO_MEMORY);
+        return [0; 2];
+    };
+    let mut usages = [0; 2];
+    let mut refilled = Ok(u64::MAX);
+    let mut anew = Ok(u64::MAX);
+    for _ in 0..rounds {
+        refilled = least(refilled, time_refill(rt, &mut kept, texts));
+        anew = least(anew, time_anew(rt, texts));
+        usages = [usages[1], kept.current_memory_usage()];
     }
-    let (refilled, anew) = best;
-    Ok(RefillTimings {
-        usages: [first_usage, second_usage, kept.usage()],
-        refilled: tenths_a_call(refilled, texts.len()),
-        anew: tenths_a_call(anew, texts.len()),
-    })
-}
-
-// The less of both, for the round of a kept interner and that of a new one.
-fn least(one: (Duration, Duration), other: (Duration, Duration)) -> (Duration, Duration) {
-    (one.0.min(other.0), one.1.min(other.1))
-}
-
-// A round of the kept interner, and then one of a new one.
-fn both_rounds<R: AllocGlobal + Clock>(
-    rt: &R,
-    kept: &mut RodeoPool,
-    texts: &[String],
-) -> Result<(Duration, Duration)> {
-    let refilled = refill(rt, kept, texts)?;
-    let anew = fill_anew(rt, texts)?;
-    Ok((refilled, anew))
+    let is_kept = usages[0] == usages[1];
+    table.add(
+        rt,
+        "refilled",
+        texts.len(),
+        if_so(is_kept, "a round took more memory", refilled),
+    );
+    table.add(rt, "anew", texts.len(), anew);
+    usages
 }
 
 // Clears the interner and fills it.
-fn refill<R: Clock>(rt: &R, kept: &mut RodeoPool, texts: &[String]) -> Result<Duration> {
-    let start = Instant::now(rt)?;
+fn time_refill<R: Clock>(rt: &R, kept: &mut SpurRodeo, texts: &[String]) -> Tenths {
+    let start = started(rt);
     kept.clear();
-    let sum = intern_all(kept, texts)?;
-    let elapsed = start.elapsed(rt)?;
-    ensure_so(sum == sum_of_positions(texts.len()), "a key is wrong")?;
-    Ok(elapsed)
+    let sum = intern_all(kept, texts);
+    let elapsed = elapsed_since(rt, start);
+    let are_keys = sum == Some(sum_of_positions(texts.len()));
+    tenths_if(
+        are_keys,
+        "a text was refused, or a key is wrong",
+        elapsed,
+        texts.len(),
+    )
 }
 
 // Makes an interner, fills it and lets it go.
-fn fill_anew<R: AllocGlobal + Clock>(rt: &R, texts: &[String]) -> Result<Duration> {
-    let start = Instant::now(rt)?;
-    let sum = intern_all_anew(rt, texts)?;
-    let elapsed = start.elapsed(rt)?;
-    ensure_so(sum == sum_of_positions(texts.len()), "a key is wrong")?;
-    Ok(elapsed)
+fn time_anew<R: AllocGlobal + Clock>(rt: &R, texts: &[String]) -> Tenths {
+    let start = started(rt);
+    let sum = intern_all_anew(rt.alloc(), texts);
+    let elapsed = elapsed_since(rt, start);
+    let are_keys = sum == Some(sum_of_positions(texts.len()));
+    tenths_if(
+        are_keys,
+        "a text was refused, or a key is wrong",
+        elapsed,
+        texts.len(),
+    )
 }
 
-// Interns the texts in an interner of its own, and answers the sum of their positions.
-fn intern_all_anew<R: AllocGlobal>(rt: &R, texts: &[String]) -> Result<usize> {
-    let mut pool = RodeoPool::new(rt.alloc())?;
-    Ok(intern_all(&mut pool, texts)?)
+// Interns the texts in an interner of its own, and returns the sum of their positions; `None` if one is refused.
+fn intern_all_anew(alloc: Global, texts: &[String]) -> Option<usize> {
+    let Ok(mut rodeo) = SpurRodeo::new(alloc) else {
+        return None;
+    };
+    intern_all(&mut rodeo, texts)
 }

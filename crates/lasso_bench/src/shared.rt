@@ -1,59 +1,39 @@
-//! Texts that threads read at once: the log of a shared interner, and a vector of `boxcar`.
+//! Texts that threads read at once: the log of a shared interner.
 ghost use Rattle.std.specs.Prelude.{◌≡◌, [], IfOk, string_bytes};
 ghost use Rattle.lasso_log.specs.Views.{list_of};
 ghost use Rattle.lasso_bench.specs.Names.{named};
 
 use crate::texts::numbered_text;
-use anyhow::{Result, bail, ensure};
+use anyhow::{Result, bail};
 use lasso_log::log::{Log, Opened, Spine};
 use lasso_parts::keys::{Key, Spur};
 use std::alloc::{AllocError, Global};
 use std::sync::Wait;
 
-/// Texts that threads read at once by their positions.
-pub trait SharedTexts: Sync {
-    /// Reads the text at each position, and answers the sum of their lengths in bytes.
-    fn read_all(&self, positions: &[u32]) -> usize;
-
-    /// Asks so often how many texts there are, and answers the sum.
-    fn count_all(&self, calls: usize) -> usize;
+/// A log with `count` texts: `text 0`, `text 1` and so on. They are never freed. It fails when out of memory.
+pub fn open_log<R: AllocGlobal + Wait>(rt: &R, count: u32) -> Result<Log<Spur>> {
+    let opened = Opened {
+        size: 4096,
+        limit: u64::MAX,
+    };
+    let (log, spine) = Log::open(rt.alloc(), opened)?;
+    fill(rt, &log, spine, count)?;
+    Ok(log)
 }
 
-/// The same texts in a log, and in a vector that threads push to.
-#[derive(Drop)]
-pub struct Shelf {
-    /// The log of an interner, with `Spur` keys.
-    pub log: Log<Spur>,
-    /// A vector of the kit.
-    pub vector: boxcar::Vec<&'static str>,
-}
-
-impl Shelf {
-    /// `count` texts: `text 0`, `text 1` and so on. They are never freed. It fails when out of memory.
-    pub fn new<R: AllocGlobal + Wait>(rt: &R, count: u32) -> Result<Shelf> {
-        let opened = Opened {
-            size: 4096,
-            limit: u64::MAX,
-        };
-        let (log, spine) = Log::open(rt.alloc(), opened)?;
-        let vector: boxcar::Vec<&'static str> = boxcar::Vec::new(rt.alloc())?;
-        let shelf = Shelf { log, vector };
-        fill(rt, &shelf, spine, count)?;
-        Ok(shelf)
-    }
-}
-
-// Puts `count` texts into both.
-fn fill<R: AllocGlobal + Wait>(rt: &R, shelf: &Shelf, spine: Spine<Spur>, count: u32) -> Result<()>
-    requires { (spine.of ≡ shelf.now.log) × (list_of spine.of spine.notes ≡ []) }
+// Puts `count` texts into the log.
+fn fill<R: AllocGlobal + Wait>(
+    rt: &R,
+    log: &Log<Spur>,
+    spine: Spine<Spur>,
+    count: u32,
+) -> Result<()>
+    requires { (spine.of ≡ log.now) × (list_of spine.of spine.notes ≡ []) }
 {
-    let log = &shelf.log;
-    let vector = &shelf.vector;
     let mut spine = spine;
     let mut pass = log.pass();
     for number in 0..count {
         let text = kept_text(rt.alloc(), number)?;
-        ensure!(vector.push(rt, text).is_ok(), "no memory for a text");
         let Some(_key) = Spur::try_from_usize(spine.len() as usize) else {
             bail!("no key is left");
         };
@@ -84,44 +64,14 @@ fn leaked(text: String) -> Result<&'static str, AllocError>
     }
 }
 
-impl SharedTexts for Log<Spur> {
-    fn read_all(&self, positions: &[u32]) -> usize {
-        let mut pass = self.pass();
-        let mut sum = 0usize;
-        for position in positions {
-            if let Some(text) = self.read(u64::from(*position), &mut pass) {
-                sum = sum.wrapping_add(text.len());
-            }
+/// Reads the text at each position, and returns the sum of their lengths in bytes.
+pub fn read_all(log: &Log<Spur>, positions: &[u32]) -> usize {
+    let mut pass = log.pass();
+    let mut sum = 0usize;
+    for position in positions {
+        if let Some(text) = log.read(u64::from(*position), &mut pass) {
+            sum = sum.wrapping_add(text.len());
         }
-        sum
     }
-
-    fn count_all(&self, calls: usize) -> usize {
-        let mut pass = self.pass();
-        let mut sum = 0usize;
-        for _ in 0..calls {
-            sum = sum.wrapping_add(self.len(&mut pass) as usize);
-        }
-        sum
-    }
-}
-
-impl SharedTexts for boxcar::Vec<&'static str> {
-    fn read_all(&self, positions: &[u32]) -> usize {
-        let mut sum = 0usize;
-        for position in positions {
-            if let Some(text) = self.get(*position as usize) {
-                sum = sum.wrapping_add(text.len());
-            }
-        }
-        sum
-    }
-
-    fn count_all(&self, calls: usize) -> usize {
-        let mut sum = 0usize;
-        for _ in 0..calls {
-            sum = sum.wrapping_add(self.count());
-        }
-        sum
-    }
+    sum
 }

@@ -1,106 +1,72 @@
-//! Everything that is timed, once over a few texts: what the calls answer is printed, so that a stored run
-//! can be compared with it. Each timing fails on its own if an answer is wrong.
-use crate::calls::{Calls, Plain, WithPass, fill};
+//! Everything that is timed, once over a few texts: what some calls answer is printed, so that a stored run can be compared with
+//! it. Each timing has a fault on its own if an answer is wrong.
+use crate::calls::{Calls, Plain, WithPass, fill, filled};
 use crate::collide::time_collisions;
 use crate::columns::time_columns;
-use crate::copying::best_copy_timings;
-use crate::frozen::{FrozenSample, FrozenTexts, best_frozen_timings, keys_at, resolve_all};
-use crate::interners::{time_filled, time_filling};
+use crate::copying::time_copying;
+use crate::frozen::{FrozenTexts, keys_at, resolve_all};
+use crate::interners::time_interners;
 use crate::lines::Lines;
-use crate::pools::{KeyedTexts, MapPool, RodeoPool, SetPool, TextPool};
 use crate::positions::random_positions;
-use crate::refill::best_refill_timings;
-use crate::shared::{SharedTexts, Shelf};
+use crate::refill::time_refilling;
+use crate::shared::{open_log, read_all};
+use crate::single;
+use crate::table::Table;
 use crate::texts::{Sample, jumped};
-use crate::threads::{Walk, best_shared_timings};
-use crate::timing::best_timings;
-use crate::walks::{best_walk_timings, walk_entries, walk_texts};
-use anyhow::{Context, Result};
-use lasso::{SpurThreadedRodeo, ThreadedRodeo};
+use crate::threads::{Walk, time_log};
+use crate::walks::{time_walks, walk_entries, walk_texts};
+use anyhow::{Context, Result, ensure};
+use lasso::SpurThreadedRodeo;
 use std::rt::Clock;
 use std::sync::Wait;
 use std::thread::Threads;
 
-// How many texts there are where more than a few are wanted.
+// How many texts there are if more than a few are wanted.
 const COUNT: u32 = 1000;
 
 const LINES: &str = "b\nab\nb\n\nabc\nab\nb";
 
-/// Runs each of the timings over a few texts, and prints what their calls answer, but no time. It fails where an answer is wrong.
-pub fn print_small<R: AllocGlobal + Clock + Print + Threads + Wait + Sync>(rt: &R) -> Result<()> {
+/// Runs each of the timings over a few texts, and prints what their calls answer, but no time. It fails if an answer is wrong.
+pub fn print_small<R: AllocGlobal + Clock + Print + Threads + Wait + Sync>(
+    rt: &R,
+    table: &mut Table,
+) -> Result<()> {
     print_orders(rt)?;
-    print_pools(rt)?;
-    print_rounds(rt)?;
+    single::time_calls(rt, table, COUNT);
+    print_refilled(rt, table)?;
     print_frozen(rt)?;
-    print_lines(rt)?;
-    print_lists(rt)?;
-    print_interners(rt)?;
-    print_walks(rt)?;
-    time_columns(rt, LINES.as_bytes())?;
-    time_collisions(rt, 100)?;
+    print_shared(rt, table)?;
+    time_columns(rt, table, LINES.as_bytes())?;
+    time_collisions(rt, table, 100)
+}
+
+// Prints a line with what was answered.
+fn print_answers(rt: &impl Print, name: &str, answers: &[usize]) -> Result<()> {
+    println!(rt; "{name}: {answers:?}")?;
     Ok(())
 }
 
 // Prints positions in the orders in which texts are asked for.
 fn print_orders<R: AllocGlobal + Print>(rt: &R) -> Result<()> {
-    println!(rt; "jumped: {} {}", jumped(1, 100_000), jumped(13, 100_000))?;
+    let jumps = [jumped(1, 100_000) as usize, jumped(13, 100_000) as usize];
+    print_answers(rt, "jumped", &jumps)?;
     let positions = random_positions(rt.alloc(), COUNT, 5)?;
     println!(rt; "random: {:?}", positions.as_slice())?;
     Ok(())
 }
 
-// Times each pool, and prints the positions of a few texts in each.
-fn print_pools<R: AllocGlobal + Clock + Print>(rt: &R) -> Result<()> {
+// Times an interner that is cleared and filled again, and prints the bytes that it takes.
+fn print_refilled<R: AllocGlobal + Clock + Print>(rt: &R, table: &mut Table) -> Result<()> {
     let sample = Sample::new(rt.alloc(), COUNT)?;
-    best_timings::<RodeoPool, _>(rt, &sample)?;
-    best_timings::<MapPool, _>(rt, &sample)?;
-    best_timings::<SetPool, _>(rt, &sample)?;
-    print_pool::<RodeoPool, R>(rt, "Rodeo")?;
-    print_pool::<MapPool, R>(rt, "HashMap and Vec")?;
-    print_pool::<SetPool, R>(rt, "IndexSet")
+    let usages = time_refilling(rt, table, &sample.texts, 5);
+    print_answers(rt, "refilled, in bytes", &usages)
 }
 
-// Prints what a new pool answers of a few texts.
-fn print_pool<P: TextPool, R: AllocGlobal + Print>(rt: &R, name: &str) -> Result<()> {
-    let mut pool = P::new(rt.alloc())?;
-    print_interned(rt, &mut pool, name)
-}
-
-// Prints what the pool answers of two texts that it has, and of one that is missing.
-fn print_interned<P: TextPool, R: Print>(rt: &R, pool: &mut P, name: &str) -> Result<()> {
-    let first = P::position(pool.intern("b")?);
-    let key = pool.intern("a")?;
-    let second = P::position(key);
-    let again = P::position(pool.intern("b")?);
-    let text = pool.resolve(key);
-    println!(rt; "{name}: {first} {second} {again}, text {text:?}")?;
-    print_found(rt, pool, name)
-}
-
-// Prints what the pool answers of a look-up of a text that it has, and of one that is missing.
-fn print_found<P: TextPool, R: Print>(rt: &R, pool: &P, name: &str) -> Result<()> {
-    let found = pool.get("a").map(|key| P::position(key));
-    let missing = pool.get("c").map(|key| P::position(key));
-    println!(rt; "{name}: found {found:?}, missing {missing:?}")?;
-    Ok(())
-}
-
-// Prints the memory that an interner takes which is cleared and filled again.
-fn print_rounds<R: AllocGlobal + Clock + Print>(rt: &R) -> Result<()> {
-    let sample = Sample::new(rt.alloc(), COUNT)?;
-    let timings = best_refill_timings(rt, &sample.texts, 5)?;
-    println!(rt; "refilled: {:?} bytes", timings.usages)?;
-    Ok(())
-}
-
-// Times frozen interners, and prints what those of two texts answer.
-fn print_frozen<R: AllocGlobal + Clock + Print>(rt: &R) -> Result<()> {
-    let sample = FrozenSample::new(rt.alloc(), COUNT)?;
-    best_frozen_timings(rt, &sample)?;
-    let mut pool = RodeoPool::new(rt.alloc())?;
-    pool.intern("a")?;
-    pool.intern("ab")?;
-    let reader = pool.into_rodeo().into_reader();
+// Prints what frozen interners of two texts answer.
+fn print_frozen<R: AllocGlobal + Print>(rt: &R) -> Result<()> {
+    let lines = Lines::read(rt.alloc(), "a\nab".as_bytes())?;
+    let rodeo = single::filled(rt.alloc(), &lines.distinct).context("a text was refused")?;
+    let reader = rodeo.into_reader();
     print_resolved(rt, "RodeoReader", &reader)?;
     print_resolved(rt, "RodeoResolver", &reader.into_resolver())
 }
@@ -112,18 +78,37 @@ fn print_resolved<T: FrozenTexts, R: AllocGlobal + Print>(
     texts: &T,
 ) -> Result<()> {
     let keys = keys_at(rt.alloc(), texts, &[1, 2, 0, 1])?;
-    let sum = resolve_all(texts, &keys);
-    println!(rt; "{name}: {} keys, last bytes {sum}", keys.len())?;
-    Ok(())
+    print_answers(rt, name, &[keys.len(), resolve_all(texts, &keys)])
 }
 
-// Prints what is known of a few lines.
-fn print_lines<R: AllocGlobal + Print>(rt: &R) -> Result<()> {
+// Times what threads share over a few lines, and prints what is known of these and what calls answer.
+fn print_shared<R: AllocGlobal + Clock + Print + Threads + Wait + Sync>(
+    rt: &R,
+    table: &mut Table,
+) -> Result<()> {
     let lines = Lines::read(rt.alloc(), LINES.as_bytes())?;
+    print_lines(rt, &lines)?;
+    print_log(rt, table)?;
+    time_copying(rt, table)?;
+    time_interners(rt, table, &lines);
+    print_answers(rt, "filled", &[fill(rt, LINES.as_bytes())?])?;
+    print_calls::<WithPass, R>(rt, "with a pass")?;
+    print_calls::<Plain, R>(rt, "plain")?;
+    print_walks(rt, table)
+}
+
+// Prints what is known of the lines. No line is an error.
+fn print_lines<R: AllocGlobal + Print>(rt: &R, lines: &Lines) -> Result<()> {
     print_texts(rt, "distinct", &lines.distinct)?;
     print_texts(rt, "again", &lines.again)?;
-    print_sums(rt, lines.positions, lines.lengths)?;
-    print_no_line(rt)
+    print_answers(
+        rt,
+        "positions and lengths",
+        &[lines.positions, lines.lengths],
+    )?;
+    let is_error = Lines::read(rt.alloc(), "".as_bytes()).is_err();
+    ensure!(is_error, "no line is no error");
+    Ok(())
 }
 
 // Prints the texts, which have this name.
@@ -132,72 +117,21 @@ fn print_texts(rt: &impl Print, name: &str, texts: &Vec<String>) -> Result<()> {
     Ok(())
 }
 
-// Prints the sums of positions and of lengths.
-fn print_sums(rt: &impl Print, positions: usize, lengths: usize) -> Result<()> {
-    println!(rt; "positions {positions}, lengths {lengths}")?;
-    Ok(())
-}
-
-// Prints whether an input without a line is an error.
-fn print_no_line<R: AllocGlobal + Print>(rt: &R) -> Result<()> {
-    let none = Lines::read(rt.alloc(), "".as_bytes()).is_err();
-    println!(rt; "no line is an error: {none}")?;
-    Ok(())
-}
-
-// Times the lists that threads share and a shared bucket, and prints what the lists answer of a few positions.
-fn print_lists<R: AllocGlobal + Clock + Print + Threads + Wait + Sync>(rt: &R) -> Result<()> {
-    let shelf = Shelf::new(rt, COUNT)?;
-    print_shelf(rt, &shelf)
-}
-
-// Times the lists of the shelf and a shared bucket, and prints what the lists answer of a few positions.
-fn print_shelf<R: AllocGlobal + Clock + Print + Threads + Wait + Sync>(
+// Times a log, and prints what it answers of a few positions.
+fn print_log<R: AllocGlobal + Clock + Print + Threads + Wait + Sync>(
     rt: &R,
-    shelf: &Shelf,
+    table: &mut Table,
 ) -> Result<()> {
-    print_list(rt, "Log", &shelf.log)?;
-    print_list(rt, "boxcar::Vec", &shelf.vector)?;
+    let log = open_log(rt, COUNT)?;
     let walk = Walk::new(rt.alloc(), COUNT, 5000)?;
-    best_shared_timings(rt, &shelf.log, &walk)?;
-    best_shared_timings(rt, &shelf.vector, &walk)?;
-    best_copy_timings(rt)?;
-    Ok(())
-}
-
-// Prints what the list answers of a few positions.
-fn print_list<T: SharedTexts, R: Print>(rt: &R, name: &str, list: &T) -> Result<()> {
-    let read = list.read_all(&[7, 999, 10, 1000]);
-    let counted = list.count_all(3);
-    println!(rt; "{name}: read {read}, counted {counted}")?;
-    Ok(())
-}
-
-// Times shared interners over a few lines, and prints what their calls answer.
-fn print_interners<R: AllocGlobal + Clock + Print + Threads + Wait + Sync>(rt: &R) -> Result<()> {
-    let lines = Lines::read(rt.alloc(), LINES.as_bytes())?;
-    time_interners(rt, &lines)?;
-    let count = fill(rt, LINES.as_bytes())?;
-    println!(rt; "filled: {count} texts")?;
-    print_calls::<WithPass, R>(rt, "with a pass")?;
-    print_calls::<Plain, R>(rt, "plain")
-}
-
-// Times shared interners over the lines.
-fn time_interners<R: AllocGlobal + Clock + Threads + Wait + Sync>(
-    rt: &R,
-    lines: &Lines,
-) -> Result<()> {
-    time_filling(rt, lines)?;
-    time_filled::<WithPass, _>(rt, lines)?;
-    time_filled::<Plain, _>(rt, lines)?;
-    Ok(())
+    time_log(rt, table, &log, &walk);
+    print_answers(rt, "Log", &[read_all(&log, &[7, 999, 10, 1000])])
 }
 
 // Prints the sum of the positions that three lines are interned at, and of the lengths that a key is resolved to.
 fn print_calls<C: Calls, R: AllocGlobal + Print + Wait>(rt: &R, name: &str) -> Result<()> {
-    let rodeo: SpurThreadedRodeo = ThreadedRodeo::default(rt.alloc())?;
-    let lines = Lines::read(rt.alloc(), &b"b\nabc\nb\n"[..])?;
+    let lines = Lines::read(rt.alloc(), "b\nabc\nb\n".as_bytes())?;
+    let rodeo = filled(rt, &lines.distinct).context("a text was refused")?;
     print_called::<C, R>(rt, &rodeo, &lines.texts, name)
 }
 
@@ -208,26 +142,16 @@ fn print_called<C: Calls, R: Print + Wait>(
     texts: &[String],
     name: &str,
 ) -> Result<()> {
-    let positions = C::intern_all(rt, rodeo, texts);
+    let positions = C::intern_all(rt, rodeo, texts).context("a text was refused")?;
     let key = rodeo.get(rt, "abc").context("abc is missing")?;
-    let lengths = C::resolve_all(rodeo, &[key, key]);
-    println!(rt; "{name}: positions {positions:?}, lengths {lengths}")?;
-    Ok(())
+    print_answers(rt, name, &[positions, C::resolve_all(rodeo, &[key, key])])
 }
 
 // Times walks, and prints what they give of three texts.
-fn print_walks<R: AllocGlobal + Clock + Print + Wait>(rt: &R) -> Result<()> {
-    let lines = Lines::read(rt.alloc(), &b"b\na\nb\nc\n"[..])?;
-    best_walk_timings(rt, &lines)?;
-    let rodeo: SpurThreadedRodeo = ThreadedRodeo::default(rt.alloc())?;
-    print_walked(rt, &rodeo)
-}
-
-// Prints what walks give of three texts.
-fn print_walked<R: Print + Wait>(rt: &R, rodeo: &SpurThreadedRodeo) -> Result<()> {
-    rodeo.extend(rt, ["b", "a", "c"])?;
-    let entries = walk_entries(rodeo);
-    let texts = walk_texts(rodeo);
-    println!(rt; "walks: {entries:?}, {texts}")?;
-    Ok(())
+fn print_walks<R: AllocGlobal + Clock + Print + Wait>(rt: &R, table: &mut Table) -> Result<()> {
+    let lines = Lines::read(rt.alloc(), "b\na\nb\nc\n".as_bytes())?;
+    time_walks(rt, table, &lines);
+    let rodeo = filled(rt, &lines.distinct).context("a text was refused")?;
+    let (positions, last_bytes) = walk_entries(&rodeo);
+    print_answers(rt, "walks", &[positions, last_bytes, walk_texts(&rodeo)])
 }

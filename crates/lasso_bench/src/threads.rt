@@ -1,14 +1,15 @@
-//! Threads that read the same texts at once, and how long a call takes each of them.
+//! Threads that read texts of the same log at once, and how long a call takes each of them.
 ghost use Rattle.std.specs.Prelude.{◌<◌};
 
 use crate::positions::random_positions;
-use crate::shared::{SharedTexts, Shelf};
-use crate::timing::{ROUNDS, ensure_so, tenths_a_call};
-use anyhow::Result;
+use crate::shared::read_all;
+use crate::table::Table;
+use crate::timing::{ROUNDS, Tenths, elapsed_since, least, started, tenths_if_all};
+use lasso_log::log::Log;
+use lasso_parts::keys::Spur;
 use std::alloc::{AllocError, Global};
 use std::rt::Clock;
 use std::thread::{Threads, map_indices};
-use std::time::Instant;
 
 /// How many threads read at once.
 pub const THREADS: [usize; 3] = [1, 2, 4];
@@ -22,8 +23,6 @@ const BEFORE_NUMBER: usize = 5;
 /// Random positions, which may repeat, with what reading them has to answer.
 #[derive(Drop)]
 pub struct Walk {
-    /// How many texts there are.
-    count: u32,
     /// Positions of texts.
     positions: Vec<u32>,
     /// The sum of the lengths of the texts there, in bytes.
@@ -42,11 +41,7 @@ impl Walk {
                 .wrapping_add(BEFORE_NUMBER)
                 .wrapping_add(digits(*position));
         }
-        Ok(Walk {
-            count,
-            positions,
-            lengths,
-        })
+        Ok(Walk { positions, lengths })
     }
 }
 
@@ -55,68 +50,39 @@ fn digits(number: u32) -> usize {
     number.checked_ilog10().map_or(1, |top| top as usize + 1)
 }
 
-/// How long a call takes with each number of threads, in tenths of a nanosecond.
-#[derive(Clone, Copy, Debug)]
-pub struct SharedTimings {
-    /// To read a text by its position.
-    pub read: [u64; 3],
-    /// To ask how many texts there are.
-    pub count: [u64; 3],
-}
-
-/// The least that each call took in several rounds. It fails if the clock does, when out of memory, and if an
-/// answer was wrong.
-pub fn best_shared_timings<T: SharedTexts, R: AllocGlobal + Clock + Threads + Sync>(
+/// Times reading texts by their positions with each number of threads: the least of several rounds.
+pub fn time_log<R: AllocGlobal + Clock + Print + Threads + Sync>(
     rt: &R,
-    texts: &T,
+    table: &mut Table,
+    log: &Log<Spur>,
     walk: &Walk,
-) -> Result<SharedTimings> {
-    let mut best = SharedTimings {
-        read: [u64::MAX; 3],
-        count: [u64::MAX; 3],
-    };
+) {
+    let mut best = [Ok(u64::MAX); 3];
     for _ in 0..ROUNDS {
         for at in 0..3usize {
-            best.read[at] = best.read[at].min(time_reads(rt, texts, walk, THREADS[at])?);
-            best.count[at] = best.count[at].min(time_counts(rt, texts, walk, THREADS[at])?);
+            best[at] = least(best[at], time_reads(rt, log, walk, THREADS[at]));
         }
     }
-    Ok(best)
+    for at in 0..3usize {
+        table.add(rt, "read", THREADS[at], best[at]);
+    }
 }
 
 // Has `threads` threads read all texts of the walk at once.
-fn time_reads<T: SharedTexts, R: AllocGlobal + Clock + Threads + Sync>(
+fn time_reads<R: AllocGlobal + Clock + Threads + Sync>(
     rt: &R,
-    texts: &T,
+    log: &Log<Spur>,
     walk: &Walk,
     threads: usize,
-) -> Result<u64> {
-    let start = Instant::now(rt)?;
-    let sums = map_indices(
-        rt,
-        rt.alloc(),
-        threads,
-        &|_| texts.read_all(&walk.positions),
-    )?;
-    let elapsed = start.elapsed(rt)?;
-    let are_texts = sums.iter().all(|sum| *sum == walk.lengths);
-    ensure_so(are_texts, "a text is wrong")?;
-    Ok(tenths_a_call(elapsed, walk.positions.len()))
-}
-
-// Has `threads` threads ask for the number of texts at once, once for each position of the walk.
-fn time_counts<T: SharedTexts, R: AllocGlobal + Clock + Threads + Sync>(
-    rt: &R,
-    texts: &T,
-    walk: &Walk,
-    threads: usize,
-) -> Result<u64> {
-    let calls = walk.positions.len();
-    let start = Instant::now(rt)?;
-    let sums = map_indices(rt, rt.alloc(), threads, &|_| texts.count_all(calls))?;
-    let elapsed = start.elapsed(rt)?;
-    let wanted = calls.wrapping_mul(walk.count as usize);
-    let are_counts = sums.iter().all(|sum| *sum == wanted);
-    ensure_so(are_counts, "a count is wrong")?;
-    Ok(tenths_a_call(elapsed, calls))
+) -> Tenths {
+    let start = started(rt);
+    let sums = map_indices(rt, rt.alloc(), threads, &|_| read_all(log, &walk.positions));
+    let elapsed = elapsed_since(rt, start);
+    tenths_if_all(
+        sums,
+        &walk.lengths,
+        "a text is wrong",
+        elapsed,
+        walk.positions.len(),
+    )
 }

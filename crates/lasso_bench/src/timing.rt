@@ -1,10 +1,7 @@
-//! The timed loops. Each sums up what its calls answer, and the sum is compared with what it has to be.
+//! How long work takes: readings of the clock, and the time of a call.
 ghost use Rattle.std.specs.Prelude.{◌≡◌, ◌<◌, ◌*◌, ◌/◌, ◌-◌, ◌^◌, min};
 ghost use Rattle.std.specs.Duration.{as_nanos};
 
-use crate::pools::{KeyedTexts, TextPool};
-use crate::texts::Sample;
-use anyhow::{Result, ensure};
 use std::alloc::AllocError;
 use std::rt::Clock;
 use std::time::{Duration, Instant};
@@ -12,126 +9,81 @@ use std::time::{Duration, Instant};
 /// How often each operation is timed.
 pub const ROUNDS: u32 = 8;
 
-/// How long a call takes, in tenths of a nanosecond.
-#[derive(Clone, Copy, Debug)]
-pub struct Timings {
-    /// To intern a text that is not there.
-    pub intern_new: u64,
-    /// To intern a present text.
-    pub intern_present: u64,
-    /// To ask for a text that is not there.
-    pub get_missing: u64,
-    /// To read a key's text.
-    pub resolve: u64,
+/// The fault of a timing that is refused memory.
+pub const NO_MEMORY: &str = "out of memory";
+
+/// The fault of a timing whose text is refused.
+pub const REFUSED: &str = "a text was refused";
+
+/// How long a call takes, in tenths of a nanosecond, or what was wrong.
+pub type Tenths = Result<u64, &'static str>;
+
+/// Reads the clock before work; `None` if the clock fails.
+pub fn started(rt: &impl Clock) -> Option<Instant> {
+    Instant::now(rt).ok()
 }
 
-impl Timings {
-    /// The less of both, for each operation.
-    pub fn least(self, other: Timings) -> Timings
-        ensures intern_new { result.intern_new ≡ min self.intern_new other.intern_new }
-        ensures intern_present { result.intern_present ≡ min self.intern_present other.intern_present }
-        ensures get_missing { result.get_missing ≡ min self.get_missing other.get_missing }
-        ensures resolve { result.resolve ≡ min self.resolve other.resolve }
-    {
-        Timings {
-            intern_new: self.intern_new.min(other.intern_new),
-            intern_present: self.intern_present.min(other.intern_present),
-            get_missing: self.get_missing.min(other.get_missing),
-            resolve: self.resolve.min(other.resolve),
+/// How long the work took that was started then; `None` if the clock failed before or fails now.
+pub fn elapsed_since(rt: &impl Clock, start: Option<Instant>) -> Option<Duration> {
+    start?.elapsed(rt).ok()
+}
+
+/// The time of a call if `calls` calls took `elapsed`. It fails if the clock failed.
+pub fn tenths_of(elapsed: Option<Duration>, calls: usize) -> Tenths {
+    match elapsed {
+        Some(elapsed) => Ok(tenths_a_call(elapsed, calls)),
+        None => Err("the clock failed"),
+    }
+}
+
+/// The same. It fails with `fault` unless the answers are right, and if the clock failed.
+pub fn tenths_if(
+    are_right: bool,
+    fault: &'static str,
+    elapsed: Option<Duration>,
+    calls: usize,
+) -> Tenths {
+    if !are_right {
+        return Err(fault);
+    }
+    tenths_of(elapsed, calls)
+}
+
+/// The same if each thread had to answer `wanted`. It fails too if there was no memory for the answers.
+pub fn tenths_if_all<T: PartialEq + Drop>(
+    answers: Result<Vec<T>, AllocError>,
+    wanted: &T,
+    fault: &'static str,
+    elapsed: Option<Duration>,
+    calls: usize,
+) -> Tenths {
+    let Ok(answers) = answers else {
+        return Err(NO_MEMORY);
+    };
+    tenths_if(are_all(&answers, wanted), fault, elapsed, calls)
+}
+
+// Whether each answer is the wanted one.
+fn are_all<T: PartialEq>(answers: &[T], wanted: &T) -> bool {
+    for answer in answers {
+        if *answer != *wanted {
+            return false;
         }
     }
+    true
 }
 
-/// The least that each operation took in several rounds. It fails if the clock does, when out of memory, and
-/// if the answers were wrong.
-pub fn best_timings<P: TextPool, R: AllocGlobal + Clock>(
-    rt: &R,
-    sample: &Sample,
-) -> Result<Timings> {
-    let mut best = round::<P, R>(rt, sample)?;
-    for _ in 1..ROUNDS {
-        best = best.least(round::<P, R>(rt, sample)?);
+/// The time, or the first fault; `fault` if there is a time and the answers are not right.
+pub fn if_so(are_right: bool, fault: &'static str, tenths: Tenths) -> Tenths {
+    if tenths.is_ok() && !are_right {
+        return Err(fault);
     }
-    Ok(best)
+    tenths
 }
 
-/// What each operation took once over all texts, in a pool of its own. It fails as `best_timings` does.
-pub fn round<P: TextPool, R: AllocGlobal + Clock>(rt: &R, sample: &Sample) -> Result<Timings> {
-    let mut pool = P::new(rt.alloc())?;
-    time_pool(rt, &mut pool, sample)
-}
-
-// What each operation took once over all texts, in an empty pool.
-fn time_pool<P: TextPool, R: AllocGlobal + Clock>(
-    rt: &R,
-    pool: &mut P,
-    sample: &Sample,
-) -> Result<Timings> {
-    let new = timed_interns(rt, pool, &sample.texts)?;
-    let present = timed_interns(rt, pool, &sample.again)?;
-    let missing = timed_misses(rt, pool, &sample.missing)?;
-    let resolved = timed_resolves(rt, pool, &sample.again)?;
-    check_sums(sample, [new.sum, present.sum, missing.sum, resolved.sum])?;
-    Ok(Timings {
-        intern_new: new.tenths,
-        intern_present: present.tenths,
-        get_missing: missing.tenths,
-        resolve: resolved.tenths,
-    })
-}
-
-// What calls answered, summed up, and how long one took, in tenths of a nanosecond.
-#[derive(Clone, Copy)]
-struct Timed {
-    sum: usize,
-    tenths: u64,
-}
-
-// Interns the texts.
-fn timed_interns<P: TextPool, R: Clock>(rt: &R, pool: &mut P, texts: &[String]) -> Result<Timed> {
-    let start = Instant::now(rt)?;
-    let sum = intern_all(pool, texts)?;
-    let tenths = tenths_a_call(start.elapsed(rt)?, texts.len());
-    Ok(Timed { sum, tenths })
-}
-
-// Asks for texts that are not there.
-fn timed_misses<P: TextPool, R: Clock>(rt: &R, pool: &P, texts: &[String]) -> Result<Timed> {
-    let start = Instant::now(rt)?;
-    let sum = count_missing(pool, texts);
-    let tenths = tenths_a_call(start.elapsed(rt)?, texts.len());
-    Ok(Timed { sum, tenths })
-}
-
-// Resolves the keys of the present texts.
-fn timed_resolves<P: TextPool, R: AllocGlobal + Clock>(
-    rt: &R,
-    pool: &P,
-    texts: &[String],
-) -> Result<Timed> {
-    let keys = keys_of(rt, pool, texts)?;
-    let start = Instant::now(rt)?;
-    let sum = resolve_all(pool, &keys);
-    let tenths = tenths_a_call(start.elapsed(rt)?, keys.len());
-    Ok(Timed { sum, tenths })
-}
-
-// Compares what was summed up of new texts, of present ones, of missing ones and of keys with what it has to be.
-fn check_sums(sample: &Sample, sums: [usize; 4]) -> Result<()> {
-    let [interned, present, missing, last_bytes] = sums;
-    let positions = sum_of_positions(sample.texts.len());
-    let are_keys = interned == positions && present == positions;
-    ensure_so(are_keys, "a key is wrong")?;
-    let are_missing = missing == sample.missing.len();
-    ensure_so(are_missing, "a text is there that should not be")?;
-    let are_texts = last_bytes == sum_of_last_bytes(&sample.again);
-    ensure_so(are_texts, "a text is wrong")
-}
-
-/// Fails with the message unless it holds.
-pub fn ensure_so(holds: bool, message: &str) -> Result<()> {
-    ensure!(holds, "{message}");
-    Ok(())
+/// The less of both; a fault if one of them is.
+pub fn least(one: Tenths, other: Tenths) -> Tenths {
+    Ok(one?.min(other?))
 }
 
 /// The time of a call, in tenths of a nanosecond, if `calls` calls took `elapsed`; 0 if there were none.
@@ -145,52 +97,6 @@ pub fn tenths_a_call(elapsed: Duration, calls: usize) -> u64
     tenths.min(u64::MAX as u128) as u64
 }
 
-/// Interns the texts, and answers the sum of their positions.
-pub fn intern_all<P: TextPool>(pool: &mut P, texts: &[String]) -> Result<usize, AllocError> {
-    let mut sum = 0usize;
-    for text in texts {
-        sum = sum.wrapping_add(P::position(pool.intern(text.as_str())?));
-    }
-    Ok(sum)
-}
-
-// Asks for the texts, and answers how many are not there.
-fn count_missing<P: TextPool>(pool: &P, texts: &[String]) -> usize {
-    let mut missing = 0usize;
-    for text in texts {
-        if pool.get(text.as_str()).is_none() {
-            missing = missing.wrapping_add(1);
-        }
-    }
-    missing
-}
-
-// The keys of the present texts.
-fn keys_of<P: TextPool, R: AllocGlobal>(
-    rt: &R,
-    pool: &P,
-    texts: &[String],
-) -> Result<Vec<P::Key>, AllocError> {
-    let mut keys = Vec::new(rt.alloc());
-    for text in texts {
-        if let Some(key) = pool.get(text.as_str()) {
-            keys.push(key)?;
-        }
-    }
-    Ok(keys)
-}
-
-// Resolves the keys, and answers the sum of their texts' last bytes.
-fn resolve_all<P: KeyedTexts>(texts: &P, keys: &[P::Key]) -> usize {
-    let mut sum = 0usize;
-    for key in keys {
-        if let Some(text) = texts.resolve(*key) {
-            sum = sum.wrapping_add(last_byte(text));
-        }
-    }
-    sum
-}
-
 /// The sum of the texts' last bytes.
 pub fn sum_of_last_bytes(texts: &[String]) -> usize {
     let mut sum = 0usize;
@@ -200,7 +106,7 @@ pub fn sum_of_last_bytes(texts: &[String]) -> usize {
     sum
 }
 
-/// The text's last byte, or 0 where it has none.
+/// The text's last byte, or 0 if it has none.
 pub fn last_byte(text: &str) -> usize {
     text.as_bytes().last().map_or(0, |byte| usize::from(*byte))
 }

@@ -1,61 +1,46 @@
 //! Walks over an interner that threads share, and freezing it: how long they take a text.
-use crate::calls::{Calls, WithPass};
+use crate::calls::filled;
 use crate::lines::Lines;
+use crate::table::Table;
 use crate::timing::{
-    ROUNDS, ensure_so, last_byte, sum_of_last_bytes, sum_of_positions, tenths_a_call,
+    REFUSED, ROUNDS, Tenths, elapsed_since, last_byte, least, started, sum_of_last_bytes,
+    sum_of_positions, tenths_if,
 };
-use anyhow::Result;
-use lasso::{Key, SpurThreadedRodeo, ThreadedRodeo};
+use lasso::{Key, SpurThreadedRodeo};
 use std::rt::Clock;
 use std::sync::Wait;
-use std::time::{Duration, Instant};
 
-/// How long each takes a text, in tenths of a nanosecond.
-#[derive(Clone, Copy, Debug)]
-pub struct WalkTimings {
-    /// A step of `iter`, whose text's last byte is read.
-    pub iter: u64,
-    /// A step of `strings`, whose text's last byte is read.
-    pub strings: u64,
-    /// `into_reader`, by the number of texts.
-    pub into_reader: u64,
-}
-
-/// The least that each took in several rounds over the distinct lines, each with a new interner. It fails if
-/// the clock does, when out of memory, and if an answer was wrong.
-pub fn best_walk_timings<R: AllocGlobal + Clock + Wait>(
-    rt: &R,
-    lines: &Lines,
-) -> Result<WalkTimings> {
-    let mut best = WalkTimings {
-        iter: u64::MAX,
-        strings: u64::MAX,
-        into_reader: u64::MAX,
-    };
+/// Times walks over the distinct lines and freezing them, by a text: the least of several rounds, each with a new interner.
+pub fn time_walks<R: AllocGlobal + Clock + Print + Wait>(rt: &R, table: &mut Table, lines: &Lines) {
+    let mut best = [Ok(u64::MAX); 3];
     for _ in 0..ROUNDS {
-        let timings = round(rt, lines)?;
-        best.iter = best.iter.min(timings.iter);
-        best.strings = best.strings.min(timings.strings);
-        best.into_reader = best.into_reader.min(timings.into_reader);
+        best = least_of_three(best, round(rt, &lines.distinct));
     }
-    Ok(best)
+    let count = lines.distinct.len();
+    let [iter, strings, into_reader] = best;
+    table.add(rt, "iter", count, iter);
+    table.add(rt, "strings", count, strings);
+    table.add(rt, "into_reader", count, into_reader);
 }
 
-// What each took once over the distinct lines.
-fn round<R: AllocGlobal + Clock + Wait>(rt: &R, lines: &Lines) -> Result<WalkTimings> {
-    let count = lines.distinct.len();
-    let rodeo = ThreadedRodeo::default(rt.alloc())?;
-    let interned = WithPass::intern_all(rt, &rodeo, &lines.distinct);
-    ensure_so(interned.is_some(), "a text was refused")?;
-    let last_bytes = sum_of_last_bytes(&lines.distinct);
-    let iter = time_entries(rt, &rodeo, count, last_bytes)?;
-    let strings = time_texts(rt, &rodeo, last_bytes)?;
-    let into_reader = time_freezing(rt, rodeo, count)?;
-    Ok(WalkTimings {
-        iter: tenths_a_call(iter, count),
-        strings: tenths_a_call(strings, count),
-        into_reader: tenths_a_call(into_reader, count),
-    })
+// The less of both, for each of three times.
+fn least_of_three(one: [Tenths; 3], other: [Tenths; 3]) -> [Tenths; 3] {
+    [
+        least(one[0], other[0]),
+        least(one[1], other[1]),
+        least(one[2], other[2]),
+    ]
+}
+
+// What each took once over the distinct texts: `iter`, `strings` and `into_reader`.
+fn round<R: AllocGlobal + Clock + Wait>(rt: &R, texts: &[String]) -> [Tenths; 3] {
+    let Some(rodeo) = filled(rt, texts) else {
+        return [Err(REFUSED); 3];
+    };
+    let last_bytes = sum_of_last_bytes(texts);
+    let iter = time_entries(rt, &rodeo, texts.len(), last_bytes);
+    let strings = time_texts(rt, &rodeo, texts.len(), last_bytes);
+    [iter, strings, time_freezing(rt, rodeo, texts.len())]
 }
 
 // Walks over the keys and texts of an interner, which has `count` texts with this sum of their last bytes.
@@ -64,35 +49,36 @@ fn time_entries<R: Clock>(
     rodeo: &SpurThreadedRodeo,
     count: usize,
     last_bytes: usize,
-) -> Result<Duration> {
-    let start = Instant::now(rt)?;
+) -> Tenths {
+    let start = started(rt);
     let (positions, found) = walk_entries(rodeo);
-    let elapsed = start.elapsed(rt)?;
+    let elapsed = elapsed_since(rt, start);
     let is_right = positions == sum_of_positions(count) && found == last_bytes;
-    ensure_so(is_right, "a key or a text is wrong")?;
-    Ok(elapsed)
+    tenths_if(is_right, "a key or a text is wrong", elapsed, count)
 }
 
-// Walks over the texts of an interner, which have this sum of their last bytes.
-fn time_texts<R: Clock>(rt: &R, rodeo: &SpurThreadedRodeo, last_bytes: usize) -> Result<Duration> {
-    let start = Instant::now(rt)?;
+// Walks over the texts of an interner, which has `count` texts with this sum of their last bytes.
+fn time_texts<R: Clock>(
+    rt: &R,
+    rodeo: &SpurThreadedRodeo,
+    count: usize,
+    last_bytes: usize,
+) -> Tenths {
+    let start = started(rt);
     let found = walk_texts(rodeo);
-    let elapsed = start.elapsed(rt)?;
-    ensure_so(found == last_bytes, "a text is wrong")?;
-    Ok(elapsed)
+    let elapsed = elapsed_since(rt, start);
+    tenths_if(found == last_bytes, "a text is wrong", elapsed, count)
 }
 
 // Freezes an interner of `count` texts.
-fn time_freezing<R: Clock + Wait>(
-    rt: &R,
-    rodeo: SpurThreadedRodeo,
-    count: usize,
-) -> Result<Duration> {
-    let start = Instant::now(rt)?;
-    let reader = rodeo.into_reader(rt)?;
-    let elapsed = start.elapsed(rt)?;
-    ensure_so(reader.len() == count, "a text is missing")?;
-    Ok(elapsed)
+fn time_freezing<R: Clock + Wait>(rt: &R, rodeo: SpurThreadedRodeo, count: usize) -> Tenths {
+    let start = started(rt);
+    let reader = rodeo.into_reader(rt);
+    let elapsed = elapsed_since(rt, start);
+    let Ok(reader) = reader else {
+        return Err(REFUSED);
+    };
+    tenths_if(reader.len() == count, "a text is missing", elapsed, count)
 }
 
 /// The sum of the positions that `iter` gives, and that of its texts' last bytes.

@@ -1,50 +1,53 @@
 /*
  * lasso: each distinct text once, and a small number for each text.
  *
- * lasso_encode and lasso_decode turn one column of texts into codes and back. lasso_new makes an interner that is held from call
- * to call: it is fed text by text or batch by batch, asked, saved by lasso_dictionary, and let go by lasso_free.
+ * lasso_encode and lasso_decode turn one column of texts into codes and back. lasso_new makes an interner that
+ * lives from call to call: intern texts one by one or in batches, look them up, save them by lasso_dictionary,
+ * and free it by lasso_free.
  *
- * Texts cross as Arrow lays out arrays of strings: one buffer of bytes, UTF-8 and with no end marks, and a
- * buffer of offsets, counted in bytes from the buffer's first. Text k is what lies from offset k up to offset
- * k + 1, so n texts have n + 1 offsets. The first offset may lie above 0, as in an array that was cut. No
- * offsets at all mean no texts. An offset is at least the one before it, at most the number of bytes, and
- * never negative. Offsets have 32 bits, and 64 where a call's name ends with _large.
+ * Texts cross as Arrow lays out arrays of strings: a buffer of UTF-8 bytes without end marks, and a buffer of
+ * offsets, which count bytes from the start of the first buffer. Text k is the bytes from offset k up to offset
+ * k + 1, so n texts have n + 1 offsets. The first offset may be above 0, as in an array that was cut. Without
+ * offsets there are no texts. Each offset is at least the one before it, at most the number of bytes, and never
+ * negative. Offsets have 32 bits, or 64 in calls whose names end with _large.
  *
  * For every call:
- * - Each length counts elements, not bytes: bytes of a uint8_t array, numbers of an int32_t, int64_t or uint32_t array.
- * - The caller owns all memory. No pointer is kept when a call returns.
- * - A pointer is aligned for its elements. It may be NULL where its length is 0; report is never NULL. (NULL is turned into
- *   another pointer by inline functions of this header. A caller that does without the header, as ctypes, never passes NULL.)
+ * - A length counts elements, not bytes: bytes of a uint8_t array, numbers of an int32_t, int64_t or uint32_t
+ *   array.
+ * - The caller owns all memory. No pointer is kept after a call returns.
+ * - A pointer is aligned for its elements. It may be NULL if its length is 0; report is never NULL. (Inline
+ *   functions of this header replace NULL. A caller without the header, as ctypes, never passes NULL.)
  * - An array has at least as many elements as its length says, and at most 2^63 - 1 bytes.
- * - Nothing that is written overlaps anything else that is passed, *report neither.
- * - A call that refuses, whose status is not LASSO_DONE, writes nothing but *report, and leaves its interner as it was;
- *   the calls whose names begin with lasso_intern_batch alone keep the texts before the refused one, and write their codes. One
- *   that is done writes what is said below to the front of each output, and leaves the rest of it as it was.
- * - Calls may run in several threads at once. What all of them only read they may share, as two that decode from one
- *   dictionary. What a call writes, nothing else reads or writes meanwhile.
- * - No call is made in a signal handler, nor in the forked child of a process with threads.
+ * - Outputs, *report included, must not overlap other arguments.
+ * - A refused call, whose status is not LASSO_DONE, writes only *report and leaves its interner as it was. Only
+ *   the calls whose names begin with lasso_intern_batch keep the texts before the refused one, and write their
+ *   codes. A call that is done writes to the front of each output what is said below, and leaves the rest of it
+ *   as it was.
+ * - Calls may run in several threads at once. Threads may share what all of them only read, as two that decode
+ *   from one dictionary. What a call writes, nothing else reads or writes meanwhile.
+ * - No call is made in a signal handler, or in the forked child of a process with threads.
  *
- * lasso_encode and lasso_encode_nulls take memory from malloc and realloc, and give it back before they return. lasso_new,
- * lasso_intern and the calls whose names begin with lasso_intern_batch take memory that lasso_free gives back. The others take none.
- * The program's malloc, realloc and free are one allocator, whose blocks are aligned to each power of two up to 16 that divides their
- * size, as to 8 for 24 bytes.
+ * lasso_encode and lasso_encode_nulls take memory from malloc and realloc, and free it before they return.
+ * lasso_new, lasso_intern and the calls whose names begin with lasso_intern_batch take memory that lasso_free
+ * frees. The others take none. The program's malloc, realloc and free have to be one allocator, whose blocks are
+ * aligned to each power of two up to 16 that divides their size, as to 8 for 24 bytes.
  *
- * A column with nulls has a bitmap too, as Arrow has it: bit i % 8 of byte i / 8, counted from the least, is 1 where row i is
- * present and 0 where it is a null. The calls with _nulls in their names take or write one. A null has a code that the caller
- * names, LASSO_NULL mostly, and no text is interned for it.
+ * A column with nulls has a bitmap too, as Arrow has it: bit i % 8 of byte i / 8, counted from the least, is 1 if
+ * row i is present and 0 if it is a null. The calls with _nulls in their names take or write one. A null has a
+ * code that the caller chooses, mostly LASSO_NULL, and no text is interned for it.
  *
- * Chosen collisions: texts are hashed with a fixed seed, so whoever chooses the texts can make them collide. Each search then
- * takes time linear in the number of distinct texts, and interning n of them time quadratic in n.
+ * Texts are hashed with a fixed seed, so whoever chooses the texts can make them collide. Each search then takes
+ * time linear in the number of distinct texts, and interning n of them time quadratic in n.
  *
- * To link, once "make install" has installed the library:
+ * To link, after "make install" has installed the library:
  *
  *     cc program.c $(pkg-config --cflags --libs lasso)
  *
- * "make c" builds it, and prints how a program is linked where it is not installed. The header is good for C from C99 on and for
- * C++.
+ * "make c" builds it, and prints how to link a program without installing it. The header is for C from C99 on and
+ * for C++.
  *
- * What a call writes and returns is proved, but not that LASSO_NO_MEMORY comes only where malloc or realloc gave none. Nor is what
- * the caller owes, or what is said here of threads and of memory.
+ * What a call writes and returns is proved, but not that LASSO_NO_MEMORY comes only if malloc or realloc returned
+ * none. Nor is what the caller owes, or what is said here of threads and of memory.
  */
 #ifndef LASSO_H
 #define LASSO_H
@@ -61,14 +64,14 @@ extern "C" {
 enum lasso_status {
     LASSO_DONE = 0,
     LASSO_OFFSETS_FALL = 1,      /* an offset is below the one before it, and not negative */
-    LASSO_OFFSET_PAST_BYTES = 2, /* an offset lies past the bytes, or is negative */
+    LASSO_OFFSET_PAST_BYTES = 2, /* an offset is past the bytes, or negative */
     LASSO_NOT_UTF8 = 3,          /* a text is not UTF-8 */
     LASSO_NO_SUCH_CODE = 4,      /* the dictionary has no text for a code */
     LASSO_TOO_MANY_BYTES = 5,    /* the decoded texts have more than 2^31 - 1 bytes */
-    LASSO_CODES_TOO_SHORT = 6,   /* fewer codes have room than there are texts */
-    LASSO_OFFSETS_TOO_SHORT = 7, /* fewer offsets have room than the texts written and one more */
-    LASSO_BYTES_TOO_SHORT = 8,   /* fewer bytes have room than the texts written have */
-    LASSO_NO_MEMORY = 9,         /* out of memory: malloc or realloc gave none */
+    LASSO_CODES_TOO_SHORT = 6,   /* there is no room for a code of each text */
+    LASSO_OFFSETS_TOO_SHORT = 7, /* there is no room for an offset of each written text and one more */
+    LASSO_BYTES_TOO_SHORT = 8,   /* there is no room for the bytes of the written texts */
+    LASSO_NO_MEMORY = 9,         /* out of memory: malloc or realloc returned none */
     LASSO_LIMIT_REACHED = 10,    /* the interner's limit leaves no room for a text */
     LASSO_NO_CODE_LEFT = 11,     /* the interner has 2^32 - 1 texts, one for each code */
     LASSO_NO_INTERNER = 12,      /* the handle holds no interner */
@@ -79,17 +82,17 @@ enum lasso_status {
 /*
  * What a call reports besides its status. It writes all three, whatever the status.
  *
- * LASSO_DONE:              texts and bytes are the sizes of the layout that was written, which has texts + 1 offsets; at is 0.
+ * LASSO_DONE:              texts and bytes are the sizes of the written layout, which has texts + 1 offsets; at is 0.
  * LASSO_CODES_TOO_SHORT to
- * LASSO_BYTES_TOO_SHORT:   texts and bytes are the sizes that the written layout needs; at is 0.
+ * LASSO_BYTES_TOO_SHORT:   texts and bytes are the sizes that the layout needs; at is 0.
  * LASSO_OFFSETS_FALL to
- * LASSO_TOO_MANY_BYTES:    at is the first text or code at which it was refused, counted from 0, and 0 where the first offset is
- *                          past the bytes; texts and bytes are 0.
- * LASSO_BITMAP_TOO_SHORT:  at is the first row without a bit, counted from 0; texts and bytes are 0.
+ * LASSO_TOO_MANY_BYTES:    at is the number of the first text or code that is wrong, from 0, and 0 if the first offset
+ *                          is past the bytes; texts and bytes are 0.
+ * LASSO_BITMAP_TOO_SHORT:  at is the number of the first row without a bit, from 0; texts and bytes are 0.
  * LASSO_NO_MEMORY,
  * LASSO_NO_INTERNER:       all three are 0.
  *
- * The calls whose names begin with lasso_intern_batch report something else, which is said there.
+ * The calls whose names begin with lasso_intern_batch report something else: see there.
  */
 struct lasso_report {
     size_t texts;
@@ -98,25 +101,25 @@ struct lasso_report {
 };
 
 /*
- * Encodes texts: writes a code for each, and a dictionary, which is the layout of the distinct texts in order
- * of first occurrence. A code is the position of its text in the dictionary, from 0. Equal texts have equal
+ * Encodes texts: writes a code for each, and a dictionary, which is the layout of the distinct texts in the order
+ * in which they first come. A code is the position of its text in the dictionary, from 0. Equal texts have equal
  * codes.
  *
- * bytes               the caller's, read: the texts' bytes. bytes_length counts bytes.
- * offsets             the caller's, read: positions in bytes, counted in bytes. offsets_length counts offsets, one more than texts.
- * codes               the caller's, written: a code for each text, in their order. codes_length counts codes, one for each text.
- * dictionary_bytes    the caller's, written: the distinct texts' bytes. dictionary_bytes_length counts bytes, as many as those.
- * dictionary_offsets  the caller's, written: positions in dictionary_bytes, counted in bytes; the first is 0.
- *                     dictionary_offsets_length counts offsets, one more than distinct texts.
- * report              the caller's, written: one struct.
+ * bytes               read: the texts' bytes. bytes_length counts bytes.
+ * offsets             read: positions in bytes, counted in bytes. offsets_length counts offsets: texts and one more.
+ * codes               written: a code for each text, in their order. codes_length counts codes: one for each text.
+ * dictionary_bytes    written: the distinct texts' bytes. dictionary_bytes_length counts those bytes.
+ * dictionary_offsets  written: positions in dictionary_bytes, counted in bytes; the first is 0.
+ *                     dictionary_offsets_length counts offsets: distinct texts and one more.
+ * report              written: one struct.
  *
- * Lengths of what is written may be greater. As many dictionary bytes as bytes and as many dictionary offsets as offsets, but
- * one at least, always serve.
+ * Outputs may be longer. They always have room with dictionary_bytes_length = bytes_length, and with
+ * dictionary_offsets_length = offsets_length, but at least 1.
  *
- * The first of these that is so is the status: LASSO_OFFSET_PAST_BYTES at 0 where the first offset is past the bytes;
- * LASSO_OFFSETS_FALL, LASSO_OFFSET_PAST_BYTES or LASSO_NOT_UTF8 of the first wrong text (where one text is wrong in several
- * ways, the first of them); LASSO_CODES_TOO_SHORT, LASSO_OFFSETS_TOO_SHORT, LASSO_BYTES_TOO_SHORT; else LASSO_DONE. A negative
- * offset is past the bytes, and never falls. LASSO_NO_MEMORY may come in place of each of them.
+ * Returns the first that applies: LASSO_OFFSET_PAST_BYTES at 0 if the first offset is past the bytes;
+ * LASSO_OFFSETS_FALL, LASSO_OFFSET_PAST_BYTES or LASSO_NOT_UTF8 of the first wrong text (the first of these if
+ * several apply to it); LASSO_CODES_TOO_SHORT, LASSO_OFFSETS_TOO_SHORT, LASSO_BYTES_TOO_SHORT; else LASSO_DONE. A
+ * negative offset is past the bytes, and never falls. LASSO_NO_MEMORY may come in place of each of them.
  */
 uint32_t lasso_encode(const uint8_t *bytes, size_t bytes_length,
                       const int32_t *offsets, size_t offsets_length,
@@ -125,20 +128,20 @@ uint32_t lasso_encode(const uint8_t *bytes, size_t bytes_length,
                       int32_t *dictionary_offsets, size_t dictionary_offsets_length,
                       struct lasso_report *report);
 
-/* No text has this code, neither in an interner nor in a dictionary of lasso_encode. */
+/* No text has this code, in an interner or in a dictionary of lasso_encode. */
 #define LASSO_NULL UINT32_MAX
 
 /*
- * Encodes a column with nulls: the same as lasso_encode, where a null has the code null, and the dictionary has no text for it.
- * With LASSO_NULL as null no text has its code; with another number a text may have it too.
+ * Encodes a column with nulls: as lasso_encode, but a null has the code null, and the dictionary has no text for
+ * it. If null is LASSO_NULL, no text has its code; if it is another number, a text may have it too.
  *
- * present             the caller's, read: the bitmap. present_length counts bytes, at least one for every
- *                     eight rows; the last byte may have fewer. With 0 each row is present. Bits past the
- *                     last row may be any.
+ * present             read: the bitmap. present_length counts bytes, at least one for every eight rows; the last
+ *                     byte may have fewer. With 0 each row is present. Bits past the last row may be any.
  *
  * The bytes between the offsets of a null may be any; its offsets are checked as all others.
  *
- * Status: LASSO_BITMAP_TOO_SHORT where a row has no bit, else as in lasso_encode. LASSO_NO_MEMORY may come in place of each.
+ * Returns LASSO_BITMAP_TOO_SHORT if a row has no bit, else as lasso_encode. LASSO_NO_MEMORY may come in place of
+ * each.
  */
 uint32_t lasso_encode_nulls(const uint8_t *bytes, size_t bytes_length,
                             const int32_t *offsets, size_t offsets_length,
@@ -151,26 +154,24 @@ uint32_t lasso_encode_nulls(const uint8_t *bytes, size_t bytes_length,
 
 /*
  * Decodes: writes the layout of the texts that the codes name, in their order. Decoding what lasso_encode wrote
- * gives the texts that it was given.
+ * gives back its texts.
  *
- * dictionary_bytes    the caller's, read: the dictionary's bytes. dictionary_bytes_length counts bytes.
- * dictionary_offsets  the caller's, read: positions in dictionary_bytes, counted in bytes.
- *                     dictionary_offsets_length counts offsets, one more than the dictionary's texts; some
- *                     texts may be equal.
- * codes               the caller's, read: positions in the dictionary, from 0. codes_length counts codes.
- * bytes               the caller's, written: the named texts' bytes. bytes_length counts bytes, as many as those.
- * offsets             the caller's, written: positions in bytes, counted in bytes; the first is 0.
- *                     offsets_length counts offsets, one more than codes.
- * report              the caller's, written: one struct.
+ * dictionary_bytes    read: the dictionary's bytes. dictionary_bytes_length counts bytes.
+ * dictionary_offsets  read: positions in dictionary_bytes, counted in bytes. dictionary_offsets_length counts
+ *                     offsets: the dictionary's texts and one more. Some texts may be equal.
+ * codes               read: positions in the dictionary, from 0. codes_length counts codes.
+ * bytes               written: the named texts' bytes. bytes_length counts those bytes.
+ * offsets             written: positions in bytes, counted in bytes; the first is 0. offsets_length counts offsets:
+ *                     codes and one more.
+ * report              written: one struct.
  *
- * Lengths of what is written may be greater. A call with bytes_length 0 and an offset for each code and one
- * more reports how many bytes it needs: LASSO_BYTES_TOO_SHORT and report->bytes, or LASSO_DONE where that is
- * none.
+ * Outputs may be longer. To learn how many bytes are needed, call with bytes_length 0 and an offset for each code
+ * and one more: it returns LASSO_BYTES_TOO_SHORT and writes report->bytes, or LASSO_DONE if none are needed.
  *
- * The whole dictionary is checked at each call, also where the codes name a few of its texts: decode many codes by one call.
+ * Each call checks the whole dictionary, even for a few codes: decode many codes by one call.
  *
- * The first of these that is so is the status: what is wrong with the dictionary, as in lasso_encode, LASSO_NO_SUCH_CODE or
- * LASSO_TOO_MANY_BYTES of the first wrong code, LASSO_OFFSETS_TOO_SHORT, LASSO_BYTES_TOO_SHORT; else LASSO_DONE.
+ * Returns the first that applies: what is wrong with the dictionary, as in lasso_encode; LASSO_NO_SUCH_CODE or
+ * LASSO_TOO_MANY_BYTES of the first wrong code; LASSO_OFFSETS_TOO_SHORT; LASSO_BYTES_TOO_SHORT; else LASSO_DONE.
  */
 uint32_t lasso_decode(const uint8_t *dictionary_bytes, size_t dictionary_bytes_length,
                       const int32_t *dictionary_offsets, size_t dictionary_offsets_length,
@@ -180,16 +181,15 @@ uint32_t lasso_decode(const uint8_t *dictionary_bytes, size_t dictionary_bytes_l
                       struct lasso_report *report);
 
 /*
- * Decodes a column with nulls: the same as lasso_decode, where the code null gives an empty row, whose bit is 0; each other row has
- * the bit 1. So it gives back the texts and the nulls that lasso_encode_nulls was given with the same null, if no text had that code
- * too. The bytes that a null had are gone.
+ * Decodes a column with nulls: as lasso_decode, but the code null gives an empty row, whose bit is 0; each other
+ * row has the bit 1. So it gives back the texts and the nulls of lasso_encode_nulls with the same null, if no text
+ * had that code too. The bytes of a null are lost.
  *
  * null                the code of nulls. It is never looked up in the dictionary.
- * present             the caller's, written: the bitmap. present_length counts bytes, one for every eight
- *                     codes; the last byte may have fewer. present_length may be greater. The bits of the
- *                     last byte past the last row are 0.
+ * present             written: the bitmap. present_length counts bytes, one for every eight codes; the last byte may
+ *                     have fewer, and its bits past the last row are 0. present_length may be greater.
  *
- * Status: LASSO_BITMAP_TOO_SHORT where a code has no bit, else as in lasso_decode.
+ * Returns LASSO_BITMAP_TOO_SHORT if a code has no bit, else as lasso_decode.
  */
 uint32_t lasso_decode_nulls(const uint8_t *dictionary_bytes, size_t dictionary_bytes_length,
                             const int32_t *dictionary_offsets, size_t dictionary_offsets_length,
@@ -201,9 +201,10 @@ uint32_t lasso_decode_nulls(const uint8_t *dictionary_bytes, size_t dictionary_b
                             struct lasso_report *report);
 
 /*
- * A handle: memory of the caller's that holds an interner or none. Begin it as LASSO_NONE, which is all zero. Nothing but the calls
- * below writes to it. One call at a time uses it, readings too, in whichever thread; a lock, or a thread's start or join, comes
- * between calls of two threads. It may be moved as memcpy moves it, if the copy that is left is not passed to a call again.
+ * A handle: memory of the caller's that holds an interner or none. Begin with LASSO_NONE, which is all zero. Only
+ * the calls below may write to it. One call at a time may use it, even to read, in any thread; between calls of two
+ * threads there has to be a lock, or a thread's start or join. It may be moved as memcpy moves it, if the copy that
+ * is left is never passed to a call again.
  */
 struct lasso {
     void *at;
@@ -215,32 +216,33 @@ struct lasso {
 #define LASSO_NO_LIMIT SIZE_MAX
 
 /*
- * Makes an interner without texts, whose buckets of texts take at most limit bytes. The first bucket has 4,096 bytes whatever the
- * limit. Codes are given from 0 on. An interner that the handle holds is let go, once the new one is made.
+ * Makes an interner without texts, whose buckets of texts take at most limit bytes. The first bucket has 4,096 bytes
+ * whatever the limit. Codes begin at 0. If the handle holds an interner, that one is freed after the new one was
+ * made.
  *
- * Status: LASSO_DONE, or LASSO_NO_MEMORY, and the handle holds what it held.
+ * Returns LASSO_DONE, or LASSO_NO_MEMORY, and then the handle is as it was.
  */
 uint32_t lasso_new(struct lasso *lasso, size_t limit);
 
 /*
- * Interns a text: an absent one is appended. *code is its code, which it keeps until lasso_clear, lasso_new or lasso_free.
+ * Interns a text, and appends it first if it is absent. *code is its code until lasso_clear, lasso_new or lasso_free.
  *
- * Status: LASSO_NOT_UTF8; LASSO_NO_INTERNER; for an absent text LASSO_NO_CODE_LEFT, LASSO_LIMIT_REACHED, LASSO_NO_MEMORY; else
- * LASSO_DONE.
+ * Returns LASSO_NOT_UTF8; LASSO_NO_INTERNER; for an absent text LASSO_NO_CODE_LEFT, LASSO_LIMIT_REACHED,
+ * LASSO_NO_MEMORY; else LASSO_DONE.
  */
 uint32_t lasso_intern(struct lasso *lasso, const uint8_t *text, size_t text_length, uint32_t *code);
 
 /*
- * Interns the texts of a layout in their order, and writes a code for each. It stops at the first text that is refused: the texts
- * before it stay, and their codes are written. report->texts is how many texts were interned, report->bytes is 0, and report->at
- * is the number of the refused text, from 0; it is 0 where no text was refused.
+ * Interns the texts of a layout in order, and writes a code for each. It stops at the first refused text; the texts
+ * before it stay, and their codes are written. report->texts is how many texts were interned, report->bytes is 0,
+ * and report->at is the number of the refused text, from 0, or 0 if none was refused.
  *
- * bytes, offsets      the caller's, read: as in lasso_encode.
- * codes               the caller's, written. codes_length counts codes, one for each text; it may be greater.
+ * bytes, offsets      read: as in lasso_encode.
+ * codes               written. codes_length counts codes, one for each text; it may be greater.
  *
- * Status: LASSO_NO_INTERNER; LASSO_CODES_TOO_SHORT, or LASSO_OFFSET_PAST_BYTES where the first offset is past the bytes, and no
- * text is interned; else that of the first refused text: LASSO_OFFSETS_FALL, LASSO_OFFSET_PAST_BYTES, LASSO_NOT_UTF8, or as in
- * lasso_intern; else LASSO_DONE.
+ * Returns LASSO_NO_INTERNER; LASSO_CODES_TOO_SHORT, or LASSO_OFFSET_PAST_BYTES if the first offset is past the bytes:
+ * then no text is interned, and the report is all 0. Else what the first refused text gives: LASSO_OFFSETS_FALL,
+ * LASSO_OFFSET_PAST_BYTES, LASSO_NOT_UTF8, or as lasso_intern; else LASSO_DONE.
  */
 uint32_t lasso_intern_batch(struct lasso *lasso,
                             const uint8_t *bytes, size_t bytes_length,
@@ -249,13 +251,13 @@ uint32_t lasso_intern_batch(struct lasso *lasso,
                             struct lasso_report *report);
 
 /*
- * Interns a column with nulls: the same as lasso_intern_batch, where a null has the code null, and no text is interned for it.
- * report->texts is how many rows were done, nulls too, and report->at the number of the refused row.
+ * Interns a column with nulls: as lasso_intern_batch, but a null has the code null, and no text is interned for it.
+ * report->texts is how many rows were done, nulls included, and report->at the number of the refused row.
  *
- * present             the caller's, read: as in lasso_encode_nulls.
+ * present             read: as in lasso_encode_nulls.
  *
- * Status: LASSO_NO_INTERNER; LASSO_CODES_TOO_SHORT; LASSO_BITMAP_TOO_SHORT, and no text is interned; else as in
- * lasso_intern_batch.
+ * Returns LASSO_NO_INTERNER; LASSO_CODES_TOO_SHORT; LASSO_BITMAP_TOO_SHORT, if a row has no bit; else as
+ * lasso_intern_batch. With LASSO_BITMAP_TOO_SHORT no text is interned, and report->at is 0, not the row without a bit.
  */
 uint32_t lasso_intern_batch_nulls(struct lasso *lasso,
                                   const uint8_t *bytes, size_t bytes_length,
@@ -266,9 +268,9 @@ uint32_t lasso_intern_batch_nulls(struct lasso *lasso,
                                   struct lasso_report *report);
 
 /*
- * Looks a text up, and appends nothing: *code is its code.
+ * Looks up a text, and appends nothing: *code is its code.
  *
- * Status: LASSO_NOT_UTF8, LASSO_NO_INTERNER, LASSO_NO_SUCH_TEXT, else LASSO_DONE.
+ * Returns LASSO_NOT_UTF8, LASSO_NO_INTERNER, LASSO_NO_SUCH_TEXT, else LASSO_DONE.
  */
 uint32_t lasso_get(struct lasso *lasso, const uint8_t *text, size_t text_length, uint32_t *code);
 
@@ -276,14 +278,14 @@ uint32_t lasso_get(struct lasso *lasso, const uint8_t *text, size_t text_length,
 #define LASSO_ABSENT UINT32_MAX
 
 /*
- * Looks the texts of a layout up, and appends none: writes the code of each text in their order, and absent for a text that the
- * interner does not have. With LASSO_ABSENT as absent these can be told apart. report->texts is the number of texts, and
+ * Looks up the texts of a layout, and appends none: writes the code of each text in order, or absent for a text that
+ * the interner does not have. No text has the code LASSO_ABSENT. report->texts is the number of texts, and
  * report->bytes is 0.
  *
- * bytes, offsets      the caller's, read: as in lasso_encode.
- * codes               the caller's, written. codes_length counts codes, one for each text; it may be greater.
+ * bytes, offsets      read: as in lasso_encode.
+ * codes               written. codes_length counts codes, one for each text; it may be greater.
  *
- * The first of these that is so is the status: LASSO_NO_INTERNER; LASSO_CODES_TOO_SHORT; what is wrong with the layout, as in
+ * Returns the first that applies: LASSO_NO_INTERNER; LASSO_CODES_TOO_SHORT; what is wrong with the layout, as in
  * lasso_encode; else LASSO_DONE.
  */
 uint32_t lasso_get_batch(struct lasso *lasso,
@@ -294,25 +296,26 @@ uint32_t lasso_get_batch(struct lasso *lasso,
                          struct lasso_report *report);
 
 /*
- * Writes the text of a code as far as text_length bytes have room, with no end mark. *whole is how many bytes the whole text has.
+ * Writes the text of a code, cut to text_length bytes, without an end mark. *whole is how many bytes the whole text
+ * has.
  *
- * Status: LASSO_NO_INTERNER, LASSO_NO_SUCH_CODE, else LASSO_DONE, also where the text is cut.
+ * Returns LASSO_NO_INTERNER, LASSO_NO_SUCH_CODE, else LASSO_DONE, also if the text is cut.
  */
 uint32_t lasso_resolve(struct lasso *lasso, uint32_t code, uint8_t *text, size_t text_length, size_t *whole);
 
 /*
- * Writes the layout of the interner's texts from a code on, in the order of their codes. From 0 it is the whole dictionary, and
- * from the number of texts that a reader has, what the reader lacks. From a code that has no text on it is the layout of no text.
+ * Writes the layout of the interner's texts from a code on, in the order of their codes. From 0 it is the whole
+ * dictionary; from the number of texts that a reader has, it is what the reader lacks; from a code without a text, it
+ * is empty.
  *
- * bytes               the caller's, written: the texts' bytes. bytes_length counts bytes.
- * offsets             the caller's, written: positions in bytes; the first is 0. offsets_length counts
- *                     offsets, one more than texts.
+ * bytes               written: the texts' bytes. bytes_length counts bytes.
+ * offsets             written: positions in bytes; the first is 0. offsets_length counts offsets: texts and one more.
  *
- * Lengths may be greater. A call without room reports the sizes, as LASSO_.._TOO_SHORT does. To save an
- * interner write its dictionary; to load it, pass the dictionary to lasso_intern_batch of a new interner:
- * each text gets its code again.
+ * Outputs may be longer. A call without room reports the sizes, as LASSO_.._TOO_SHORT does. To save an interner,
+ * write its dictionary; to load it, pass the dictionary to lasso_intern_batch of a new interner: each text gets its
+ * code again.
  *
- * Status: LASSO_NO_INTERNER; LASSO_TOO_MANY_BYTES where the texts have more than 2^31 - 1 bytes, and report->at is 0;
+ * Returns LASSO_NO_INTERNER; LASSO_TOO_MANY_BYTES if the texts have more than 2^31 - 1 bytes, and report->at is 0;
  * LASSO_OFFSETS_TOO_SHORT; LASSO_BYTES_TOO_SHORT; else LASSO_DONE.
  */
 uint32_t lasso_dictionary(struct lasso *lasso, size_t from,
@@ -321,9 +324,8 @@ uint32_t lasso_dictionary(struct lasso *lasso, size_t from,
                           struct lasso_report *report);
 
 /*
- * The calls below are those without _large, for arrays of large strings, whose offsets have 64 bits. An offset is at least the one
- * before it, at most the number of bytes, and never negative. They have the same statuses and reports, and write the same; the
- * dictionary is refused as LASSO_TOO_MANY_BYTES where the texts have more than 2^63 - 1 bytes.
+ * The calls below are those without _large, for arrays of large strings, whose offsets have 64 bits. They have the same
+ * statuses and reports, and write the same; LASSO_TOO_MANY_BYTES means more than 2^63 - 1 bytes.
  */
 uint32_t lasso_intern_batch_large(struct lasso *lasso,
                                   const uint8_t *bytes, size_t bytes_length,
@@ -357,43 +359,44 @@ size_t lasso_len(struct lasso *lasso);
 /* How many bytes the interner's buckets of texts take. 0 without an interner. */
 size_t lasso_memory(struct lasso *lasso);
 
-/* How many bytes they may take. 0 without an interner. */
+/* How many bytes those buckets may take. 0 without an interner. */
 size_t lasso_limit(struct lasso *lasso);
 
 /*
- * Sets how many bytes the buckets may take. A limit below what they take is good: texts then have the room that is left in them.
+ * Sets how many bytes the buckets may take. The limit may be below what they take: then only the room that is left in
+ * them is used.
  *
- * Status: LASSO_NO_INTERNER, else LASSO_DONE.
+ * Returns LASSO_NO_INTERNER, else LASSO_DONE.
  */
 uint32_t lasso_set_limit(struct lasso *lasso, size_t limit);
 
 /*
- * Forgets every text. Codes begin from 0 again. The limit stays, and so do the buckets that are filled again.
+ * Forgets every text. Codes begin at 0 again. The limit stays, and so do the buckets that are filled again.
  *
- * Status: LASSO_NO_INTERNER, else LASSO_DONE.
+ * Returns LASSO_NO_INTERNER, else LASSO_DONE.
  */
 uint32_t lasso_clear(struct lasso *lasso);
 
-/* Gives the interner's memory back, if there is an interner. The handle is as LASSO_NONE then, so a second call does nothing. */
+/* Frees the interner, if there is one. The handle is then as LASSO_NONE, so a second call does nothing. */
 void lasso_free(struct lasso *lasso);
 
 /*
- * Writes what a status means, in ASCII and with no end mark, as far as there is room. It returns how many bytes the whole
- * text has. It serves any number: that of no status is "not a status".
+ * Writes what a status means, in ASCII without an end mark, cut to text_length bytes. Returns how many bytes the whole
+ * text has. Any number may be passed: one that is no status gives "not a status".
  *
  * status              a status, or any other number.
- * text                the caller's, written: as much of the meaning as fits. text_length counts bytes.
+ * text                written: as much of the meaning as fits. text_length counts bytes.
  */
 size_t lasso_status_text(uint32_t status, uint8_t *text, size_t text_length);
 
-/* The version of this header, 0.1.0: a million for each of its first number, 1000 for each of its second, and its third. */
+/* The version of this header, 0.1.0: 1000000 times its first number, 1000 times its second, and its third. */
 #define LASSO_VERSION 1000
 
 /* The version of the library that is linked, in the same form. */
 uint32_t lasso_version(void);
 
 /*
- * The calls by their names, with NULL for an array of no elements. The library itself never gets NULL.
+ * The same calls, with NULL allowed for an array of no elements. The library itself never gets NULL.
  */
 static inline const void *lasso_read_from(const void *array, size_t length)
 {

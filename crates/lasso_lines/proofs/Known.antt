@@ -38,7 +38,7 @@ took_more before mid after bytes rest others n grown took split =
     grows_then before mid after (λ part. part ++ rest ≡ bytes) (λ part. part ≡ take n rest) (λ part. part ++ others ≡ bytes) grown took (λ p q first second.
     append_assoc p q others ∙ ap (λ bs. p ++ bs) (ap (λ bs. bs ++ others) second ∙ split) ∙ first)
 
-begins_split : (p q rest bytes : List ℕ) → p ++ rest ≡ bytes → Begins q rest → Begins (p ++ q) bytes
+pub begins_split : (p q rest bytes : List ℕ) → p ++ rest ≡ bytes → Begins q rest → Begins (p ++ q) bytes
 begins_split p q rest bytes whole b = (b.0, sym whole ∙ ap (λ bs. p ++ bs) b.1 ∙ sym (append_assoc p q b.0))
 
 begins_first : (part front back : List ℕ) → Begins part front → Begins part (front ++ back)

@@ -1,4 +1,6 @@
 pub mod Known
+pub mod FailedCalls
+pub mod EndFaults
 pub mod Lines
 pub mod Ways
 pub mod Cuts

@@ -9,7 +9,7 @@ use Rattle.lasso_bench.proofs.shared.fill.Goals as goal
 -- no text is there yet
 pub loop-number-init : goal.loop-number-init
 loop-number-init g c =
-    let none : list_of c.args.shelf.now.log c.args.spine.notes ≡ [] = ap (λ o. list_of o c.args.spine.notes) (sym c.requires.0) ∙ c.requires.1 in
+    let none : list_of c.args.log.now c.args.spine.notes ≡ [] = ap (λ o. list_of o c.args.spine.notes) (sym c.requires.0) ∙ c.requires.1 in
     (c.pass-pass.ensures.of, c.requires.0, λ m past fits. ap (λ ts. position_of ts (named m)) none)
 
 pub reserve_next-requires : goal.reserve_next-requires
@@ -20,7 +20,7 @@ append_static-requires-clause-of g c = (c.loop-number.invariant.0, c.reserve_nex
 
 pub append_static-requires-clause-may : goal.append_static-requires-clause-may
 append_static-requires-clause-may g c =
-    let log = c.args.shelf.now.log in
+    let log = c.args.log.now in
     let n = c.loop-number.number in
     let same = c.reserve_next.ensures.same in
     let list = list_of log c.loop-number.spine.notes in
@@ -35,7 +35,7 @@ append_static-requires-clause-may g c =
 
 pub loop-number-preserved : goal.loop-number-preserved
 loop-number-preserved g c =
-    let log = c.args.shelf.now.log in
+    let log = c.args.log.now in
     let n = c.loop-number.number in
     let same = c.reserve_next.ensures.same in
     let a = c.append_static.ensures in

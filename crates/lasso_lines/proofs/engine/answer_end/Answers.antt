@@ -2,7 +2,8 @@ use Rattle.std.proofs.Common.{arith}
 use Rattle.std.proofs.lemmas.Grind.{common_steps}
 use Rattle.std.proofs.lemmas.Result.{err_from_is_err_and}
 use Rattle.lasso_lines.specs.Report.{holding}
-use Rattle.lasso_lines.proofs.Known.{grows_as, grows_then}
+use Rattle.lasso_lines.proofs.FailedCalls.{then_failed}
+use Rattle.lasso_lines.proofs.Known.{grows_as, grows_then, only_grows_then, write_fault}
 use Rattle.lasso_lines.proofs.Ways.{last_fails, last_then, no_last}
 use Rattle.lasso_lines.proofs.engine.answer_end.Goals as goal
 
@@ -22,3 +23,34 @@ returns-clause-answers g c =
     let before = holding c.args.rodeo.now.texts c.args.rodeo.now.account in
     let after = holding c.answer_line.new.rodeo.texts c.answer_line.new.rodeo.account in
     grows_then _ _ _ _ _ _ c.in_ok-answer_line.ensures.answers c.answer_counts-2.ensures.bytes (λ part more answered wrote. last_then before after c.args.number c.args.line.now _ part more (grind (arith, common_steps)) answered wrote)
+
+pub returns-then-is_empty-clause-failures : goal.returns-then-is_empty-clause-failures
+returns-then-is_empty-clause-failures g c = c.answer_counts.ensures.failures
+
+pub returns-then-is_empty-clause-delivered : goal.returns-then-is_empty-clause-delivered
+returns-then-is_empty-clause-delivered g c = c.answer_counts.ensures.delivered
+
+pub returns-then-is_empty-clause-faults : goal.returns-then-is_empty-clause-faults
+returns-then-is_empty-clause-faults g c = write_fault _ c.answer_counts.ensures.faults
+
+pub returns-in_err-answer_line-clause-failures : goal.returns-in_err-answer_line-clause-failures
+returns-in_err-answer_line-clause-failures g c =
+    let p = err_from_is_err_and c.from_residual.result c.from_residual.ensures.1 in
+    rw (p.1, p.2) c.in_err-answer_line.ensures.failures
+
+pub returns-in_err-answer_line-clause-delivered : goal.returns-in_err-answer_line-clause-delivered
+returns-in_err-answer_line-clause-delivered g c = c.answer_line.ensures.delivered
+
+pub returns-in_err-answer_line-clause-faults : goal.returns-in_err-answer_line-clause-faults
+returns-in_err-answer_line-clause-faults g c =
+    let p = err_from_is_err_and c.from_residual.result c.from_residual.ensures.1 in
+    rw (p.1, p.2) c.in_err-answer_line.ensures.faults
+
+pub returns-clause-failures : goal.returns-clause-failures
+returns-clause-failures g c = then_failed _ _ _ _ c.in_ok-answer_line.ensures.failures c.answer_counts-2.ensures.failures
+
+pub returns-clause-delivered : goal.returns-clause-delivered
+returns-clause-delivered g c = only_grows_then _ _ _ c.answer_line.ensures.delivered c.answer_counts-2.ensures.delivered
+
+pub returns-clause-faults : goal.returns-clause-faults
+returns-clause-faults g c = write_fault _ c.answer_counts-2.ensures.faults

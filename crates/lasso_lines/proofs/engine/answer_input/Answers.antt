@@ -4,6 +4,8 @@ use Rattle.std.proofs.lemmas.Grind.{common_steps}
 use Rattle.lasso_lines.specs.Report.{Ends, EndsFrom, holding}
 use Rattle.lasso_lines.specs.Answer.{last_lines}
 use Rattle.lasso_lines.specs.declared.fault.RunFault.TheVariants.{Refused}
+use Rattle.lasso_lines.proofs.EndFaults.{answer_reads, answer_no_read, answer_no_usage, stream_no_usage}
+use Rattle.lasso_lines.proofs.FailedCalls.{none_failed}
 use Rattle.lasso_lines.proofs.Known.{nothing_more, grows_then, grows_stays, stays_grows, only_grows_then, on_ok}
 use Rattle.lasso_lines.proofs.Ways.{OnTheWay, way_goes_on, way_shown, way_fails, way_stops, way_ended, stream_ends}
 use Rattle.lasso_lines.proofs.engine.answer_input.Goals as goal
@@ -103,3 +105,45 @@ stretches-preserved g c =
                 way_goes_on input c.args.limits held after c.stretches.number number c.stretches.begun.items buffer begun ahead.0 part reply (c.buffer-buffer.ensures.first ahead.0 ahead.1) way leads)) c.ask_for_more.ensures.written (λ part way. way),
           );
     }
+
+-- ---- the counts of failed calls, and what is pending
+
+pub returns-in-Err-clause-reads : goal.returns-in-Err-clause-reads
+returns-in-Err-clause-reads g c = none_failed _ _ refl
+
+pub returns-in-Err-clause-writes : goal.returns-in-Err-clause-writes
+returns-in-Err-clause-writes g c = none_failed _ _ refl
+
+pub returns-in-Err-clause-delivered : goal.returns-in-Err-clause-delivered
+returns-in-Err-clause-delivered g c = nothing_more _ _ tt
+
+pub returns-in_err-number-clause-reads : goal.returns-in_err-number-clause-reads
+returns-in_err-number-clause-reads g c =
+    let p = err_from_is_err_and c.from_residual.result c.from_residual.ensures.1 in
+    rw (p.1, p.2) (answer_reads _ _ (Err c.in_err-number.field-0.0) c.in_err-number.ensures.faults (none_failed _ _ c.stretches.invariant.reads))
+
+pub returns-in_err-number-clause-flushed : goal.returns-in_err-number-clause-flushed
+returns-in_err-number-clause-flushed g c =
+    let p = err_from_is_err_and c.from_residual.result c.from_residual.ensures.1 in
+    rw (p.1, p.2) (λ failed. absurd (answer_no_read (Err c.in_err-number.field-0.0) c.in_err-number.ensures.faults failed))
+
+pub returns-in_err-number-clause-no_usage : goal.returns-in_err-number-clause-no_usage
+returns-in_err-number-clause-no_usage g c =
+    let p = err_from_is_err_and c.from_residual.result c.from_residual.ensures.1 in
+    rw (p.1, p.2) (answer_no_usage (Err c.in_err-number.field-0.0) c.in_err-number.ensures.faults)
+
+pub returns-in_err-ask_for_more-clause-flushed : goal.returns-in_err-ask_for_more-clause-flushed
+returns-in_err-ask_for_more-clause-flushed g c =
+    let p = err_from_is_err_and c.from_residual-in_err-ask_for_more.result c.from_residual-in_err-ask_for_more.ensures.1 in
+    rw (p.1, p.2) (λ failed. c.in_err-ask_for_more.ensures.flushed (λ other. cc (failed, other)))
+
+pub returns-in_err-ask_for_more-clause-no_usage : goal.returns-in_err-ask_for_more-clause-no_usage
+returns-in_err-ask_for_more-clause-no_usage g c =
+    let p = err_from_is_err_and c.from_residual-in_err-ask_for_more.result c.from_residual-in_err-ask_for_more.ensures.1 in
+    rw (p.1, p.2) (stream_no_usage (Err c.in_err-ask_for_more.field-0.0) c.in_err-ask_for_more.ensures.faults)
+
+pub returns-then-is_empty-clause-flushed : goal.returns-then-is_empty-clause-flushed
+returns-then-is_empty-clause-flushed g c = λ failed. absurd (answer_no_read c.answer_end.result c.answer_end.ensures.faults failed)
+
+pub returns-then-is_empty-clause-no_usage : goal.returns-then-is_empty-clause-no_usage
+returns-then-is_empty-clause-no_usage g c = answer_no_usage c.answer_end.result c.answer_end.ensures.faults

@@ -1,9 +1,10 @@
-use Rattle.std.proofs.Common.{◌≡◌, ◌+◌, ◌∷◌, [], ◌++◌, ◌∙◌, Err, Bor, ℕ, take, drop, map, ap, sym, arith}
+use Rattle.std.proofs.Common.{◌≡◌, ◌+◌, ◌∷◌, [], ◌++◌, ◌∙◌, Err, Bor, ℕ, take, drop, map, ap, sym, refl, arith}
 use Rattle.std.proofs.lemmas.List.{take_all, length-map}
 use Rattle.std.proofs.lemmas.Result.{err_from_is_err_and}
 use Rattle.lasso_parts.specs.Texts.{Text}
 use Rattle.lasso_lines.specs.Ordered.{told}
-use Rattle.lasso_lines.proofs.Known.{grows_as, grows_then, front_then, front_fails, only_grows_then}
+use Rattle.lasso_lines.proofs.FailedCalls.{then_failed, none_failed}
+use Rattle.lasso_lines.proofs.Known.{nothing_more, grows_as, grows_then, front_then, front_fails, only_grows_then}
 use Rattle.lasso_lines.proofs.Told.{told_next, told_rest}
 use Rattle.lasso_lines.proofs.ordered.write_texts.Goals as goal
 
@@ -35,3 +36,25 @@ returns-clause-texts g c =
     let texts = map (λ (p : ℕ × Bor Text). p.1.now) c.args.texts.now in
     let whole : take c.lines.text-index texts ≡ texts = take_all c.lines.text-index texts (omega (arith, length-map c.args.texts.now (λ (p : ℕ × Bor Text). p.1.now), c.lines-test.false)) in
     grows_as _ _ _ _ c.lines.invariant.texts (λ part is. is ∙ ap told whole)
+
+pub lines-init : goal.lines-init
+lines-init g c = record { writes = refl; delivered = nothing_more _ _ tt; texts = nothing_more _ _ refl }
+
+pub returns-in_err-write_line-clause-writes : goal.returns-in_err-write_line-clause-writes
+returns-in_err-write_line-clause-writes g c =
+    let p = err_from_is_err_and c.from_residual.result c.from_residual.ensures.1 in
+    rw (p.1, p.2) (then_failed _ _ _ _ (none_failed _ _ c.lines.invariant.writes) c.in_err-write_line.ensures.failures)
+
+pub returns-in_err-write_line-clause-delivered : goal.returns-in_err-write_line-clause-delivered
+returns-in_err-write_line-clause-delivered g c = only_grows_then _ _ _ c.lines.invariant.delivered c.write_line.ensures.delivered
+
+pub returns-in_err-write_line-clause-faults : goal.returns-in_err-write_line-clause-faults
+returns-in_err-write_line-clause-faults g c =
+    let p = err_from_is_err_and c.from_residual.result c.from_residual.ensures.1 in
+    rw (p.1, p.2) c.in_err-write_line.ensures.faults
+
+pub returns-clause-writes : goal.returns-clause-writes
+returns-clause-writes g c = none_failed _ _ c.lines.invariant.writes
+
+pub returns-clause-delivered : goal.returns-clause-delivered
+returns-clause-delivered g c = c.lines.invariant.delivered

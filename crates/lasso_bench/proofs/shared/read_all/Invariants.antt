@@ -1,6 +1,6 @@
 use Rattle.std.proofs.Common.{◌≡◌}
-use Rattle.lasso_bench.proofs.shared.LogSpurSharedTexts.read_all.Given as goal
+use Rattle.lasso_bench.proofs.shared.read_all.Given as goal
 
 -- the pass stays one of the log
 abbrev pub invariant-loop-position : goal.invariant-loop-position
-invariant-loop-position l = l.pass.of ≡ l.self
+invariant-loop-position l = l.pass.of ≡ l.log
