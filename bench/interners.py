@@ -1,11 +1,12 @@
 """Prints the rows of one input in the table of interners that threads share: `interners.py INPUT`, with lines `PROGRAM CALL THREADS NANOSECONDS` of
 all rounds on standard input, and lines `PROGRAM peak whole KIB` and `PROGRAM peak empty KIB`. `interners.py` alone prints the head of the table.
 
-Each figure is the least of its rounds, with the ratio of ours to each rival. A plain call of ours is compared with the same call of the rivals."""
+Each figure is the least of its rounds, with the ratio of ours to each rival. A plain call of ours is compared with the same call of the rivals, and so is
+one of a pass with hints."""
 
 import sys
 
-CALLS = ("present", "plain_present", "new", "resolve", "plain_resolve", "intern")
+CALLS = ("present", "hinted_present", "plain_present", "new", "hinted_new", "resolve", "plain_resolve", "intern", "hinted_intern")
 THREADS = ("1", "2", "4")
 RIVALS = ("maps", "locked", "list", "lockless")
 
@@ -54,7 +55,7 @@ def print_row(name, call, threads, ours, others, form=".1f"):
 
 def print_calls(name, least):
     for call in CALLS:
-        same = call.removeprefix("plain_")
+        same = call.removeprefix("plain_").removeprefix("hinted_")
         for threads in THREADS:
             if ("ours", call, threads) in least:
                 others = [least.get((rival, same, threads)) for rival in RIVALS]

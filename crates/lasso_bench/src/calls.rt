@@ -1,5 +1,8 @@
 //! Calls of an interner that threads share, with a pass and plain, over many texts or keys.
+ghost use Rattle.std.specs.Prelude.{◌≡◌};
+
 use anyhow::Result;
+use lasso::log::Pass;
 use lasso::{Key, Spur, SpurThreadedRodeo, ThreadedRodeo};
 use std::io::BufRead;
 use std::sync::Wait;
@@ -7,7 +10,11 @@ use std::sync::Wait;
 /// A way to call an interner that threads share.
 pub trait Calls: Sync {
     /// Interns the texts, and answers the sum of their positions, or `None` where one was refused.
-    fn intern_all<R: Wait>(rt: &R, rodeo: &SpurThreadedRodeo, texts: &[String]) -> Option<usize>;
+    fn intern_all<R: AllocGlobal + Wait>(
+        rt: &R,
+        rodeo: &SpurThreadedRodeo,
+        texts: &[String],
+    ) -> Option<usize>;
 
     /// Resolves the keys, and answers the sum of their texts' lengths, in bytes.
     fn resolve_all(rodeo: &SpurThreadedRodeo, keys: &[Spur]) -> usize;
@@ -17,16 +24,12 @@ pub trait Calls: Sync {
 pub struct WithPass;
 
 impl Calls for WithPass {
-    fn intern_all<R: Wait>(rt: &R, rodeo: &SpurThreadedRodeo, texts: &[String]) -> Option<usize> {
-        let mut pass = rodeo.pass();
-        let mut sum = 0usize;
-        for text in texts {
-            let Ok(key) = rodeo.try_get_or_intern_as(rt, &mut pass, text.as_str()) else {
-                return None;
-            };
-            sum = sum.wrapping_add(key.into_usize());
-        }
-        Some(sum)
+    fn intern_all<R: AllocGlobal + Wait>(
+        rt: &R,
+        rodeo: &SpurThreadedRodeo,
+        texts: &[String],
+    ) -> Option<usize> {
+        intern_by(rt, rodeo, &mut rodeo.pass(), texts)
     }
 
     fn resolve_all(rodeo: &SpurThreadedRodeo, keys: &[Spur]) -> usize {
@@ -41,11 +44,51 @@ impl Calls for WithPass {
     }
 }
 
+/// All calls with one pass, which keeps hints.
+pub struct WithHints;
+
+impl Calls for WithHints {
+    fn intern_all<R: AllocGlobal + Wait>(
+        rt: &R,
+        rodeo: &SpurThreadedRodeo,
+        texts: &[String],
+    ) -> Option<usize> {
+        intern_by(rt, rodeo, &mut rodeo.pass_with_hints(rt.alloc()), texts)
+    }
+
+    fn resolve_all(rodeo: &SpurThreadedRodeo, keys: &[Spur]) -> usize {
+        WithPass::resolve_all(rodeo, keys)
+    }
+}
+
+// Interns the texts with the pass, and answers the sum of their positions, or `None` where one was refused.
+fn intern_by<R: Wait>(
+    rt: &R,
+    rodeo: &SpurThreadedRodeo,
+    pass: &mut Pass<Spur>,
+    texts: &[String],
+) -> Option<usize>
+    requires { pass.old.of ≡ rodeo.now }
+{
+    let mut sum = 0usize;
+    for text in texts {
+        let Ok(key) = rodeo.try_get_or_intern_as(rt, pass, text.as_str()) else {
+            return None;
+        };
+        sum = sum.wrapping_add(key.into_usize());
+    }
+    Some(sum)
+}
+
 /// Plain calls, each with a pass of its own.
 pub struct Plain;
 
 impl Calls for Plain {
-    fn intern_all<R: Wait>(rt: &R, rodeo: &SpurThreadedRodeo, texts: &[String]) -> Option<usize> {
+    fn intern_all<R: AllocGlobal + Wait>(
+        rt: &R,
+        rodeo: &SpurThreadedRodeo,
+        texts: &[String],
+    ) -> Option<usize> {
         let mut sum = 0usize;
         for text in texts {
             let Ok(key) = rodeo.try_get_or_intern(rt, text.as_str()) else {

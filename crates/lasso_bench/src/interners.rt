@@ -61,8 +61,8 @@ fn time_calls<C: Calls, R: AllocGlobal + Clock + Threads + Wait + Sync>(
     Ok(timings)
 }
 
-/// What each call that fills an interner took in one round, with a pass for each thread. It fails as `time_filled` does.
-pub fn time_filling<R: AllocGlobal + Clock + Threads + Wait + Sync>(
+/// What each call that fills an interner took in one round. It fails as `time_filled` does.
+pub fn time_filling<C: Calls, R: AllocGlobal + Clock + Threads + Wait + Sync>(
     rt: &R,
     lines: &Lines,
 ) -> Result<FillingTimings> {
@@ -71,8 +71,8 @@ pub fn time_filling<R: AllocGlobal + Clock + Threads + Wait + Sync>(
         intern: [u64::MAX; 3],
     };
     for at in 0..3usize {
-        timings.new[at] = time_new(rt, lines, THREADS[at])?;
-        timings.intern[at] = time_intern(rt, lines, THREADS[at])?;
+        timings.new[at] = time_new::<C, R>(rt, lines, THREADS[at])?;
+        timings.intern[at] = time_intern::<C, R>(rt, lines, THREADS[at])?;
     }
     Ok(timings)
 }
@@ -129,33 +129,33 @@ fn time_resolve<C: Calls, R: AllocGlobal + Clock + Threads + Sync>(
 }
 
 // Has `threads` threads intern the distinct lines, each a part of them, in a new interner.
-fn time_new<R: AllocGlobal + Clock + Threads + Wait + Sync>(
+fn time_new<C: Calls, R: AllocGlobal + Clock + Threads + Wait + Sync>(
     rt: &R,
     lines: &Lines,
     threads: usize,
 ) -> Result<u64> {
     let rodeo = ThreadedRodeo::default(rt.alloc())?;
-    let (sum, tenths) = time_parts(rt, &rodeo, &lines.distinct, threads)?;
+    let (sum, tenths) = time_parts::<C, R>(rt, &rodeo, &lines.distinct, threads)?;
     let are_keys = sum == sum_of_positions(lines.distinct.len());
     ensure_so(are_keys, "a key is wrong")?;
     Ok(tenths)
 }
 
 // Has `threads` threads intern the lines, each a part of them, in a new interner.
-fn time_intern<R: AllocGlobal + Clock + Threads + Wait + Sync>(
+fn time_intern<C: Calls, R: AllocGlobal + Clock + Threads + Wait + Sync>(
     rt: &R,
     lines: &Lines,
     threads: usize,
 ) -> Result<u64> {
     let rodeo = ThreadedRodeo::default(rt.alloc())?;
-    let (_, tenths) = time_parts(rt, &rodeo, &lines.texts, threads)?;
+    let (_, tenths) = time_parts::<C, R>(rt, &rodeo, &lines.texts, threads)?;
     ensure_so(rodeo.len() == lines.distinct.len(), "a text is wrong")?;
     Ok(tenths)
 }
 
 // Has `threads` threads intern the texts, each a part of them. Returns the sum of their positions, and what a
 // call takes each thread.
-fn time_parts<R: AllocGlobal + Clock + Threads + Wait + Sync>(
+fn time_parts<C: Calls, R: AllocGlobal + Clock + Threads + Wait + Sync>(
     rt: &R,
     rodeo: &SpurThreadedRodeo,
     texts: &[String],
@@ -168,7 +168,7 @@ fn time_parts<R: AllocGlobal + Clock + Threads + Wait + Sync>(
         rt.alloc(),
         texts,
         size,
-        &|_, part| WithPass::intern_all(rt, rodeo, part),
+        &|_, part| C::intern_all(rt, rodeo, part),
     )?;
     let elapsed = start.elapsed(rt)?;
     Ok((sum_of_parts(&sums)?, tenths_a_call(elapsed, size)))

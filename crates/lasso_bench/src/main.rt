@@ -27,7 +27,7 @@ mod timing;
 mod walks;
 
 use anyhow::{Result, bail};
-use calls::{Plain, WithPass, fill};
+use calls::{Plain, WithHints, WithPass, fill};
 use collide::time_collisions;
 use columns::{ColumnTimings, MOST_THREADS, WORKERS, time_columns};
 use copying::{COPIES, best_copy_timings};
@@ -278,15 +278,20 @@ fn print_shared_calls<R: AllocGlobal + Clock + Print + Threads + Wait + Sync>(
     rt: &R,
     lines: &Lines,
 ) -> Result<()> {
-    let filling = time_filling(rt, lines)?;
+    let filling = time_filling::<WithPass, R>(rt, lines)?;
+    let hinted_filling = time_filling::<WithHints, R>(rt, lines)?;
     let with_pass = time_filled::<WithPass, R>(rt, lines)?;
+    let with_hints = time_filled::<WithHints, R>(rt, lines)?;
     let plain = time_filled::<Plain, R>(rt, lines)?;
     print_calls(rt, "present", with_pass.present)?;
+    print_calls(rt, "hinted_present", with_hints.present)?;
     print_calls(rt, "plain_present", plain.present)?;
     print_calls(rt, "new", filling.new)?;
     print_calls(rt, "resolve", with_pass.resolve)?;
     print_calls(rt, "plain_resolve", plain.resolve)?;
-    print_calls(rt, "intern", filling.intern)
+    print_calls(rt, "intern", filling.intern)?;
+    print_calls(rt, "hinted_new", hinted_filling.new)?;
+    print_calls(rt, "hinted_intern", hinted_filling.intern)
 }
 
 // Prints a line for each number of threads, with the time of a call, which is given in tenths of a nanosecond.

@@ -1,6 +1,6 @@
 //! Everything that is timed, once over a few texts: what the calls answer is printed, so that a stored run
 //! can be compared with it. Each timing fails on its own if an answer is wrong.
-use crate::calls::{Calls, Plain, WithPass, fill};
+use crate::calls::{Calls, Plain, WithHints, WithPass, fill};
 use crate::collide::time_collisions;
 use crate::columns::time_columns;
 use crate::copying::best_copy_timings;
@@ -180,6 +180,7 @@ fn print_interners<R: AllocGlobal + Clock + Print + Threads + Wait + Sync>(rt: &
     let count = fill(rt, LINES.as_bytes())?;
     println!(rt; "filled: {count} texts")?;
     print_calls::<WithPass, R>(rt, "with a pass")?;
+    print_calls::<WithHints, R>(rt, "with hints")?;
     print_calls::<Plain, R>(rt, "plain")
 }
 
@@ -188,8 +189,10 @@ fn time_interners<R: AllocGlobal + Clock + Threads + Wait + Sync>(
     rt: &R,
     lines: &Lines,
 ) -> Result<()> {
-    time_filling(rt, lines)?;
+    time_filling::<WithPass, _>(rt, lines)?;
+    time_filling::<WithHints, _>(rt, lines)?;
     time_filled::<WithPass, _>(rt, lines)?;
+    time_filled::<WithHints, _>(rt, lines)?;
     time_filled::<Plain, _>(rt, lines)?;
     Ok(())
 }
@@ -202,7 +205,7 @@ fn print_calls<C: Calls, R: AllocGlobal + Print + Wait>(rt: &R, name: &str) -> R
 }
 
 // Prints the sum of the positions that the texts are interned at, and of the lengths that a key is resolved to.
-fn print_called<C: Calls, R: Print + Wait>(
+fn print_called<C: Calls, R: AllocGlobal + Print + Wait>(
     rt: &R,
     rodeo: &SpurThreadedRodeo,
     texts: &[String],
