@@ -1,6 +1,10 @@
 //! A table of times, which is printed line by line.
 use crate::timing::Tenths;
 use anyhow::{Result, bail};
+use std::fmt::Debug;
+
+// The fault of a line that can't be written.
+const NOT_WRITTEN: &str = "standard output failed";
 
 /// The lines of a table so far. The first fault ends it: no line is printed after that.
 #[derive(Drop)]
@@ -18,7 +22,7 @@ impl Table {
         }
     }
 
-    /// A table that prints no line, and keeps the first fault alone.
+    /// A table that prints no time, and keeps the first fault alone.
     pub fn checked() -> Table {
         Table {
             is_printed: false,
@@ -35,6 +39,13 @@ impl Table {
         match tenths {
             Ok(tenths) => self.print(rt, call, number, tenths),
             Err(fault) => self.fail(fault),
+        }
+    }
+
+    /// Prints a line of a name and what calls answered, even if the table prints no times.
+    pub fn tell<D: Debug>(&mut self, rt: &impl Print, name: &str, answers: &D) {
+        if self.fault.is_none() && println!(rt; "{name}: {answers:?}").is_err() {
+            self.fail(NOT_WRITTEN);
         }
     }
 
@@ -56,7 +67,7 @@ impl Table {
     // Prints a line with the time, in tenths of a nanosecond, unless the table prints none.
     fn print(&mut self, rt: &impl Print, call: &str, number: usize, tenths: u64) {
         if self.is_printed && !is_written(rt, call, number, tenths) {
-            self.fail("standard output failed");
+            self.fail(NOT_WRITTEN);
         }
     }
 }
