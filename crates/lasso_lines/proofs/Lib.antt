@@ -22,3 +22,4 @@ pub mod FirstFaults
 pub mod Refusals
 pub mod Lowest
 pub mod Explaining
+pub mod WorkerFaults

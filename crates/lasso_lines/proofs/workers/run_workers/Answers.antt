@@ -1,4 +1,4 @@
-use Rattle.std.proofs.Common.{ℕ, ◌++◌, ◌∙◌, List, ap, sym, subst}
+use Rattle.std.proofs.Common.{ℕ, ◌≡◌, ◌++◌, ◌∙◌, List, Err, ap, sym, subst, refl}
 use Rattle.std.proofs.lemmas.Result.{err_from_is_err_and}
 use Rattle.lasso_parts.specs.Texts.{Text}
 use Rattle.lasso_encode.specs.Encoding.{spur_at}
@@ -6,38 +6,64 @@ use Rattle.lasso_cut.specs.Lines.{lines_of}
 use Rattle.lasso_log.specs.History.{Totals, IsLegal}
 use Rattle.lasso_log.specs.Views.{list_of, seen}
 use Rattle.lasso_lines.specs.Explained.{IsExplainedIn}
+use Rattle.lasso_lines.specs.Stream.{written}
+use Rattle.lasso_lines.specs.declared.fault.RunFault.{RunFault}
+use Rattle.lasso_lines.specs.declared.fault.RunFault.TheVariants.{WriteFailed}
 use Rattle.lasso_lines.specs.LineFaults.{AreTexts, IsFaultOf}
 use Rattle.lasso_lines.specs.Shares.{AreCodesOf}
 use Rattle.lasso_lines.proofs.Explaining.{no_interner_explained, input_explained, write_explained, end_explained}
 use Rattle.lasso_lines.proofs.FirstFaults.{no_interner, input_fault_is, end_fault_is, where_ok}
-use Rattle.lasso_lines.proofs.Known.{only_grows_then}
+use Rattle.lasso_lines.proofs.WorkerFaults.{input_writes, input_no_write, input_no_usage, line_reads, line_writes, line_no_write, line_no_usage, end_reads, end_no_usage, kept_pending, kept_written}
+use Rattle.lasso_lines.proofs.FailedCalls.{then_failed, none_failed}
+use Rattle.lasso_lines.proofs.Known.{nothing_more, stays_grows, only_grows_then}
 use Rattle.lasso_lines.proofs.Named.{writes_lines, begins_lines}
 use Rattle.lasso_lines.proofs.workers.run_workers.Goals as goal
-
-pub returns-clause-lines : goal.returns-clause-lines
-returns-clause-lines g c = λ input left.
-    let list = list_of c.in_ok-rodeo.rodeo c.intern_lines.new.pass.notes in
-    let whole = c.deref.ensures.value ∙ c.in_ok-read_all.ensures.bytes input left ∙ ap (λ bs. bs ++ input) c.new-input.ensures.items in
-    let of_lines = subst (λ (ls : List Text). AreCodesOf list ls c.in_ok-codes.codes.items) (ap lines_of whole) c.in_ok-codes.ensures.codes in
-    let coded = subst (λ (cs : List ℕ). AreCodesOf list (lines_of input) cs) (sym c.deref-2.ensures.value) of_lines in
-    writes_lines list _ (lines_of input) _ c.write_in_order.ensures.grows coded _ _ _ c.write_in_order.result c.flush_all.ensures.written c.write_in_order.ensures.texts
-
-pub returns-clause-begins : goal.returns-clause-begins
-returns-clause-begins g c = λ input left.
-    let list = list_of c.in_ok-rodeo.rodeo c.intern_lines.new.pass.notes in
-    let whole = c.deref.ensures.value ∙ c.in_ok-read_all.ensures.bytes input left ∙ ap (λ bs. bs ++ input) c.new-input.ensures.items in
-    let of_lines = subst (λ (ls : List Text). AreCodesOf list ls c.in_ok-codes.codes.items) (ap lines_of whole) c.in_ok-codes.ensures.codes in
-    let coded = subst (λ (cs : List ℕ). AreCodesOf list (lines_of input) cs) (sym c.deref-2.ensures.value) of_lines in
-    begins_lines list _ (lines_of input) _ c.write_in_order.ensures.grows coded _ _ _ c.write_in_order.result c.flush_all.ensures.written c.write_in_order.ensures.begins
-
-pub returns-clause-delivered : goal.returns-clause-delivered
-returns-clause-delivered g c = only_grows_then _ _ _ c.flush_all.ensures.delivered c.write_in_order.ensures.delivered
 
 -- the pending bytes could not be written
 pub returns-in_err-flush_all-clause-refused : goal.returns-in_err-flush_all-clause-refused
 returns-in_err-flush_all-clause-refused g c = λ input left.
     let p = err_from_is_err_and c.from_residual.result c.from_residual.ensures.1 in
     rw (p.1, p.2) (write_explained c.args.limits (lines_of input) _ c.in_err-flush_all.ensures.faults)
+
+pub returns-in_err-flush_all-clause-fault : goal.returns-in_err-flush_all-clause-fault
+returns-in_err-flush_all-clause-fault g c =
+    let p = err_from_is_err_and c.from_residual.result c.from_residual.ensures.1 in
+    rw (p.1, p.2, c.in_err-flush_all.ensures.faults) (λ input left. tt)
+
+pub returns-in_err-flush_all-clause-reads : goal.returns-in_err-flush_all-clause-reads
+returns-in_err-flush_all-clause-reads g c =
+    let p = err_from_is_err_and c.from_residual.result c.from_residual.ensures.1 in
+    rw (p.1, p.2, c.in_err-flush_all.ensures.faults) (none_failed _ _ refl)
+
+pub returns-in_err-flush_all-clause-writes : goal.returns-in_err-flush_all-clause-writes
+returns-in_err-flush_all-clause-writes g c =
+    let p = err_from_is_err_and c.from_residual.result c.from_residual.ensures.1 in
+    rw (p.1, p.2) c.in_err-flush_all.ensures.failures
+
+pub returns-in_err-flush_all-clause-nothing_pending : goal.returns-in_err-flush_all-clause-nothing_pending
+returns-in_err-flush_all-clause-nothing_pending g c =
+    let p = err_from_is_err_and c.from_residual.result c.from_residual.ensures.1 in
+    let failed : c.from_residual.result ≡ Err WriteFailed = p.1 ∙ ap (λ (f : RunFault). Err f) (p.2 ∙ c.in_err-flush_all.ensures.faults) in
+    λ unless. absurd (unless failed)
+
+pub returns-in_err-flush_all-clause-delivered : goal.returns-in_err-flush_all-clause-delivered
+returns-in_err-flush_all-clause-delivered g c = c.flush_all.ensures.delivered
+
+pub returns-in_err-flush_all-clause-nothing_written : goal.returns-in_err-flush_all-clause-nothing_written
+returns-in_err-flush_all-clause-nothing_written g c =
+    let p = err_from_is_err_and c.from_residual.result c.from_residual.ensures.1 in
+    rw p.1 (λ unless. c.flush_all.ensures.written)
+
+pub returns-in_err-flush_all-clause-no_usage : goal.returns-in_err-flush_all-clause-no_usage
+returns-in_err-flush_all-clause-no_usage g c =
+    let p = err_from_is_err_and c.from_residual.result c.from_residual.ensures.1 in
+    let failed : c.from_residual.result ≡ Err WriteFailed = p.1 ∙ ap (λ (f : RunFault). Err f) (p.2 ∙ c.in_err-flush_all.ensures.faults) in
+    λ usage. cc (failed, usage)
+
+pub returns-in_err-flush_all-clause-begins : goal.returns-in_err-flush_all-clause-begins
+returns-in_err-flush_all-clause-begins g c =
+    let p = err_from_is_err_and c.from_residual.result c.from_residual.ensures.1 in
+    rw p.1 (λ input left failed. stays_grows _ _ _ _ c.flush_all.ensures.written (nothing_more _ _ (λ some. absurd (some refl))))
 
 -- the input could not be read
 pub returns-in_err-read_all-clause-fault : goal.returns-in_err-read_all-clause-fault
@@ -50,6 +76,37 @@ returns-in_err-read_all-clause-refused g c = λ input left.
     let p = err_from_is_err_and c.from_residual-in_err-read_all.result c.from_residual-in_err-read_all.ensures.1 in
     rw (p.1, p.2) (input_explained c.args.limits (lines_of input) _ c.in_err-read_all.ensures.faults)
 
+pub returns-in_err-read_all-clause-reads : goal.returns-in_err-read_all-clause-reads
+returns-in_err-read_all-clause-reads g c =
+    let p = err_from_is_err_and c.from_residual-in_err-read_all.result c.from_residual-in_err-read_all.ensures.1 in
+    rw (p.1, p.2) c.in_err-read_all.ensures.reads
+
+pub returns-in_err-read_all-clause-writes : goal.returns-in_err-read_all-clause-writes
+returns-in_err-read_all-clause-writes g c =
+    let p = err_from_is_err_and c.from_residual-in_err-read_all.result c.from_residual-in_err-read_all.ensures.1 in
+    rw (p.1, p.2) (input_writes _ _ c.in_err-read_all.field-0.0 c.in_err-read_all.ensures.faults c.in_ok-flush_all.ensures.failures)
+
+pub returns-in_err-read_all-clause-nothing_pending : goal.returns-in_err-read_all-clause-nothing_pending
+returns-in_err-read_all-clause-nothing_pending g c = λ unless. c.in_ok-flush_all.ensures.all
+
+pub returns-in_err-read_all-clause-delivered : goal.returns-in_err-read_all-clause-delivered
+returns-in_err-read_all-clause-delivered g c = c.flush_all.ensures.delivered
+
+pub returns-in_err-read_all-clause-nothing_written : goal.returns-in_err-read_all-clause-nothing_written
+returns-in_err-read_all-clause-nothing_written g c =
+    let p = err_from_is_err_and c.from_residual-in_err-read_all.result c.from_residual-in_err-read_all.ensures.1 in
+    rw p.1 (λ unless. c.flush_all.ensures.written)
+
+pub returns-in_err-read_all-clause-no_usage : goal.returns-in_err-read_all-clause-no_usage
+returns-in_err-read_all-clause-no_usage g c =
+    let p = err_from_is_err_and c.from_residual-in_err-read_all.result c.from_residual-in_err-read_all.ensures.1 in
+    rw (p.1, p.2) (input_no_usage (Err c.in_err-read_all.field-0.0) c.in_err-read_all.ensures.faults)
+
+pub returns-in_err-read_all-clause-begins : goal.returns-in_err-read_all-clause-begins
+returns-in_err-read_all-clause-begins g c =
+    let p = err_from_is_err_and c.from_residual-in_err-read_all.result c.from_residual-in_err-read_all.ensures.1 in
+    rw (p.1, p.2) (λ input left failed. absurd (input_no_write c.in_err-read_all.field-0.0 c.in_err-read_all.ensures.faults failed))
+
 -- out of memory for the interner
 pub returns-in_err-rodeo-clause-fault : goal.returns-in_err-rodeo-clause-fault
 returns-in_err-rodeo-clause-fault g c = λ input left.
@@ -60,6 +117,37 @@ pub returns-in_err-rodeo-clause-refused : goal.returns-in_err-rodeo-clause-refus
 returns-in_err-rodeo-clause-refused g c = λ input left.
     let p = err_from_is_err_and c.from_residual-in_err-rodeo.result c.from_residual-in_err-rodeo.ensures.1 in
     rw (p.1, p.2) (no_interner_explained c.args.limits (lines_of input) _ c.in_err-rodeo.ensures.fault)
+
+pub returns-in_err-rodeo-clause-reads : goal.returns-in_err-rodeo-clause-reads
+returns-in_err-rodeo-clause-reads g c =
+    let p = err_from_is_err_and c.from_residual-in_err-rodeo.result c.from_residual-in_err-rodeo.ensures.1 in
+    rw (p.1, p.2, c.in_err-rodeo.ensures.fault) c.in_ok-read_all.ensures.reads
+
+pub returns-in_err-rodeo-clause-writes : goal.returns-in_err-rodeo-clause-writes
+returns-in_err-rodeo-clause-writes g c =
+    let p = err_from_is_err_and c.from_residual-in_err-rodeo.result c.from_residual-in_err-rodeo.ensures.1 in
+    rw (p.1, p.2, c.in_err-rodeo.ensures.fault) c.in_ok-flush_all.ensures.failures
+
+pub returns-in_err-rodeo-clause-nothing_pending : goal.returns-in_err-rodeo-clause-nothing_pending
+returns-in_err-rodeo-clause-nothing_pending g c = λ unless. c.in_ok-flush_all.ensures.all
+
+pub returns-in_err-rodeo-clause-delivered : goal.returns-in_err-rodeo-clause-delivered
+returns-in_err-rodeo-clause-delivered g c = c.flush_all.ensures.delivered
+
+pub returns-in_err-rodeo-clause-nothing_written : goal.returns-in_err-rodeo-clause-nothing_written
+returns-in_err-rodeo-clause-nothing_written g c =
+    let p = err_from_is_err_and c.from_residual-in_err-rodeo.result c.from_residual-in_err-rodeo.ensures.1 in
+    rw p.1 (λ unless. c.flush_all.ensures.written)
+
+pub returns-in_err-rodeo-clause-no_usage : goal.returns-in_err-rodeo-clause-no_usage
+returns-in_err-rodeo-clause-no_usage g c =
+    let p = err_from_is_err_and c.from_residual-in_err-rodeo.result c.from_residual-in_err-rodeo.ensures.1 in
+    rw (p.1, p.2, c.in_err-rodeo.ensures.fault) (λ usage. cc)
+
+pub returns-in_err-rodeo-clause-begins : goal.returns-in_err-rodeo-clause-begins
+returns-in_err-rodeo-clause-begins g c =
+    let p = err_from_is_err_and c.from_residual-in_err-rodeo.result c.from_residual-in_err-rodeo.ensures.1 in
+    rw (p.1, p.2, c.in_err-rodeo.ensures.fault) (λ input left failed. cc)
 
 -- a line is faulty
 pub returns-in_err-codes-clause-fault : goal.returns-in_err-codes-clause-fault
@@ -82,7 +170,54 @@ returns-in_err-codes-clause-refused g c = λ input left.
       subst (λ (o : Totals). IsExplainedIn o past (lines_of input) fault) c.in_ok-rodeo.ensures.opening of_input,
     )
 
--- the lines could not be written
+pub returns-in_err-codes-clause-reads : goal.returns-in_err-codes-clause-reads
+returns-in_err-codes-clause-reads g c =
+    let p = err_from_is_err_and c.from_residual-in_err-codes.result c.from_residual-in_err-codes.ensures.1 in
+    rw (p.1, p.2) (line_reads _ _ c.in_err-codes.field-0.0 c.in_err-codes.ensures.faults c.in_ok-read_all.ensures.reads)
+
+pub returns-in_err-codes-clause-writes : goal.returns-in_err-codes-clause-writes
+returns-in_err-codes-clause-writes g c =
+    let p = err_from_is_err_and c.from_residual-in_err-codes.result c.from_residual-in_err-codes.ensures.1 in
+    rw (p.1, p.2) (line_writes _ _ c.in_err-codes.field-0.0 c.in_err-codes.ensures.faults c.in_ok-flush_all.ensures.failures)
+
+pub returns-in_err-codes-clause-nothing_pending : goal.returns-in_err-codes-clause-nothing_pending
+returns-in_err-codes-clause-nothing_pending g c = λ unless. c.in_ok-flush_all.ensures.all
+
+pub returns-in_err-codes-clause-delivered : goal.returns-in_err-codes-clause-delivered
+returns-in_err-codes-clause-delivered g c = c.flush_all.ensures.delivered
+
+pub returns-in_err-codes-clause-nothing_written : goal.returns-in_err-codes-clause-nothing_written
+returns-in_err-codes-clause-nothing_written g c =
+    let p = err_from_is_err_and c.from_residual-in_err-codes.result c.from_residual-in_err-codes.ensures.1 in
+    rw p.1 (λ unless. c.flush_all.ensures.written)
+
+pub returns-in_err-codes-clause-no_usage : goal.returns-in_err-codes-clause-no_usage
+returns-in_err-codes-clause-no_usage g c =
+    let p = err_from_is_err_and c.from_residual-in_err-codes.result c.from_residual-in_err-codes.ensures.1 in
+    rw (p.1, p.2) (line_no_usage (Err c.in_err-codes.field-0.0) c.in_err-codes.ensures.faults)
+
+pub returns-in_err-codes-clause-begins : goal.returns-in_err-codes-clause-begins
+returns-in_err-codes-clause-begins g c =
+    let p = err_from_is_err_and c.from_residual-in_err-codes.result c.from_residual-in_err-codes.ensures.1 in
+    rw (p.1, p.2) (λ input left failed. absurd (line_no_write c.in_err-codes.field-0.0 c.in_err-codes.ensures.faults failed))
+
+-- the lines are written, or could not be
+pub returns-clause-lines : goal.returns-clause-lines
+returns-clause-lines g c = λ input left.
+    let list = list_of c.in_ok-rodeo.rodeo c.intern_lines.new.pass.notes in
+    let whole = c.deref.ensures.value ∙ c.in_ok-read_all.ensures.bytes input left ∙ ap (λ bs. bs ++ input) c.new-input.ensures.items in
+    let of_lines = subst (λ (ls : List Text). AreCodesOf list ls c.in_ok-codes.codes.items) (ap lines_of whole) c.in_ok-codes.ensures.codes in
+    let coded = subst (λ (cs : List ℕ). AreCodesOf list (lines_of input) cs) (sym c.deref-2.ensures.value) of_lines in
+    writes_lines list _ (lines_of input) _ c.write_in_order.ensures.grows coded _ _ _ c.write_in_order.result c.flush_all.ensures.written c.write_in_order.ensures.texts
+
+pub returns-clause-begins : goal.returns-clause-begins
+returns-clause-begins g c = λ input left.
+    let list = list_of c.in_ok-rodeo.rodeo c.intern_lines.new.pass.notes in
+    let whole = c.deref.ensures.value ∙ c.in_ok-read_all.ensures.bytes input left ∙ ap (λ bs. bs ++ input) c.new-input.ensures.items in
+    let of_lines = subst (λ (ls : List Text). AreCodesOf list ls c.in_ok-codes.codes.items) (ap lines_of whole) c.in_ok-codes.ensures.codes in
+    let coded = subst (λ (cs : List ℕ). AreCodesOf list (lines_of input) cs) (sym c.deref-2.ensures.value) of_lines in
+    begins_lines list _ (lines_of input) _ c.write_in_order.ensures.grows coded _ _ _ c.write_in_order.result c.flush_all.ensures.written c.write_in_order.ensures.begins
+
 pub returns-clause-fault : goal.returns-clause-fault
 returns-clause-fault g c = λ input left. end_fault_is (lines_of input) c.write_in_order.result c.write_in_order.ensures.faults
 
@@ -93,3 +228,25 @@ pub returns-clause-texts : goal.returns-clause-texts
 returns-clause-texts g c = λ input left.
     let whole = c.deref.ensures.value ∙ c.in_ok-read_all.ensures.bytes input left ∙ ap (λ bs. bs ++ input) c.new-input.ensures.items in
     where_ok (AreTexts (lines_of input)) c.write_in_order.result (subst (λ (bs : List ℕ). AreTexts (lines_of bs)) whole c.in_ok-codes.ensures.texts)
+
+pub returns-clause-delivered : goal.returns-clause-delivered
+returns-clause-delivered g c = only_grows_then _ _ _ c.flush_all.ensures.delivered c.write_in_order.ensures.delivered
+
+pub returns-clause-whole : goal.returns-clause-whole
+returns-clause-whole g c = where_ok _ c.write_in_order.result c.in_ok-read_all.ensures.whole
+
+pub returns-clause-reads : goal.returns-clause-reads
+returns-clause-reads g c = end_reads _ _ c.write_in_order.result c.write_in_order.ensures.faults c.in_ok-read_all.ensures.reads
+
+pub returns-clause-writes : goal.returns-clause-writes
+returns-clause-writes g c = then_failed _ _ _ _ c.in_ok-flush_all.ensures.failures c.write_in_order.ensures.writes
+
+pub returns-clause-nothing_pending : goal.returns-clause-nothing_pending
+returns-clause-nothing_pending g c = kept_pending g.O.ByteWriter.pending _ _ c.write_in_order.result c.write_in_order.ensures.all c.write_in_order.ensures.refused c.in_ok-flush_all.ensures.all
+
+pub returns-clause-nothing_written : goal.returns-clause-nothing_written
+returns-clause-nothing_written g c =
+    kept_written (λ writer. written (g.O.ByteWriter.delivered writer) (g.O.ByteWriter.pending writer)) _ _ _ c.write_in_order.result c.write_in_order.ensures.refused c.flush_all.ensures.written
+
+pub returns-clause-no_usage : goal.returns-clause-no_usage
+returns-clause-no_usage g c = end_no_usage c.write_in_order.result c.write_in_order.ensures.faults
