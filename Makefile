@@ -117,9 +117,9 @@ check: crate toolchain
 test: toolchain docs
 	RT_JOBS=$${RT_JOBS-$$(.ci/jobs)} rt ci
 
-#: make docs                         checks the documents: links, names of files and clauses, lengths of lines, the index of public calls;
-#:                                   that manual pages and completions have the options of the programs; and that each wrong body
-#:                                   can be applied
+#: make docs                         checks the documents: links, names of files and clauses, lengths of lines, parts made from the
+#:                                   sources; that manual pages and completions have the options of the programs; and that each wrong
+#:                                   body can be applied
 docs:
 	docs/check --try
 	docs/check

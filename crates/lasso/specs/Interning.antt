@@ -1,4 +1,8 @@
--- What interning a text returns and leaves of a list of texts, where nothing is known of its memory.
+-- What interning a text returns and leaves of a list of texts, if nothing is known of its memory.
+--
+-- The meaning of a value of an interface is a list of texts, or none: an interner for one thread and a frozen
+-- form have their own list, a reference and a box have that of what they hold, and an interner that other
+-- threads fill has none.
 use Rattle.std.specs.Prelude.{ℕ, ◌≡◌, ◌↔◌, ◌⊎◌, List, [], ◌∷◌, ◌++◌, length, Option, Some, None, is_some, if◌then◌else◌, Result, MatchResult, IfErr}
 use Rattle.lasso_parts.specs.Texts.{Text, position_of}
 use Rattle.lasso_parts.specs.declared.util.LassoError.{LassoError}
@@ -9,15 +13,17 @@ use Rattle.lasso_single.specs.Intern.{interned_position}
 abbrev pub with_last : List Text → Text → List Text
 with_last texts text = if is_some (position_of texts text) then texts else texts ++ text ∷ []
 
--- interning the text returns the key of its position and leaves the list with it; or it is refused, which no
--- present text is, and leaves the list as it was, for lack of a key exactly where a new text finds none
+-- interning the text returns the key of its position and leaves `with_last`; or it is refused, which no
+-- present text is, and leaves the list as it was. It is refused for lack of a key exactly if the list's
+-- length has none
 abbrev pub InternsAmong : {K : Type 0} → (ℕ → Option K) → List Text → Text → Result K LassoError → Option (List Text) → Type 0
 InternsAmong key_at texts text reply after =
     MatchResult reply
     (λ k. (key_at (interned_position texts text) ≡ Some k) × (after ≡ Some (with_last texts text)))
     (λ error. (position_of texts text ≡ None) × (after ≡ Some texts) × ((error ≡ KeySpaceExhaustion) ↔ (key_at (length texts) ≡ None)))
 
--- the same of a text that is kept as it is: a memory limit never refuses it
+-- the same of a text that is kept as it is: it is refused for lack of a key or out of memory, never by a
+-- limit
 abbrev pub InternsStaticAmong : {K : Type 0} → (ℕ → Option K) → List Text → Text → Result K LassoError → Option (List Text) → Type 0
 InternsStaticAmong key_at texts text reply after =
     InternsAmong key_at texts text reply after

@@ -11,7 +11,7 @@ abbrev pub text_of_code : Option ℕ → List Text → ℕ → Option Text
 text_of_code None dictionary code = slice_get dictionary code
 text_of_code (Some null) dictionary code = if nat_eq code null then Some [] else slice_get dictionary code
 
--- the texts that the codes name, where each names one
+-- the texts that the codes name, if each names one
 abbrev pub rows_named : Option ℕ → List Text → List ℕ → List Text
 rows_named null dictionary codes = map (λ code. unwrap_or (text_of_code null dictionary code) []) codes
 
@@ -42,6 +42,7 @@ fitting sizes offsets bytes =
     if nat_lt sizes.texts offsets then (if nat_lt bytes sizes.bytes then Err (BytesTooShort sizes) else Ok sizes)
     else Err (OffsetsTooShort sizes)
 
+-- no text and no byte
 abbrev pub nothing : Sizes
 nothing = record { texts = 0; bytes = 0 }
 
@@ -51,7 +52,9 @@ unless_faulty None result = result
 unless_faulty (Some refusal) result = Err refusal
 
 -- how decoding the codes, one of which may be that of nulls, by the dictionary of that layout ends, with room
--- for these numbers of offsets and bytes
+-- for these numbers of offsets and bytes: with the sizes of the texts that the codes name, or refused for the
+-- first of these: what is first wrong with the layout, the first code that names no text or whose text takes
+-- the bytes past `greatest_offset`, too few offsets or bytes
 abbrev pub rows_decoding_outcome : Option ℕ → List ℕ → List ℕ → List ℕ → ℕ → ℕ → Result Sizes CallError
 rows_decoding_outcome null dictionary_bytes dictionary_offsets codes offsets bytes =
     unless_faulty (layout_fault greatest_offset dictionary_bytes dictionary_offsets)
@@ -61,7 +64,8 @@ rows_decoding_outcome null dictionary_bytes dictionary_offsets codes offsets byt
 abbrev pub decoding_outcome : List ℕ → List ℕ → List ℕ → ℕ → ℕ → Result Sizes CallError
 decoding_outcome dictionary_bytes dictionary_offsets codes offsets bytes = rows_decoding_outcome None dictionary_bytes dictionary_offsets codes offsets bytes
 
--- the same of a column with nulls, where there is also room for a bitmap of this number of bytes
+-- the same of a column with nulls: refused first for a bitmap with fewer bits than there are codes. The code
+-- of nulls names an empty text, and its bit is 0
 abbrev pub nulls_decoding_outcome : ℕ → List ℕ → List ℕ → List ℕ → ℕ → ℕ → ℕ → Result Sizes CallError
 nulls_decoding_outcome null dictionary_bytes dictionary_offsets codes offsets bytes present =
     if nat_le (length codes) (8 * present) then rows_decoding_outcome (Some null) dictionary_bytes dictionary_offsets codes offsets bytes

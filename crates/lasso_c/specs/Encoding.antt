@@ -18,15 +18,16 @@ abbrev pub with_all_new : List Text → List Text → List Text
 with_all_new texts [] = texts
 with_all_new texts (text ∷ more) = with_all_new (with_new texts text) more
 
--- each distinct one of these texts once, in order of first occurrence
+-- the dictionary of some texts: each distinct one once, in order of first occurrence. It is the list of an
+-- interner that has interned them, so a text's code is its position in the dictionary
 abbrev pub dictionary_of : List Text → List Text
 dictionary_of texts = with_all_new [] texts
 
--- where each of these texts is in the dictionary, and the given code for an absent one
+-- the position of each of these texts in the dictionary, and the given code for an absent one
 abbrev pub codes_or : ℕ → List Text → List Text → List ℕ
 codes_or absent dictionary texts = map (λ text. unwrap_or (position_of dictionary text) absent) texts
 
--- the same where no text is absent
+-- the same if no text is absent
 abbrev pub codes_of : List Text → List Text → List ℕ
 codes_of dictionary texts = codes_or 0 dictionary texts
 
@@ -35,27 +36,31 @@ abbrev pub row_code : ℕ → List Text → Option Text → ℕ
 row_code null dictionary None = null
 row_code null dictionary (Some text) = unwrap_or (position_of dictionary text) 0
 
+-- the codes of rows
 abbrev pub row_codes : ℕ → List Text → List (Option Text) → List ℕ
 row_codes null dictionary rows = map (λ row. row_code null dictionary row) rows
 
+-- the sizes of texts: how many they are, and their bytes
 abbrev pub sizes_of : List Text → Sizes
 sizes_of texts = record { texts = length texts; bytes = length (concat texts) }
 
--- how encoding this number of rows, whose texts these are, ends where nothing is wrong with them and memory
--- is found, with room for these numbers of codes, offsets and bytes
+-- how encoding this number of rows, whose texts these are, ends if nothing is wrong with them and memory is
+-- found, with room for these numbers of codes, offsets and bytes
 abbrev pub rows_outcome : ℕ → List Text → ℕ → ℕ → ℕ → Result Sizes CallError
 rows_outcome rows texts codes dictionary_offsets dictionary_bytes =
     let sizes = sizes_of (dictionary_of texts) in
     if nat_lt codes rows then Err (CodesTooShort sizes) else fitting sizes dictionary_offsets dictionary_bytes
 
--- how encoding the texts of that layout ends where memory is found, with room for these numbers of codes,
--- offsets and bytes
+-- how encoding the texts of that layout ends if memory is found, with room for these numbers of codes,
+-- offsets and bytes: with the sizes of the dictionary, or refused for the first of these: what is first wrong
+-- with the layout, too few codes, offsets or bytes
 abbrev pub encoding_outcome : List ℕ → List ℕ → ℕ → ℕ → ℕ → Result Sizes CallError
 encoding_outcome bytes offsets codes dictionary_offsets dictionary_bytes =
     let texts = layout_texts bytes offsets in
     unless_faulty (layout_fault greatest_offset bytes offsets) (rows_outcome (length texts) texts codes dictionary_offsets dictionary_bytes)
 
--- why a column with this bitmap is refused, or nothing
+-- why a column with this bitmap is refused, or nothing: a bitmap that has bits, but not one for each row, or
+-- else what is first wrong with the column
 abbrev pub column_refusal : List ℕ → List ℕ → List ℕ → Option CallError
 column_refusal bits bytes offsets =
     if bits_fit bits (length (layout_texts bytes offsets)) then column_fault greatest_offset bits bytes offsets

@@ -1,4 +1,5 @@
--- What a call on a handle is about: the list and the account of its interner, what a look-up finds, and how a call ends.
+-- What a call on a handle is about: the list and the account of its interner, what a look-up finds, and how a
+-- call ends. A handle holds an interner or none.
 use Rattle.std.specs.Prelude.{ℕ, Bool, true, false, List, [], length, drop, slice_get, ok_or, nat_lt, if◌then◌else◌, Option, None, Some, Result, Ok, Err}
 use Rattle.std.specs.List.{concat}
 use Rattle.lasso_parts.specs.Account.{Account}
@@ -11,7 +12,7 @@ use Rattle.lasso_c.specs.declared.error.CallError.{CallError}
 use Rattle.lasso_c.specs.declared.error.CallError.TheVariants.{CodesTooShort, TooManyBytes, NoInterner, NoSuchCode, NoSuchText, NotUtf8}
 use Rattle.lasso_c.specs.declared.slot.Interner.{Interner}
 
--- the texts of the interner, or none
+-- the texts of the interner, or none if there is no interner
 abbrev pub texts_in : Option Interner → List Text
 texts_in None = []
 texts_in (Some interner) = interner.rodeo.texts

@@ -52,8 +52,9 @@ InternsRow greatest false null bytes at from to old outcome new = (outcome ≡ n
 abbrev pub InternsNext : ℕ → List ℕ → ℕ → List ℕ → List ℕ → ℕ → InternerView → Result ℕ CallError → InternerView → Type 0
 InternsNext greatest bits null bytes offsets at old outcome new = InternsRow greatest (present_at bits at) null bytes at (slice_index offsets at) (slice_index offsets (at + 1)) old outcome new
 
--- why interning a column ends after its first `done` rows: no row is left; or the column is wrong there, for the first time; or
--- the interner refuses the next text, up to whose end the column is good, and nothing changes
+-- why interning a column ends after its first `done` rows: no row is left; or the column is wrong there, for
+-- the first time; or the interner refuses the next text, up to whose end the column is good, and nothing
+-- changes
 abbrev pub EndsAfter : ℕ → List ℕ → List ℕ → List ℕ → ℕ → InternerView → Result (Unit {0}) CallError → Type 0
 EndsAfter greatest bits bytes offsets done interner (Ok _) = (column_fault greatest bits bytes offsets ≡ None) × (done ≡ length (layout_texts bytes offsets))
 EndsAfter greatest bits bytes offsets done interner (Err refusal) =
@@ -89,14 +90,17 @@ abbrev pub batch_report : ℕ → Result (Unit {0}) CallError → LassoReport
 batch_report done (Ok _) = record { texts = done; bytes = 0; at = 0 }
 batch_report done (Err _) = record { texts = done; bytes = 0; at = done }
 
--- how a batch ends on a handle, which has this bitmap or none: its status and report, and what the handle holds
+-- how a batch ends on a handle, which has this bitmap or none: its status and report, and what the handle
+-- holds. Its first texts were interned one after another, as many as the report says, and then it ended as
+-- `EndsAfter` says
 abbrev pub BatchEnds : ℕ → Option Interner → List ℕ → List ℕ → List ℕ → ℕ → ℕ → LassoReport → Option Interner → Type 0
 BatchEnds greatest None bits bytes offsets room status report new = Reports (Err NoInterner) status report × (new ≡ None)
 BatchEnds greatest (Some old) bits bytes offsets room status report new =
     (interner : Interner) × (outcome : Result (Unit {0}) CallError) × (new ≡ Some interner) × InternsPart greatest room bits bytes offsets report.texts old.rodeo outcome interner.rodeo
     × (status ≡ outcome_status outcome) × (report ≡ batch_report report.texts outcome)
 
--- how interning one text ends on a handle: its status, and what the handle holds
+-- how interning one text ends on a handle: its status, and what the handle holds, as `InternsIn` of
+-- `lasso_single` says
 abbrev pub TextInterned : Option Interner → Text → ℕ → Option Interner → Type 0
 TextInterned None text status new = (status ≡ NO_INTERNER) × (new ≡ None)
 TextInterned (Some old) text status new =

@@ -7,6 +7,7 @@ use Rattle.lasso_c.specs.Layout.{greatest_offset, layout_texts, layout_fault, of
 use Rattle.lasso_c.specs.Encoding.{with_all_new, dictionary_of, codes_of, row_codes, sizes_of}
 use Rattle.lasso_c.specs.Decoding.{texts_named, rows_named, decoding_outcome}
 
+-- what decoding makes of what was encoded: the texts again
 pub record DecodesBack (dictionary texts : List Text) (codes : List ℕ) : Type 0 where
   -- no text stands twice in the dictionary
   pub distinct : IsDistinct dictionary
@@ -14,7 +15,7 @@ pub record DecodesBack (dictionary texts : List Text) (codes : List ℕ) : Type 
   pub stands : layout_texts (concat dictionary) (offsets_from 0 dictionary) ≡ dictionary
   -- the codes name the texts
   pub named : texts_named dictionary codes ≡ texts
-  -- decoding them is done where there is room
+  -- decoding them is done if there is room
   pub done : (offsets bytes : ℕ) → length texts < offsets → length (concat texts) ≤ bytes → decoding_outcome (concat dictionary) (offsets_from 0 dictionary) codes offsets bytes ≡ Ok (sizes_of texts)
 
 -- decoding what encoding writes of a layout with which nothing is wrong gives its texts
@@ -24,6 +25,7 @@ DecodingUndoesEncoding = (bytes offsets : List ℕ) → layout_fault greatest_of
     let dictionary = dictionary_of texts in
     DecodesBack dictionary texts (codes_of dictionary texts)
 
+-- what loading makes of what was saved: the texts again, with their codes
 pub record LoadsBack (texts : List Text) : Type 0 where
   -- the layout that is written of the texts has them
   pub saved : layout_texts (concat texts) (offsets_from 0 texts) ≡ texts
@@ -36,6 +38,7 @@ pub record LoadsBack (texts : List Text) : Type 0 where
 abbrev pub LoadingUndoesSaving : Type 0
 LoadingUndoesSaving = (texts : List Text) → IsDistinct texts → LoadsBack texts
 
+-- what decoding makes of rows that were encoded: the rows again, with their nulls
 pub record RowsComeBack (null : ℕ) (rows : List (Option Text)) (dictionary : List Text) (codes : List ℕ) : Type 0 where
   -- the codes name the texts, and an empty one for each null
   pub named : rows_named (Some null) dictionary codes ≡ map (λ (row : Option Text). unwrap_or row []) rows

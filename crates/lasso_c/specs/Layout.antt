@@ -1,5 +1,9 @@
--- Texts in one buffer of bytes, beside a buffer of offsets, as Arrow lays out arrays of strings: text k is what lies
--- between offset k and offset k + 1, so that there is one offset more than there are texts.
+-- A layout: texts in one buffer of bytes, beside a buffer of offsets, as Arrow lays out arrays of strings:
+-- text k is what lies between offset k and offset k + 1, so that there is one offset more than there are
+-- texts. A column is a layout and a bitmap. Its rows are texts and nulls.
+--
+-- An offset reaches no further than the bytes and than the greatest offset of its width, which these
+-- definitions take first; all else is one for both widths.
 use Rattle.std.specs.Prelude.{ℕ, ◌+◌, List, [], ◌∷◌, ◌++◌, length, take, drop, min, nat_lt, if◌then◌else◌, Option, Some, None}
 use Rattle.std.specs.List.{slice_range}
 use Rattle.std.specs.Option.{option_or}
@@ -9,10 +13,11 @@ use Rattle.lasso_c.specs.Bitmap.{present_at}
 use Rattle.lasso_c.specs.declared.error.CallError.{CallError}
 use Rattle.lasso_c.specs.declared.error.CallError.TheVariants.{OffsetsFall, OffsetPastBytes, NotUtf8}
 
--- the greatest offset of 32 bits, and that of 64 bits: the greatest signed numbers
+-- the greatest offset of 32 bits, a signed number: 2 ^ 31 - 1
 abbrev pub greatest_offset : ℕ
 greatest_offset = 2147483647
 
+-- that of 64 bits: 2 ^ 63 - 1
 abbrev pub greatest_large_offset : ℕ
 greatest_large_offset = 9223372036854775807
 
@@ -34,7 +39,8 @@ layout_texts bytes (from ∷ offsets) = texts_from bytes from offsets
 abbrev pub start_fault : ℕ → List ℕ → ℕ → Option CallError
 start_fault greatest bytes from = if nat_lt (reach greatest bytes) from then Some (OffsetPastBytes 0) else None
 
--- what is wrong with the text of this number between two offsets, or nothing
+-- what is wrong with the text of this number between two offsets, or nothing: its end lies before its
+-- beginning, or past that reach, or its bytes are not UTF-8
 abbrev pub text_fault : ℕ → List ℕ → ℕ → ℕ → ℕ → Option CallError
 text_fault greatest bytes at from to =
     if nat_lt to from then Some (OffsetsFall at)
@@ -67,6 +73,7 @@ column_fault greatest bits bytes (from ∷ offsets) = option_or (start_fault gre
 abbrev pub texts_fault : ℕ → List ℕ → ℕ → ℕ → List ℕ → Option CallError
 texts_fault greatest bytes at from offsets = rows_fault greatest [] bytes at from offsets
 
+-- what is first wrong with a layout, a column without a bitmap, or nothing
 abbrev pub layout_fault : ℕ → List ℕ → List ℕ → Option CallError
 layout_fault greatest bytes offsets = column_fault greatest [] bytes offsets
 
@@ -94,7 +101,8 @@ abbrev pub offsets_from : ℕ → List Text → List ℕ
 offsets_from at [] = at ∷ []
 offsets_from at (text ∷ texts) = at ∷ offsets_from (at + length text) texts
 
--- a buffer once this is written over its front
+-- a buffer once this is written over its front: so are the bytes of a layout, and its offsets
+-- (`offsets_from 0`)
 abbrev pub over : List ℕ → List ℕ → List ℕ
 over front buffer = front ++ drop (length front) buffer
 

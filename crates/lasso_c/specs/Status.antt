@@ -23,7 +23,8 @@ error_status NoInterner = NO_INTERNER
 error_status NoSuchText = NO_SUCH_TEXT
 error_status (BitmapTooShort _) = BITMAP_TOO_SHORT
 
--- that of a call that was done, or the number of the refusal
+-- the status of how a call ended: that of a call that was done, or the number of the refusal, as
+-- `src/status.rt` names them
 abbrev pub outcome_status : {X : Type 0} → Result X CallError → ℕ
 outcome_status (Ok _) = DONE
 outcome_status (Err refusal) = error_status refusal

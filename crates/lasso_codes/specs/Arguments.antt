@@ -72,6 +72,7 @@ no_workers = codes "--workers: 0 is below 1"
 abbrev pub past_workers : ℕ → List ℕ
 past_workers count = codes "--workers: " ++ (decimal count ++ codes " is past 64")
 
+-- what the error of a word prints
 abbrev pub argument_text : ArgumentError → List ℕ
 argument_text NoVerb = no_verb
 argument_text (NotVerb word) = not_verb word.now
@@ -238,7 +239,8 @@ abbrev pub on_verb : Option Verb → Text → List Text → Asked
 on_verb None word words = Err (not_verb word)
 on_verb (Some verb) word words = options_of verb unset None None words
 
--- the command that the arguments give, or the message
+-- what the words of the command line ask for, and the word of a null; or the message of the first word that
+-- is refused
 abbrev pub command_of : List Text → Asked
 command_of [] = Err no_verb
 command_of (word ∷ words) =

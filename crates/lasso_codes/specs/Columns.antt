@@ -44,6 +44,7 @@ entry_bytes false entry = entry_line entry
 
 -- ---- columns
 
+-- the words at the beginning of a header line
 abbrev pub header_front : Bool → List ℕ
 header_front true = codes "lasso-codes 1 binary "
 header_front false = codes "lasso-codes 1 text "

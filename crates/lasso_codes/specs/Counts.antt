@@ -49,7 +49,7 @@ CountsError limit lines top part WriteFailed = IsBegun lines top part
 CountsError limit lines top part ReaderGone = IsBegun lines top part
 CountsError limit lines top part (Column column error) = ⊥
 
--- without an error, all lines are UTF-8 and the part is their report
+-- how a run of `counts` ends: without an error, all lines are UTF-8 and the part is their report
 abbrev pub CountsEnd : List ℕ → ℕ → ℕ → List ℕ → Result (Unit {0}) RunError → Type 0
 CountsEnd input limit top part result =
     MatchResult result (λ _. All IsUtf8 (lines_of input) × IsCountsReport (lines_of input) top part) (CountsError limit (lines_of input) top part)

@@ -17,10 +17,12 @@ use Rattle.lasso_codes.specs.declared.error.RunError.TheVariants.{Line, TooManyL
 
 -- ---- the lines of columns
 
+-- the text at a code, or that the code is past the texts
 abbrev pub text_or_past : Option Text → ℕ → Result Text ColumnError
 text_or_past None number = Err (PastTexts number)
 text_or_past (Some text) number = Ok text
 
+-- the word for a null, or that there is none
 abbrev pub null_line : Option Text → ℕ → Result Text ColumnError
 null_line None number = Err (IsNull number)
 null_line (Some word) number = Ok word
@@ -97,7 +99,7 @@ DecodeError input limit null part (Column column error) =
     (n : ℕ) × (lines : List Text) × (rest : List ℕ) × Reads null n input lines rest × (column ≡ n + 1) × IsColumnError (line_at null) limit rest error
     × (part ≡ fed_lines (lines ++ lines_before null rest error))
 
--- without an error, the input is columns and the part is their lines
+-- how a run of `decode` ends: without an error, the input is columns and the part is their lines
 abbrev pub DecodeEnd : List ℕ → ℕ → Option Text → List ℕ → Result (Unit {0}) RunError → Type 0
 DecodeEnd input limit null part result =
     MatchResult result (λ _. (n : ℕ) × (lines : List Text) × Reads null n input lines [] × (part ≡ fed_lines lines)) (DecodeError input limit null part)

@@ -17,6 +17,7 @@ use Rattle.lasso_codes.specs.Streams.{Begins}
 use Rattle.lasso_codes.specs.declared.error.RunError.{RunError}
 use Rattle.lasso_codes.specs.declared.error.RunError.TheVariants.{Line, TooManyLines, ReadFailed, WriteFailed, ReaderGone, Column}
 
+-- the line with a line feed after it
 abbrev pub with_feed : List ℕ → List ℕ
 with_feed line = line ++ 10 ∷ []
 
@@ -62,7 +63,8 @@ DistinctError limit lines part WriteFailed = Begins part (distinct_report lines)
 DistinctError limit lines part ReaderGone = Begins part (distinct_report lines)
 DistinctError limit lines part (Column column error) = ⊥
 
--- without an error, all lines are UTF-8 and the part is their report
+-- how a run of `distinct` ends that has written the part: without an error, all lines are UTF-8 and the part
+-- is their report
 abbrev pub DistinctEnd : List ℕ → ℕ → List ℕ → Result (Unit {0}) RunError → Type 0
 DistinctEnd input limit part result =
     MatchResult result (λ _. All IsUtf8 (lines_of input) × (part ≡ distinct_report (lines_of input))) (DistinctError limit (lines_of input) part)

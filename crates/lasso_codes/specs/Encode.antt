@@ -65,7 +65,7 @@ EncodeError limit null binary lines part (Column column error) = ⊥
 abbrev pub AreCodable : Option Text → List Text → Type 0
 AreCodable null lines = (length (dictionary_of null lines) < 2 ^ 32) × (length lines < 2 ^ 64)
 
--- without an error, all lines are UTF-8 and the part is their column
+-- how a run of `encode` ends: without an error, all lines are UTF-8 and the part is their column
 abbrev pub EncodeEnd : List ℕ → ℕ → Option Text → Bool → List ℕ → Result (Unit {0}) RunError → Type 0
 EncodeEnd input limit null binary part result =
     MatchResult result (λ _. All IsUtf8 (lines_of input) × (part ≡ column_bytes binary null (lines_of input)) × AreCodable null (lines_of input))

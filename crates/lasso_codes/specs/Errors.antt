@@ -10,6 +10,7 @@ use Rattle.lasso_codes.specs.declared.error.ColumnError.TheVariants.{NoHeader, N
 use Rattle.lasso_codes.specs.declared.error.RunError.{RunError}
 use Rattle.lasso_codes.specs.declared.error.RunError.TheVariants.{Line, TooManyLines, ReadFailed, WriteFailed, ReaderGone, Column}
 
+-- the exit status of an error of a column
 abbrev pub column_status : ColumnError → ℕ
 column_status NoHeader = 2
 column_status (NoText number) = 2
@@ -22,6 +23,7 @@ column_status (PastTexts number) = 2
 column_status (IsNull number) = 2
 column_status (NotMerged error) = 1
 
+-- what such an error prints
 abbrev pub column_fault_text : ColumnError → List ℕ
 column_fault_text NoHeader = codes "no header"
 column_fault_text (NoText number) = codes "text " ++ (decimal number ++ codes " is missing")
@@ -34,6 +36,7 @@ column_fault_text (PastTexts number) = codes "entry " ++ (decimal number ++ code
 column_fault_text (IsNull number) = codes "entry " ++ (decimal number ++ codes " is a null, and --null is missing")
 column_fault_text (NotMerged error) = error_text error
 
+-- the exit status of an error
 abbrev pub status_of : RunError → ℕ
 status_of (Line (Refused number error)) = 1
 status_of (Line (NotText number)) = 2
@@ -43,6 +46,7 @@ status_of WriteFailed = 4
 status_of ReaderGone = 0
 status_of (Column number error) = column_status error
 
+-- what an error prints
 abbrev pub run_error_text : RunError → List ℕ
 run_error_text (Line error) = line_error_text error
 run_error_text TooManyLines = codes "too many lines"

@@ -40,10 +40,12 @@ recoded list texts (Code code) number = code_or_past list (slice_get texts code)
 abbrev pub entries_of : List Text → List ℕ → ReadItems (Option ℕ)
 entries_of list bytes = read_column (recoded list) bytes
 
+-- the texts that were read, or none
 abbrev pub read_list : ReadTexts → List Text
 read_list (Err error) = []
 read_list (Ok read) = read.0
 
+-- the texts after a header, or none
 abbrev pub head_list : Option (Header × List ℕ) → List Text
 head_list None = []
 head_list (Some head) = read_list (texts_from head.0.distinct [] head.1)
@@ -134,7 +136,7 @@ MergeError input limit binary part (Column column error) = (part ≡ []) × Merg
 abbrev pub AreFew : List Text → List (Option ℕ) → Type 0
 AreFew list entries = (length list < 2 ^ 32) × (length entries < 2 ^ 64)
 
--- without an error, the input is columns and the part is the merged column
+-- how a run of `merge` ends: without an error, the input is columns and the part is the merged column
 abbrev pub MergeEnd : List ℕ → ℕ → Bool → List ℕ → Result (Unit {0}) RunError → Type 0
 MergeEnd input limit binary part result =
     MatchResult result

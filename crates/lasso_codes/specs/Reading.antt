@@ -62,7 +62,7 @@ abbrev pub TakesHeader : Option (List ℕ) → Option (List ℕ) → Option Head
 TakesHeader before after None = (bytes : List ℕ) → before ≡ Some bytes → bytes ≡ []
 TakesHeader before after (Some header) = (bytes : List ℕ) → before ≡ Some bytes → (rest : List ℕ) × (after ≡ Some rest) × (head_of bytes ≡ Some (header, rest))
 
--- the bytes do not begin with a header
+-- there is at least one byte, and the bytes do not begin with a header
 abbrev pub HasNoHeader : List ℕ → Type 0
 HasNoHeader bytes = (0 < length bytes) × (head_of bytes ≡ None)
 
@@ -123,6 +123,7 @@ IsTextError limit distinct bytes (NotMerged error) = ⊥
 IsTextError limit distinct bytes (TextRefused number error) = IsTextRefused limit distinct bytes number error
 IsTextError limit distinct bytes error = texts_from distinct [] bytes ≡ Err error
 
+-- why the texts of the column with this number were not read
 abbrev pub TextsError : ℕ → ℕ → ℕ → List ℕ → RunError → Type 0
 TextsError limit distinct column bytes error = IsReadError 0 error ⊎ ((reason : ColumnError) × (error ≡ Column column reason) × IsTextError limit distinct bytes reason)
 

@@ -37,6 +37,7 @@ abbrev pub IsEntryAs : Bool → List Text → Text → ℕ → Type 0
 IsEntryAs true list line number = number ≡ 4294967295
 IsEntryAs false list line number = (position_of list line ≡ Some number) × (number < 4294967295)
 
+-- the numbers are those of the lines, in order
 abbrev pub AreEntries : Option Text → List Text → List Text → List ℕ → Type 0
 AreEntries null list [] [] = Unit {0}
 AreEntries null list [] (n ∷ ns) = ⊥

@@ -55,7 +55,7 @@ IsRefusedReading {K} key_at most bytes offsets made error =
     ⊎ ((now : InternerView) × extend {K = K} key_at made now.texts (Ok tt) now × (now.texts ≡ take (length now.texts) (layout_texts bytes offsets))
     × IsFaultAfter key_at most bytes offsets (length now.texts) now error)
 
--- how many bytes the first bucket of an interner for these bytes has
+-- how many bytes the first bucket of a new interner for these bytes has
 abbrev pub first_bucket : ℕ → List ℕ → ℕ
 first_bucket limit bytes = max (min (if nat_eq (length bytes) 0 then 4096 else length bytes) limit) 1
 
@@ -81,7 +81,8 @@ pub record ReadsBack (most : ℕ) (list : List Text) (from : ℕ) (bytes offsets
   -- each of its texts is absent until its turn
   pub new : (n : ℕ) (text : Text) → slice_get (layout_texts bytes offsets) n ≡ Some text → position_of (take from list ++ take n (layout_texts bytes offsets)) text ≡ None
 
--- reading what was written gives the same list, so the same codes
+-- reading what was written gives the same list, so the same codes: of a distinct list whose texts from a
+-- position on are UTF-8 and end at most at the greatest offset
 abbrev pub ReadingUndoesWriting : Type 0
 ReadingUndoesWriting =
     (most : ℕ) (list : List Text) (from : ℕ)

@@ -14,18 +14,22 @@ use Rattle.lasso_columns.specs.declared.faults.ReadError.TheVariants as read_fau
 use Rattle.lasso_columns.specs.declared.faults.WriteError.{WriteError}
 use Rattle.lasso_columns.specs.declared.faults.WriteError.TheVariants as write_faults
 
+-- what the error of a line prints
 abbrev pub line_error_text : LineError → List ℕ
 line_error_text (Refused line error) = codes "line " ++ (decimal line ++ (codes ": " ++ error_text error))
 line_error_text (NotText line) = codes "line " ++ (decimal line ++ codes ": not UTF-8")
 
+-- what the error of decoding prints
 abbrev pub decode_error_text : DecodeError → List ℕ
 decode_error_text (NoText position code) = codes "Code " ++ (decimal code ++ (codes " at position " ++ (decimal position ++ codes " has no text")))
 decode_error_text NoMemory = codes "Failed to allocate memory"
 
+-- what the error of writing a dictionary prints
 abbrev pub write_error_text : WriteError → List ℕ
 write_error_text (write_faults.TooManyBytes at) = codes "Text " ++ (decimal at ++ codes " ends past the greatest offset")
 write_error_text write_faults.NoMemory = codes "Failed to allocate memory"
 
+-- what the error of reading one prints
 abbrev pub read_error_text : ReadError → List ℕ
 read_error_text (read_faults.OffsetsFall at) = codes "Text " ++ (decimal at ++ codes " ends before it begins")
 read_error_text (read_faults.OffsetPastBytes at) = codes "Text " ++ (decimal at ++ codes " has an offset past the bytes")

@@ -10,7 +10,8 @@ use Rattle.lasso_log.specs.Views.{InternerId, SnapshotView, list_of}
 use Rattle.lasso_encode.specs.Codes.{AreCodes, AddsCodes}
 use Rattle.lasso_encode.specs.Encoding.{spur_at}
 
--- the codes of the texts were appended: their positions in the list that one legal history leads to
+-- the codes of the texts were appended: their positions in the list that one legal history of a shared
+-- interner leads to
 abbrev pub AddsSharedCodes : Totals → List Text → List ℕ → List ℕ → Type 0
 AddsSharedCodes opening texts before after =
     (past : History) × IsLegal spur_at opening past × AddsCodes (totals opening past).texts texts before after
@@ -21,8 +22,8 @@ IsRefusalIn opening past texts error =
     (error ≡ FailedAllocation)
     ⊎ ((text : Text) × (front back : History) × Contains texts text × (front ++ back ≡ past) × MayReply spur_at (totals opening front) (Intern Copied text) (Interned (Err error)))
 
--- a history of the interner that was seen: the texts have these codes in its list, or interning one of them
--- may be refused somewhere in it
+-- what a worker gives back: a history of the interner that was seen; and the codes that the texts have in its
+-- list, or why one of them may be refused somewhere in it
 abbrev pub IsPartOf : {A : Type 0} → InternerId → List Text → SnapshotView → Result (Vec ℕ A) LassoErrorKind → Type 0
 IsPartOf of texts known outcome =
     (known.of ≡ of)

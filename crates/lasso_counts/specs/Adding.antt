@@ -9,6 +9,7 @@ use Rattle.lasso_encode.specs.Encoding.{spur_at, IsRefused, MayLackMemory}
 use Rattle.lasso_counts.specs.Counts.{count_of, count_at, counted}
 use Rattle.lasso_counts.specs.declared.error.CountError.{CountError}
 
+-- what the error prints
 abbrev pub count_error_text : CountError → List ℕ
 count_error_text error = codes "Text at position " ++ (decimal error.position ++ (codes ": " ++ error_text error.error))
 
@@ -18,7 +19,7 @@ counted_of (Ok done) texts = texts
 counted_of (Err error) texts = take error.position texts
 
 -- the count of each text has grown by the number of times that it is among `texts`, and each text of the new
--- list has a count
+-- list has a count. A text of the list before that has no count counts as 0
 pub record AddsCounts (texts before : List Text) (counts : List ℕ) (after : List Text) (counts' : List ℕ) : Type 0 where
   pub each : (text : Text) → count_at counts' (position_of after text) ≡ count_at counts (position_of before text) + count_of texts text
   pub lengths : length counts' ≡ length after
@@ -30,8 +31,8 @@ pub record AddsAmounts (list from : List Text) (amounts old new : List ℕ) : Ty
   pub long : length new ≡ length old
   pub total : sum new ≡ sum old + sum amounts
 
--- A refused text is absent. It is out of memory only where the counts have no room for one more, or neither the keys nor the
--- limit refuse it.
+-- A refused text is absent. It is out of memory only if the counts have no room for one more, or neither the
+-- keys nor the limit refuse it.
 abbrev pub RefusesNew : {A : Type 0} → InternerView → Vec ℕ A → Text → LassoError → Type 0
 RefusesNew now counts text error = (position_of now.texts text ≡ None) × MayLackMemory now counts text error
 

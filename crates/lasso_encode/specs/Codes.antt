@@ -1,4 +1,5 @@
--- The codes of texts: their positions in a list.
+-- The codes of texts: their positions in a list. A column of texts is kept as the column of their codes.
+-- Positions never change, so codes stay while the list grows.
 use denote.Ref.{Bor}
 use Rattle.std.specs.Prelude.{ℕ, ◌≡◌, ◌↔◌, List, ◌++◌, map, Some, slice_get}
 use Rattle.lasso_parts.specs.Texts.{Text, position_of}
@@ -20,13 +21,13 @@ abbrev pub AddsTexts : List Text → List ℕ → List (Bor Text) → List (Bor 
 AddsTexts list codes before after =
     (lent : List (Bor Text)) × (after ≡ before ++ lent) × StandFor list codes (map (λ text. text.now) lent)
 
--- decoding what was encoded gives the texts, also where more texts were appended to the list since
+-- decoding what was encoded gives the texts, also if more texts were appended to the list since
 abbrev pub DecodingGivesTexts : Type 0
 DecodingGivesTexts =
     (list more texts decoded : List Text) (codes : List ℕ)
     → AreCodes list texts codes → StandFor (list ++ more) codes decoded ↔ (decoded ≡ texts)
 
--- codes of one list are equal exactly where their texts are
+-- codes of one list are equal exactly if their texts are
 abbrev pub CodesTellTexts : Type 0
 CodesTellTexts =
     (list texts : List Text) (codes : List ℕ) (i j code other : ℕ) (text that : Text)

@@ -12,7 +12,7 @@ use Rattle.lasso_single.specs.Interner.{InternerView}
 abbrev pub spur_at : ℕ → Option ℕ
 spur_at = kept_at 4294967295
 
--- interning the text returns its code, whose key is one more, or refuses it
+-- interning the text returns its code, whose key is one more, or refuses it, as `InternsIn` says
 abbrev pub InternsCode : InternerView → Text → Result ℕ LassoError → InternerView → Type 0
 InternsCode old text reply new =
     MatchResult reply
@@ -23,7 +23,8 @@ InternsCode old text reply new =
 abbrev pub encoded_texts : List ℕ → List ℕ → List Text → List Text
 encoded_texts before after texts = take (length after - length before) texts
 
--- the limit or the keys refuse the text, or it is out of memory: for the text, or for its code
+-- interning the text is refused with this error, by the limit or for lack of a key; or memory ran out, for
+-- the text or for its code
 abbrev pub IsRefused : InternerView → Text → LassoError → Type 0
 IsRefused now text error =
     let held : Held = record { texts = now.texts; account = now.account } in
@@ -39,9 +40,9 @@ abbrev pub IsAdmitted : InternerView → Text → Type 0
 IsAdmitted now text =
     (position_of now.texts text ≡ None) × IsOk (interned spur_at now.first (record { texts = now.texts; account = now.account }) text)
 
--- When memory may be lacking, once these codes are there: they have no room for one more, or the text is
--- absent and admitted. So a limit or a lack of keys is reported as such where there is room for a code, and a
--- present text is not refused there.
+-- When memory may run out, once these codes are there: they have no room for one more, or the text is absent
+-- and admitted. So a limit or a lack of keys is reported as such if there is room for a code, and a present
+-- text is not refused then.
 abbrev pub MayLackMemory : {A : Type 0} → InternerView → Vec ℕ A → Text → LassoError → Type 0
 MayLackMemory now codes text error = error ≡ FailedAllocation → (vec_capacity codes ≤ vec_len codes) ⊎ IsAdmitted now text
 

@@ -42,6 +42,7 @@ goes_on Digits Digits = true
 goes_on Space Space = true
 goes_on _ _ = false
 
+-- whether a piece goes on with this byte
 abbrev pub continues : Kind → ℕ → Bool
 continues kind byte = goes_on kind (kind_of byte)
 

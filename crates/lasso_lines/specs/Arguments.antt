@@ -5,6 +5,7 @@ use Rattle.std.specs.Prelude.{ℕ, option_map, option_and_then, ◌+◌, ◌-◌
 abbrev pub is_digit : ℕ → Bool
 is_digit b = nat_le 48 b && nat_le b 57
 
+-- each byte is a digit
 abbrev pub all_digits : List ℕ → Bool
 all_digits [] = true
 all_digits (b ∷ bytes) = is_digit b && all_digits bytes
@@ -30,6 +31,7 @@ limited limit = option_map (λ n. (n, None)) (number_of limit)
 abbrev pub with_workers : ℕ → ℕ → Option (ℕ × Option ℕ)
 with_workers limit n = if nat_le 1 n && nat_le n 64 then Some (limit, Some n) else None
 
+-- this limit and the workers of a word
 abbrev pub worked : ℕ → List ℕ → Option (ℕ × Option ℕ)
 worked limit workers = option_and_then (with_workers limit) (number_of workers)
 
@@ -37,9 +39,11 @@ worked limit workers = option_and_then (with_workers limit) (number_of workers)
 abbrev pub both : List ℕ → List ℕ → Option (ℕ × Option ℕ)
 both limit workers = option_and_then (λ n. worked n workers) (number_of limit)
 
+-- the word is `--limit`
 abbrev pub is_limit : List ℕ → Bool
 is_limit word = bytes_eq word (codes "--limit")
 
+-- the word is `--workers`
 abbrev pub is_workers : List ℕ → Bool
 is_workers word = bytes_eq word (codes "--workers")
 

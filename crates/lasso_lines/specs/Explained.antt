@@ -1,4 +1,5 @@
--- What explains that a run with workers reports a refused line.
+-- What explains that a run with workers reports a refused line: a legal history of an interner with the given
+-- limit that has such a refusal.
 use Rattle.std.specs.Prelude.{ℕ, ◌≡◌, ◌⊎◌, List, []}
 use Rattle.lasso_parts.specs.Texts.{Text}
 use Rattle.lasso_parts.specs.declared.util.LassoErrorKind.TheVariants.{FailedAllocation}

@@ -1,4 +1,5 @@
--- The front of a text: its first bytes as a number. Fronts that differ order their texts.
+-- The front of a text: its first bytes as a number. Fronts that differ order their texts. Texts are sorted
+-- with their fronts: by the front first and then by the text, which is the order of the texts.
 use Rattle.std.specs.Prelude.{◌≡◌, ◌<◌, All, ℕ, zero, suc, ◌+◌, ◌*◌, List, [], ◌∷◌}
 use denote.Ref.{Bor}
 use Rattle.std.specs.Cmp.Lexicographic.{slice_cmp}

@@ -1,4 +1,6 @@
--- Distinct texts in the order of their bytes.
+-- Distinct texts in the order of their bytes. As far as the contracts say, a worker's interner may hold other
+-- texts than the lines. So a run marks the positions that its workers gave back: the texts there are named by
+-- the codes.
 use Rattle.std.specs.Prelude.{ℕ, ◌≡◌, ◌↔◌, ◌++◌, ◌∷◌, List, [], length, Contains, slice_get, Some}
 use Rattle.std.specs.List.{AllAdjacentBelow}
 use Rattle.std.specs.declared.cmp.Ordering.TheVariants.{Less}

@@ -1,4 +1,8 @@
--- What a run writes, and how it ends.
+-- What a run writes, and how it ends. The report of an input under a limit interns its lines in order,
+-- beginning with the empty list and `fresh 4096 limit`, with `Spur` keys. For each line it has the position
+-- of its text, a space, the line and a line feed. It ends with the first line that is not UTF-8 or that
+-- interning refuses; if no line is faulty, a last line says how many texts and how many bytes of usage there
+-- are.
 use Rattle.std.specs.Prelude.{ℕ, zero, suc, ◌≡◌, ◌<◌, ◌+◌, ◌⊎◌, cond, List, [], ◌∷◌, ◌++◌, length, Option, Some, None, Result, Ok, Err, MatchResult, codes, decimal}
 use Rattle.std.specs.Str.{is_utf8}
 use Rattle.lasso_parts.specs.Account.{Account, fresh}
@@ -38,6 +42,7 @@ line_report held line = decimal (interned_position held.texts line) ++ (32 ∷ (
 abbrev pub last_report : Held → List ℕ
 last_report held = decimal (length held.texts) ++ (codes " texts, " ++ (decimal held.account.usage ++ codes " bytes\n"))
 
+-- what goes on from a result, and what from an error
 abbrev pub or_else : {X E Y : Type 0} → Result X E → (X → Y) → (E → Y) → Y
 or_else (Ok x) f g = f x
 or_else (Err e) f g = g e
@@ -78,6 +83,8 @@ module _ (held : Held) (first : ℕ) (lines : List (List ℕ)) (part : List ℕ)
       ((fault_from held first lines ≡ Some fault) × (part ≡ report_from held first lines))
       ⊎ ((fault ≡ Refused number FailedAllocation) × LacksMemory number)
 
+  -- how a run ends with a fault: with that of the first faulty line, if the report up to it was written; out
+  -- of memory, as `LacksMemory` says; with a failed read or write, if a beginning of the report was written
   abbrev pub EndsWithFault : RunFault → Type 0
   EndsWithFault (Refused number error) = IsLineFault (Refused number error) number
   EndsWithFault (NotText number) = IsLineFault (NotText number) number

@@ -1,4 +1,5 @@
--- What a stretch of bytes does to a run, whatever bytes follow it.
+-- What a stretch of bytes does to a run, whatever bytes follow it. A stretch is the bytes that a reader shows
+-- at once.
 use Rattle.std.specs.Prelude.{ℕ, List, ◌++◌, Result, Err}
 use Rattle.lasso_parts.specs.Held.{Held}
 use Rattle.lasso_cut.specs.Lines.{lines_of}

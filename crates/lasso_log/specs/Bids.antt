@@ -5,8 +5,10 @@ use Rattle.logbook.specs.Pages.{Book, Nib, may_write}
 use Rattle.lasso_log.specs.Notes.{NoteView, first_note, IsOpened, IsWord, opening_of, notes_of, ticket_of}
 use Rattle.lasso_log.specs.Book.{Moving, May, Lets}
 
--- The note may be added while the turn word has its old value. `before` is what the note's pass had seen, and `given` a log in which that
--- is so; what is in hand has seen both, and all of it is of one book.
+-- What a pass has in hand that offers a bucket while the turn word has another value than the one that it
+-- waits for: the note may be added while the turn word has its old value. `before` is what the note's pass
+-- had seen, and `given` a log in which that is so; what is in hand has seen both, and all of it is of one
+-- book.
 pub record IsBid {Key : Type 0} (keys : ℕ → Option Key) (before given : List NoteView) (old : ℕ) (seen : List NoteView) (book : Book) (names : List ℕ) (pen : Book) (nib : Nib) (offered : List ℕ) (ask : NoteView) (state : Option ℕ) : Type 0 where
   pub pen_of : pen ≡ book
   pub names_of : offered ≡ names

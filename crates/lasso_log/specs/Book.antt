@@ -1,4 +1,11 @@
--- The rule of the book: what holds between any two steps, and what each step tells the one who takes it.
+-- The rule of the book, the log rule: what holds between any two steps of any threads, and what each step
+-- tells the one who takes it. `cells` are the values that the book holds.
+--
+-- Beside it the rule keeps, for each position below the list's length, that its cell is filled with its text,
+-- which lies there as long as the era, for good; and for each bucket the one right to its bytes that nobody
+-- has taken (`all_untaken`). The book keeps that right, and no thread: the exchange of a reservation takes
+-- the next bytes' right out of it (`TakesBytesAt`), and that of a charge puts a new bucket's in
+-- (`AddsBucket`).
 use Rattle.std.specs.Prelude.{◌≡◌, ◌≢◌, ℕ, ◌⊎◌, true, false, List, [], ◌∷◌, ◌++◌, ◌^◌, ◌<◌, length, Option, Some}
 use mathlib.Core.List.{IsPrefix}
 use Rattle.logbook.specs.Pages.{Cell, cell, Step, View, Book, Named, may_write, may_make, nib, no_nib, Runs}
@@ -49,7 +56,9 @@ Apart (w ∷ ws) = Others w.0 ws × Apart ws
 abbrev pub IsShort : Totals → Type 0
 IsShort s = length s.texts < 2 ^ 64
 
--- the cells hold the words of a legal history, whose events each used the ticket of its pass
+-- the rule: what stood at the opening is an opening; each used ticket is at home, and each note used the
+-- ticket that its pass then had; each word's cell is at home with the word's value, and no two words have one
+-- cell; the history is legal; and the number of texts is one that a word can have
 pub record KeepsRule {Key : Type 0} (keys : ℕ → Option Key) (cells : List Cell) (opening : Totals) (notes : List NoteView) : Type 0 where
   pub opened : IsOpening keys opening
   pub used : Used cells notes
@@ -68,10 +77,11 @@ LogKeepsRule keys cells (first ∷ notes) = KeepsRule keys cells first.opening n
 abbrev pub shown_of : List NoteView → List NoteView
 shown_of log = shown_note (texts_in log) (lent_in log)
 
--- the word of the list's length, and that of the turns
+-- the word of the list's length
 abbrev pub head_of : Book → Named
 head_of b = word_of b 0
 
+-- that of the turns
 abbrev pub turn_of : Book → Named
 turn_of b = word_of b 1
 
@@ -83,8 +93,8 @@ Peeks keys s v found w = (cells : List Cell) × LogKeepsRule keys cells w.0 × (
 abbrev pub Fetches : {Key : Type 0} → (ℕ → Option Key) → Step NoteView → View NoteView ℕ → ℕ → View NoteView ℕ → Type 0
 Fetches keys s v found w = (k : ℕ) × (w.1.0 ≡ nib may_make k 0) × ((cells : List Cell) × LogKeepsRule keys cells w.0)
 
--- A step that adds a note: to a log at which the ticket was out and the word had the value that was found,
--- where that was the old one. Else the log stayed, and so did the pen.
+-- A step that adds a note: to a log at which the ticket was out and the word had the value that was found, if
+-- that was the old one. Else the log stayed, and so did the pen.
 pub record IsAdded {Key : Type 0} (keys : ℕ → Option Key) (s : Step NoteView) (v : View NoteView ℕ) (found : ℕ) (w : View NoteView ℕ) : Type 0 where
   pub log : List NoteView
   pub cells : List Cell
@@ -92,13 +102,14 @@ pub record IsAdded {Key : Type 0} (keys : ℕ → Option Key) (s : Step NoteView
   pub kept : LogKeepsRule keys cells log
   pub out : (cell cells v.1.0.key).1 ≡ false
   pub value : (cell cells s.key).0 ≡ found
-  -- where it was the old one, the update has run; else it is as it was
+  -- if it was the old one, the update has run; else it is as it was
   pub ran : found ≡ s.old → w.1.1 ≡ Some 0
   pub idle : found ≢ s.old → w.1.1 ≡ v.1.1
   pub done :
       ((found ≡ s.old) × (w.0 ≡ log ++ s.ask ∷ []) × (w.1.0 ≡ no_nib) × ((after : List Cell) × LogKeepsRule keys after w.0))
       ⊎ ((found ≢ s.old) × (w.0 ≡ log) × (w.1.0 ≡ v.1.0))
 
+-- the same, as the kind of such a step
 abbrev pub Adds : {Key : Type 0} → (ℕ → Option Key) → Step NoteView → View NoteView ℕ → ℕ → View NoteView ℕ → Type 0
 Adds keys s v found w = IsAdded keys s v found w
 
@@ -114,13 +125,15 @@ Bumps words more position n ticket value = (more ≡ bumped position n words) �
 abbrev pub Moving : ℕ → Event → ℕ → ℕ → ℕ → Type 0
 Moving ticket e position n value = (words : List (ℕ × ℕ)) → Bumps words (worded words ticket e) position n ticket value
 
--- the event may follow wherever these notes were seen and the word has its old value
+-- the event may follow, and leaves a number of texts that a word can have, wherever the log has come to since
+-- these notes were seen while the word still has its old value
 abbrev pub May : {Key : Type 0} → (ℕ → Option Key) → Totals → List NoteView → ℕ → ℕ → ℕ → Event → Type 0
 May keys o notes position key old e =
     (cells : List Cell) (log : List NoteView) → KeepsRule keys cells o log → IsPrefix notes log → IsWordWith log position key old
     → MayFollow keys (state o log) e × IsShort (counted (state o log) e)
 
--- the event was added as the one event of the pass p, past what was given, where the word had its old value
+-- what the exchange of a word tells that has added an event: what was given begins the log before it, the
+-- word had its old value there, and the event is the only one of the pass p past what the pass had seen
 pub record IsDone {Key : Type 0} (keys : ℕ → Option Key) (o : Totals) (p : ℕ) (before given after : List NoteView) (event : Event) (position key old used_up : ℕ) : Type 0 where
   pub mid : List NoteView
   pub note : NoteView
@@ -137,7 +150,7 @@ pub record IsDone {Key : Type 0} (keys : ℕ → Option Key) (o : Totals) (p : �
 abbrev pub Reads : {Key : Type 0} → (ℕ → Option Key) → Totals → List NoteView → ℕ → ℕ → ℕ → Type 0
 Reads keys o notes position key n = IsWordWith notes position key n × ((cells : List Cell) × KeepsRule keys cells o notes)
 
--- how an event moves what the book's keepers see, where `e` is its note
+-- how an event moves what the book's keepers see; `e` is its note
 abbrev pub MovesBy : Event → NoteView → List NoteView → List NoteView → Type 0
 MovesBy (Reserve bucket n) e before after = (texts_shown after ≡ texts_shown before) × TakesBytesAt lent_shown bucket (bucket_in e.lent) n before after
 MovesBy (Charge size n) e before after = (texts_shown after ≡ texts_shown before) × AddsBucket lent_shown (bucket_in e.lent) before after
@@ -154,7 +167,7 @@ Lets keys first notes position key old e s =
     (cells : List Cell) (log : List NoteView) → KeepsRule keys cells first.opening log → IsPrefix notes log → IsWordWith log position key old
     → Runs (Moved e) s (Some 0) (shown_of (first ∷ log)) (shown_of (first ∷ (log ++ e ∷ [])))
 
--- what is known once a note is in, where a pass had seen `before`, and `given` was seen
+-- what is known once a note is in, if a pass had seen `before`, and `given` was seen
 pub record IsIn {Key : Type 0} (keys : ℕ → Option Key) (o : Totals) (before given after : List NoteView) (e : NoteView) (position key old : ℕ) : Type 0 where
   pub opened : IsOpened after
   pub opening : opening_of after ≡ o

@@ -2,6 +2,7 @@
 use Rattle.std.specs.Prelude.{ℕ, zero, suc, ◌+◌, ◌-◌, ◌<◌, List, [], ◌∷◌, All, Option, option_map, unwrap_or}
 use Rattle.lasso_parts.specs.Account.{Account, store}
 
+-- a bucket of a history
 pub record CountedBucket : Type 0 where
   -- how many bytes it has
   pub size : ℕ
@@ -30,8 +31,9 @@ full doubling usage limit = record { room = 0; spare = 0; doubling = doubling; u
 abbrev pub stored_in_full : (doubling usage limit n : ℕ) → Option Account
 stored_in_full doubling usage limit n = store 0 (full doubling usage limit) n
 
--- the size of the bucket that n bytes, at least one, ask for where no bucket has room, or none where the limit refuses it:
--- by as much the usage grows
+-- the size of the bucket that n bytes, at least one, ask for if no bucket has room: exactly n, what the limit
+-- leaves, or twice the doubling size, as `store` gives it; or none if the limit refuses it. By as much the
+-- usage grows
 abbrev pub bucket_size : (doubling usage limit n : ℕ) → Option ℕ
 bucket_size doubling usage limit n = option_map (λ (a : Account). a.usage - usage) (stored_in_full doubling usage limit n)
 

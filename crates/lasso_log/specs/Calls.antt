@@ -14,7 +14,8 @@ events_of pass (e ∷ es) = if e.0 == pass then e.1 ∷ events_of pass es else e
 abbrev pub TakesBytes : ℕ → List Event → Type 0
 TakesBytes n es = ((bucket : ℕ) × (es ≡ Reserve bucket n ∷ [])) ⊎ ((size : ℕ) × (es ≡ Charge size n ∷ []))
 
--- the events that store a text's bytes: one where it is copied and not empty, and else none
+-- the events that store a text's bytes: one `Reserve` or `Charge` of its length if it is copied and not
+-- empty, and else none
 abbrev pub Stores : Keeping → Text → List Event → Type 0
 Stores Static text es = es ≡ []
 Stores Copied [] es = es ≡ []
@@ -24,14 +25,16 @@ Stores Copied (byte ∷ bytes) es = TakesBytes (length (byte ∷ bytes)) es
 abbrev pub StoresAndAppends : Keeping → Text → List Event → Type 0
 StoresAndAppends keeping text es = (stored : List Event) × Stores keeping text stored × (es ≡ stored ++ Append text ∷ [])
 
--- the events that a call makes, by its reply
+-- the events that a call makes, by its reply. An intern that returns a key: none, or what stores the text's
+-- bytes and then `Append` of the text. One that is refused as `KeySpaceExhaustion`: what stores the text's
+-- bytes. `SetLimit`: `Limit`. Every other call: none
 abbrev pub Makes : {K : Type 0} → Question → Reply K → List Event → Type 0
 Makes (Intern keeping text) (Interned (Ok k)) es = (es ≡ []) ⊎ StoresAndAppends keeping text es
 Makes (Intern keeping text) (Interned (Err KeySpaceExhaustion)) es = Stores keeping text es
 Makes (SetLimit limit) reply es = es ≡ Limit limit ∷ []
 Makes question reply es = es ≡ []
 
--- What may come after the step at which the reply was read, up to the end: nothing, where the whole list is read.
+-- What may come after the step at which the reply was read, up to the end: nothing if the whole list is read.
 abbrev pub MayComeAfter : Question → History → Type 0
 MayComeAfter Iterate back = back ≡ []
 MayComeAfter Strings back = back ≡ []
@@ -41,7 +44,8 @@ MayComeAfter question back = Unit {0}
 
 -- A call of the pass with this number: what the pass had seen at its beginning begins what it has seen at its
 -- end, the reply may be given somewhere between the two, and past its beginning come exactly the events that
--- the call makes, among those of other passes.
+-- the call makes, among those of other passes. It says nothing of those: they are other callers'. Nor does it
+-- say that the history is legal; clauses say so beside it.
 pub record IsCall {K : Type 0} (key_at : ℕ → Option K) (opening : Totals) (before after : History) (pass : ℕ) (question : Question) (reply : Reply K) : Type 0 where
   pub past : History
   pub begins : before ++ past ≡ after

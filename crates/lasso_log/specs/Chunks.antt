@@ -1,4 +1,6 @@
--- Where the texts of a shared list lie, and what a book keeps of them: that each cell below the length is filled with its text.
+-- Where the texts of a shared list lie, and what a book keeps of them: that each cell below the length is
+-- filled with its text. A cell holds one text and is filled once. Cells lie in chunks. The names of an
+-- interner are the number of its era and after it the names of the cells that its chunks lie in.
 use Rattle.std.specs.Prelude.{◌≡◌, ℕ, zero, suc, ◌+◌, ◌-◌, ◌*◌, ◌^◌, ◌<◌, ◌≤◌, List, [], ◌∷◌, ◌++◌, length, map, slice_index, slice_index_or, nat_lt, if◌then◌else◌}
 use mathlib.Core.List.{IsPrefix}
 use base.Fml.{Fml, ftrue, fex, fsep}
@@ -6,7 +8,7 @@ use denote.RattleType.{RattleType}
 use Rattle.boxcar.specs.Slot.{written, Named}
 use Rattle.lasso_parts.specs.Texts.{Text}
 
--- how many cells a chunk has: the first two have 32, and each later one has twice as many as the one before
+-- how many cells a chunk has: the first two have 32, and each later one has as many as all before it
 abbrev pub chunk_length : ℕ → ℕ
 chunk_length zero = 32
 chunk_length (suc chunk) = 32 * 2 ^ chunk
@@ -33,7 +35,7 @@ IsAhead length position = (length ≤ position) × (position ≤ length + 15)
 abbrev pub SharesChunk : ℕ → Type 0
 SharesChunk length = (0 < length) × (chunk_of length ≡ chunk_of (length - 1)) × (chunk_of (length + 15) ≡ chunk_of length)
 
--- the offset of a position from its chunk's first cell
+-- how far after its chunk's first cell a position is
 abbrev pub offset_of : ℕ → ℕ
 offset_of position = position - chunk_start (chunk_of position)
 
@@ -45,7 +47,7 @@ names_of cells = map (λ (c : Named). c.id) cells
 abbrev pub name_at : List Named → ℕ → ℕ
 name_at cells position = (slice_index_or cells position record { id = 0; tag = [] }).id
 
--- the first of these numbers, and 0 where there is none
+-- the first of these numbers, and 0 if there is none
 abbrev pub first_number : List ℕ → ℕ
 first_number [] = 0
 first_number (n ∷ ns) = n
@@ -58,7 +60,7 @@ era_named names = first_number names
 abbrev pub chunk_named : List ℕ → ℕ → ℕ
 chunk_named names position = slice_index names (suc (chunk_of position))
 
--- a chunk and a cell that have these names are those of the position, where `cells` is what the chunk has
+-- a chunk and a cell have the names of a position's; `cells` is what the chunk has
 abbrev pub IsCellAt : List ℕ → ℕ → ℕ → List Named → ℕ → Type 0
 IsCellAt names position chunk cells cell = (chunk ≡ chunk_named names position) × (cell ≡ name_at cells (offset_of position))
 
@@ -68,6 +70,7 @@ IsNumbered count cells = (length cells ≡ count) × ((chunk : ℕ) (d : Named) 
 
 -- V is a chunk, and `cells` what it has; R is what a cell holds, `meaning` its text, and `lasts` that the text lies there as long as an era
 module _ (V R : RattleType) (cells : V.Denot → List Named) (meaning : R.Denot → Text) (lasts : R.Denot → ℕ → Type 0) where
+  -- a cell is filled with what stands for this text, which lies there as long as the era
   abbrev pub held : ℕ → ℕ → Text → R.Denot → Fml
   held era cell text x = fsep (written R cell x) (fex ((meaning x ≡ text) × lasts x era) (λ _. ftrue))
 
@@ -75,10 +78,11 @@ module _ (V R : RattleType) (cells : V.Denot → List Named) (meaning : R.Denot 
   abbrev pub holds_text : ℕ → ℕ → Text → Fml
   holds_text era cell text = fex R.Denot (held era cell text)
 
+  -- a chunk is made, and its cell at this offset holds this text
   abbrev pub in_chunk : ℕ → ℕ → ℕ → Text → V.Denot → Fml
   in_chunk era chunk offset text v = fsep (written V chunk v) (holds_text era (name_at (cells v) offset) text)
 
-  -- the chunk is made, and its cell at this offset holds this text
+  -- the same of some chunk
   abbrev pub filled : ℕ → ℕ → ℕ → Text → Fml
   filled era chunk offset text = fex V.Denot (in_chunk era chunk offset text)
 

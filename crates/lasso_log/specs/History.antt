@@ -3,6 +3,7 @@ use Rattle.std.specs.Prelude.{◌≡◌, ◌≢◌, ℕ, ◌+◌, ◌≤◌, Lis
 use Rattle.lasso_parts.specs.Texts.{Text, position_of, IsDistinct, Fits}
 use Rattle.lasso_log.specs.Buckets.{CountedBucket, with_taken, changed_at, HasNoRoom, bucket_size, doubling_after}
 
+-- what threads do to a shared interner
 pub data Event : Type 0 where
   -- bytes were taken in the bucket at this position
   Reserve : (bucket bytes : ℕ) → Event
@@ -29,7 +30,8 @@ pub record Totals : Type 0 where
   -- the most bytes that they may take
   pub limit : ℕ
 
--- an opening with these texts, and one bucket of this size of which `used` bytes are taken
+-- an opening with these texts, and one bucket of this size of which `used` bytes are taken: doubling size and
+-- usage are that size. An interner of `from_static` opens with its words, and no byte is taken
 abbrev pub opened : List Text → (size used limit : ℕ) → Totals
 opened texts size used limit =
     record {
@@ -58,7 +60,8 @@ counted s (Charge size n) =
 counted s (Append text) = record s { texts = s.texts ++ text ∷ [] }
 counted s (Limit limit) = record s { limit = limit }
 
--- the totals after the history, from the opening on
+-- the totals after the history, from the opening on. The list is the opening's with the appended texts after
+-- it; the usage grows by the size of each bucket that is charged; the limit is the last one set
 abbrev pub totals : Totals → History → Totals
 totals s [] = s
 totals s (e ∷ es) = totals (counted s e.1) es
@@ -67,7 +70,10 @@ totals s (e ∷ es) = totals (counted s e.1) es
 abbrev pub Lacks : List Text → Text → Type 0
 Lacks texts text = position_of texts text ≡ None
 
--- whether the event may come at these totals
+-- whether the event may come at these totals. `Reserve`: n is not 0, and the used bytes and n are at most the
+-- bucket's size. `Charge`: n is not 0, no bucket has room for n bytes, the size is `bucket_size` of n, and
+-- the usage and the size are at most the limit. `Append`: the list lacks the text, and its length has a key.
+-- `Limit`: always
 abbrev pub MayFollow : {K : Type 0} → (ℕ → Option K) → Totals → Event → Type 0
 MayFollow key_at s (Reserve bucket n) = (n ≢ 0) × IsSomeAnd (slice_get s.buckets bucket) (λ (b : CountedBucket). b.used + n ≤ b.size)
 MayFollow key_at s (Charge size n) =
@@ -75,7 +81,7 @@ MayFollow key_at s (Charge size n) =
 MayFollow key_at s (Append text) = Lacks s.texts text × IsSome (key_at (length s.texts))
 MayFollow key_at s (Limit limit) = Unit {0}
 
--- each event may come after the ones before it
+-- the history is legal: each event may come after the ones before it
 abbrev pub IsLegal : {K : Type 0} → (ℕ → Option K) → Totals → History → Type 0
 IsLegal key_at s [] = Unit {0}
 IsLegal key_at s (e ∷ es) = MayFollow key_at s e.1 × IsLegal key_at (counted s e.1) es

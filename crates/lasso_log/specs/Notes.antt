@@ -1,5 +1,6 @@
--- The notes of the shared log: the first has what stood at the opening, and each further one is an event with
--- the pass that made it. What the notes add up to: the history, the list, and the words.
+-- The notes of the shared log, a list that only grows: the first has the opening, and each further one is an
+-- event with the pass that made it. They exist in proofs alone. What the notes add up to: the history, the
+-- list, and the words.
 use Rattle.std.specs.Prelude.{◌≡◌, ℕ, suc, ◌+◌, ◌==◌, List, [], ◌∷◌, ◌++◌, map, slice_get, Some, refl, ◌⊎◌, if◌then◌else◌}
 use mathlib.Core.Logic.{inl, inr}
 use Rattle.std.specs.Coded.{Coded, code_by, coded×, coded⊎, coded_ℕ, coded_list}
@@ -10,18 +11,21 @@ use Rattle.lasso_log.specs.Buckets.{CountedBucket, changed_at}
 use Rattle.lasso_log.specs.Calls.{events_of}
 use Rattle.lasso_log.specs.LentBuckets.{Site, LentBucket, more_taken}
 
+-- a note
 pub record NoteView : Type 0 where
   -- the number of the pass whose event it is
   pub by : ℕ
   pub event : Event
   -- the position of an appended text in the list
   pub position : ℕ
-  -- the cell that the event used up, and the one that its pass has after it
+  -- the ticket that the event used up: a cell of the book
   pub ticket : ℕ
+  -- the ticket that its pass has after it
   pub next : ℕ
-  -- in the first note, what stood at the opening
+  -- in the first note, the opening
   pub opening : Totals
-  -- where bytes lie: in the first note the opening's bucket, in a charge the new one, in a reservation its bucket as it was found
+  -- where bytes lie: in the first note the opening's bucket, in a charge the new one, in a reservation its
+  -- bucket as it was found
   pub lent : List LentBucket
 
 abbrev pub no_totals : Totals
@@ -84,11 +88,11 @@ note_coded =
 abbrev pub history : List NoteView → History
 history notes = map (λ (e : NoteView). (e.by, e.event)) notes
 
--- the totals after these notes
+-- the totals after these notes: what their history adds up to
 abbrev pub state : Totals → List NoteView → Totals
 state o notes = totals o (history notes)
 
--- what stood at the opening of a log, and its notes past the first
+-- the opening of a log
 abbrev pub opening_of : List NoteView → Totals
 opening_of [] = no_totals
 opening_of (e ∷ es) = e.opening
@@ -98,6 +102,7 @@ abbrev pub first_note : List NoteView → NoteView
 first_note [] = no_note
 first_note (e ∷ es) = e
 
+-- its notes past the first
 abbrev pub notes_of : List NoteView → List NoteView
 notes_of [] = []
 notes_of (e ∷ es) = es
@@ -136,9 +141,11 @@ lent_in log = lent_after (first_note log).lent (notes_of log)
 abbrev pub shown_note : List Text → List LentBucket → List NoteView
 shown_note texts buckets = record (opening_note record no_totals { texts = texts }) { lent = buckets } ∷ []
 
+-- the list that such a note has
 abbrev pub texts_shown : List NoteView → List Text
 texts_shown log = (opening_of log).texts
 
+-- the lent buckets that it has
 abbrev pub lent_shown : List NoteView → List LentBucket
 lent_shown log = (first_note log).lent
 
@@ -147,7 +154,7 @@ abbrev pub appended_text : Event → Text
 appended_text (Append t) = t
 appended_text e = []
 
--- the ticket of the pass p after these notes, where it was d before them
+-- the ticket of the pass p after these notes, if it was d before them
 abbrev pub ticket_after : ℕ → ℕ → List NoteView → ℕ
 ticket_after p d [] = d
 ticket_after p d (e ∷ es) = ticket_after p (if e.by == p then e.next else d) es
@@ -156,23 +163,23 @@ ticket_after p d (e ∷ es) = ticket_after p (if e.by == p then e.next else d) e
 abbrev pub ticket_of : ℕ → List NoteView → ℕ
 ticket_of p notes = ticket_after p p notes
 
--- each of the notes uses the ticket that its pass then has, where these come before
+-- each of the notes uses the ticket that its pass then has, if these come before
 abbrev pub Chained : List NoteView → List NoteView → Type 0
 Chained before [] = Unit {0}
 Chained before (e ∷ es) = (e.ticket ≡ ticket_of e.by before) × Chained (before ++ e ∷ []) es
 
--- The words, each with its cell's key and its value: how many texts were appended, how many charges and
--- limits came, and then for each bucket how many bytes were taken in it since its word began.
+-- the words, each with its cell's key and its value, with n more at this position
 abbrev pub bumped : ℕ → ℕ → List (ℕ × ℕ) → List (ℕ × ℕ)
 bumped position n words = changed_at position (λ w. (w.0, w.1 + n)) words
 
--- a charge's own ticket is its bucket's word from then on
+-- the words after one more event. A charge's own ticket is its bucket's word from then on
 abbrev pub worded : List (ℕ × ℕ) → ℕ → Event → List (ℕ × ℕ)
 worded words ticket (Reserve bucket n) = bumped (suc (suc bucket)) n words
 worded words ticket (Charge size n) = bumped 1 1 words ++ (ticket, n) ∷ []
 worded words ticket (Append t) = bumped 0 1 words
 worded words ticket (Limit m) = bumped 1 1 words
 
+-- the words after these notes
 abbrev pub words_after : List (ℕ × ℕ) → List NoteView → List (ℕ × ℕ)
 words_after words [] = words
 words_after words (e ∷ es) = words_after (worded words e.ticket e.event) es
@@ -181,6 +188,8 @@ words_after words (e ∷ es) = words_after (worded words e.ticket e.event) es
 abbrev pub first_words : List (ℕ × ℕ)
 first_words = (0, 0) ∷ (1, 0) ∷ (2, 0) ∷ []
 
+-- the words of a log: at position 0 how many texts were appended, at position 1 how many charges and limits
+-- came, and then for each bucket how many bytes were taken in it since its word began
 abbrev pub words_of : List NoteView → List (ℕ × ℕ)
 words_of notes = words_after first_words notes
 
@@ -188,6 +197,7 @@ words_of notes = words_after first_words notes
 abbrev pub IsWordWith : List NoteView → ℕ → ℕ → ℕ → Type 0
 IsWordWith notes position key value = slice_get (words_of notes) position ≡ Some (key, value)
 
+-- the word at this position has this key
 abbrev pub IsWord : List NoteView → ℕ → ℕ → Type 0
 IsWord notes position key = (n : ℕ) × IsWordWith notes position key n
 

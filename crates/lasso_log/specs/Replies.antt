@@ -1,4 +1,4 @@
--- What may be asked of a shared interner, and what it may reply where a history adds up to these totals.
+-- What may be asked of a shared interner, and what it may reply if a history adds up to these totals.
 use Rattle.std.specs.Prelude.{◌≡◌, ◌≢◌, ◌⊎◌, ℕ, ◌+◌, ◌<◌, Bool, List, [], map, length, Option, Some, None, is_some, slice_get, nat_eq, nat_lt, Result, Ok, Err}
 use Rattle.std.specs.List.{enumerate_from}
 use Rattle.lasso_parts.specs.Texts.{Text, position_of, key_of}
@@ -12,6 +12,7 @@ pub data Keeping : Type 0 where
   Copied : Keeping
   Static : Keeping
 
+-- what may be asked
 pub data Question : Type 0 where
   Intern : (keeping : Keeping) (text : Text) → Question
   Get : (text : Text) → Question
@@ -32,6 +33,7 @@ pub data Question : Type 0 where
   -- a reader or a resolver of the list
   Freeze : Question
 
+-- what may be replied
 pub data Reply (K : Type 0) : Type 0 where
   -- to an intern
   Interned : Result K LassoErrorKind → Reply K
@@ -58,8 +60,9 @@ IsWalkOf {K} key_at texts pairs = map {B = Option K × Text} (λ e. (Some e.0, e
 abbrev pub MayCopy : List Text → Result (List Text) LassoErrorKind → Type 0
 MayCopy texts reply = (reply ≡ Ok texts) ⊎ (reply ≡ Err FailedAllocation)
 
--- What an intern may reply: the key of the text's position; or, where the list lacks the text, that its
--- length has no key, that the limit leaves no room for the text's bytes, or that memory ran out.
+-- What an intern may reply: the key of the text's position. Or, if the list lacks the text:
+-- `KeySpaceExhaustion`, its length has no key; `MemoryLimitReached`, the text is copied and not empty, no
+-- bucket has room for it, and the usage and its length are above the limit; `FailedAllocation`.
 abbrev pub MayIntern : {K : Type 0} → (ℕ → Option K) → Totals → Keeping → Text → Result K LassoErrorKind → Type 0
 MayIntern key_at s keeping text (Ok k) = key_of key_at s.texts text ≡ Some k
 MayIntern key_at s keeping text (Err KeySpaceExhaustion) = Lacks s.texts text × (key_at (length s.texts) ≡ None)
@@ -67,7 +70,12 @@ MayIntern key_at s keeping text (Err MemoryLimitReached) =
     Lacks s.texts text × (keeping ≡ Copied) × (text ≢ []) × HasNoRoom s.buckets (length text) × (s.limit < s.usage + length text)
 MayIntern key_at s keeping text (Err FailedAllocation) = Lacks s.texts text
 
--- What may be replied to the question. Any other reply may not.
+-- What may be replied to the question; any other reply may not. To an intern, as `MayIntern`. To `Get`, the
+-- key of the text's position, or none; to `Contains`, whether the list has it. To `ContainsKey`, whether the
+-- number is below the length; to `Resolve`, the text at that position, or none. To `Len`, `IsEmpty`, `Usage`
+-- and `MaxUsage`, the length, whether it is 0, the usage and the limit. To `Iterate` and `Strings`, all texts
+-- in order, with their keys or without. To `Serialize` and `Freeze`, the list, or `FailedAllocation`. To
+-- `SetLimit`, that it is done.
 abbrev pub MayReply : {K : Type 0} → (ℕ → Option K) → Totals → Question → Reply K → Type 0
 MayReply key_at s (Intern keeping text) (Interned reply) = MayIntern key_at s keeping text reply
 MayReply key_at s (Get text) (Found reply) = reply ≡ key_of key_at s.texts text

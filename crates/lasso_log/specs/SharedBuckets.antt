@@ -22,7 +22,8 @@ bucket_owed r = record { site = record { era = r.era; block = r.block; start = r
 abbrev pub IsOfEra : ℕ → LentBucket → Type 0
 IsOfEra era b = b.site.era ≡ era
 
--- these are the words of what is owed of a bucket, and what the right to free it is for
+-- a holding, what is owned of a bucket: these are the words of the right to have its bytes back, and what the
+-- right to free it is for
 pub record IsHolding (r : Owed) (ptr : Ptr) (size : ℕ) (at : Ptr) (len : ℕ) : Type 0 where
   pub address : ptr ≡ block_ptr r.block r.start
   pub count : r.len ≡ size
@@ -30,19 +31,22 @@ pub record IsHolding (r : Owed) (ptr : Ptr) (size : ℕ) (at : Ptr) (len : ℕ) 
   pub block : at ≡ ptr
   pub bytes : len ≡ size
 
--- these are the words of a bucket that is not in a history yet, and the right to its bytes that were not taken
+-- a new bucket, which is in no history yet: these are its words, and the right to its bytes that were not
+-- taken
 pub record IsNewBucket (r : Free) (numbers : List ℕ) (ptr : Ptr) (size taken : ℕ) : Type 0 where
   pub address : ptr ≡ block_ptr (site_at numbers).block (site_at numbers).start
   pub right : IsRightTo r (bucket_at numbers size taken) (size - taken)
   pub within : taken ≤ size
   pub small : size < 2 ^ 63
 
--- the bucket at this position of a history that was seen: its word, what the history counts of it, and where it lies
+-- the bucket at this position of a history that was seen: its word, what the history counts of it, and where
+-- it lies. Each event changes the three alike
 pub record Stands (words : List (ℕ × ℕ)) (buckets : List CountedBucket) (rights : List LentBucket) (position key value : ℕ) (b : CountedBucket) (x : LentBucket) : Type 0 where
   pub word : slice_get words (suc (suc position)) ≡ Some (key, value)
   pub counted : slice_get buckets position ≡ Some b
   pub lent : slice_get rights position ≡ Some x
 
+-- the same, of a log's first note and the notes past it
 abbrev pub StandsIn : NoteView → List NoteView → ℕ → ℕ → ℕ → CountedBucket → LentBucket → Type 0
 StandsIn first notes position key value b x = Stands (words_of notes) (state first.opening notes).buckets (lent_after first.lent notes) position key value b x
 
@@ -51,8 +55,8 @@ pub record IsBucketAt (first : NoteView) (notes : List NoteView) (position key b
   pub value : ℕ
   pub stands : StandsIn first notes position key value record { size = size; used = base + value } (bucket_at numbers size (base + value))
 
--- a bucket of a history: its interner, its position there, where it lies, how many bytes it has, and how many of them were taken
--- before its word began
+-- a shared bucket, one of a history that was seen: its interner, its position there, where it lies, how many
+-- bytes it has, and how many of them were taken before its word began
 pub record SharedView : Type 0 where
   pub of : InternerId
   pub position : ℕ
@@ -108,6 +112,8 @@ pub record IsReserved (b : SharedView) (p : ℕ) (before after : List NoteView) 
 abbrev pub site_of : RangeView → Site
 site_of r = record { era = r.era; block = r.block; start = r.start }
 
--- the numbers of an interner's book, and after them its names
+-- the numbers of an interner's book, and after them its names: what contracts see of its list of buckets.
+-- Each bucket in that list, of which the opening's is the first, is of that book and has these names;
+-- contracts do not see which buckets are in it
 abbrev pub names_with_book : InternerId → List ℕ
 names_with_book of = of.book.number ∷ of.book.log_name ∷ of.book.cells_name ∷ of.chunks

@@ -21,15 +21,16 @@ pub record IsTurned {Key : Type 0} (keys : ℕ → Option Key) (o : Totals) (not
 abbrev pub NoneHasRoom : Totals → (count n : ℕ) → Type 0
 NoneHasRoom s count n = (position : ℕ) → position < count → LacksRoom s position n
 
--- between two events nothing of this changed: usage, limit, doubling size, and how many buckets there are
+-- usage, limit, doubling size and the number of buckets are what they were: so it is while the turn word has
+-- one value, since no charge and no limit comes then, and a bucket that lacked room lacks it still
 pub record IsSameTurn (s more : Totals) : Type 0 where
   pub usage : more.usage ≡ s.usage
   pub limit : more.limit ≡ s.limit
   pub doubling : more.doubling ≡ s.doubling
   pub count : length more.buckets ≡ length s.buckets
 
--- bytes are refused at one step between `before` and `after`: there the list has this length, no bucket has room for them, and they are
--- above the limit
+-- the ground of a refusal: at one step between `before` and `after` the list has this length, no bucket has
+-- room for the bytes, and usage and bytes are above the limit
 pub record IsPastLimit (o : Totals) (before after : List NoteView) (len n : ℕ) : Type 0 where
   pub notes : List NoteView
   pub past : IsPrefix before notes

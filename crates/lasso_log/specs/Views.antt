@@ -7,7 +7,8 @@ use Rattle.lasso_log.specs.History.{History, Append, Totals}
 use Rattle.lasso_parts.specs.Texts.{Text}
 use Rattle.lasso_log.specs.Notes.{NoteView, note_coded, totals_coded, history, state, Since}
 
--- which interner a thing is of: its book, its names (of its era and of the chunks that its texts lie in), and what it opened with
+-- which interner a thing is of: the book of its log, its names (of its era and of the chunks that its texts
+-- lie in), and its opening
 pub record InternerId : Type 0 where
   pub book : Book
   pub chunks : List ℕ
@@ -16,6 +17,7 @@ pub record InternerId : Type 0 where
 abbrev pub interner_id_coded : Coded InternerId
 interner_id_coded = coded_via (coded× book_coded (coded× (coded_list coded_ℕ) totals_coded)) (λ (o : InternerId). (o.book, (o.chunks, o.opening))) (λ x y e i. record { book = (e i).0; chunks = (e i).1.0; opening = (e i).1.1 })
 
+-- the same, of its three parts
 abbrev pub interner_id : Book → List ℕ → Totals → InternerId
 interner_id book chunks opening = record { book = book; chunks = chunks; opening = opening }
 
@@ -40,7 +42,8 @@ IsSamePass now before = (now.number ≡ before.number) × (now.of ≡ before.of)
 abbrev pub list_of : InternerId → List NoteView → List Text
 list_of of notes = (state of.opening notes).texts
 
--- turns that were seen: their interner, the notes, and the numbers of these
+-- the turns, charges and limits, of a history that was seen: their interner, the notes, how many turns came,
+-- the doubling size, the usage, the limit, and how many buckets there are
 pub record TurnsView : Type 0 where
   pub of : InternerId
   pub notes : List NoteView
@@ -56,7 +59,7 @@ turns_view_coded =
     (λ (t : TurnsView). (t.of, (t.notes, (t.turns, (t.doubling, (t.usage, (t.limit, t.count)))))))
     (λ x y e i. record { of = (e i).0; notes = (e i).1.0; turns = (e i).1.1.0; doubling = (e i).1.1.1.0; usage = (e i).1.1.1.1.0; limit = (e i).1.1.1.1.1.0; count = (e i).1.1.1.1.1.1 })
 
--- a history that was seen: its interner, and its notes past the opening
+-- a history that was seen, kept with what was read off it: its interner, and its notes past the opening
 pub record SnapshotView : Type 0 where
   pub of : InternerId
   pub notes : List NoteView
@@ -78,7 +81,8 @@ spine_view_coded = coded_via (coded× coded_ℕ (coded× interner_id_coded (code
 abbrev pub IsSameSpine : SpineView → SpineView → Type 0
 IsSameSpine now before = (now.of ≡ before.of) × (now.notes ≡ before.notes)
 
--- an append: the one event of its pass, which puts the text last in the list that the spine had seen, in one of its slots
+-- what an append leaves: the one event of its pass, the text last in the list that the spine had seen, a
+-- spine that has seen what the pass has, and one slot less
 pub record IsAppended (of : InternerId) (before after : PassView) (spine_before spine_after : SpineView) (text : Text) : Type 0 where
   pub event : Since before.number before.notes after.notes (Append text ∷ [])
   pub list : list_of of after.notes ≡ list_of of spine_before.notes ++ text ∷ []

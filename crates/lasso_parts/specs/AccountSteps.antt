@@ -2,6 +2,7 @@
 use Rattle.std.specs.Prelude.{◌≡◌, ℕ, ◌^◌, ◌-◌, List, [], ◌∷◌, Option, Some, None}
 use Rattle.lasso_parts.specs.Account.{Account, fresh, store, clear, with_limit}
 
+-- what is done to an account
 pub data AccountStep : Type 0 where
   -- a text of this many bytes is stored
   bytes : ℕ → AccountStep
@@ -31,6 +32,7 @@ figures (Some a) = Some (a.room, a.spare, a.doubling, a.usage)
 abbrev pub Gives : ℕ → ℕ → List AccountStep → Option (ℕ × ℕ × ℕ × ℕ) → Type 0
 Gives first permitted steps wanted = figures (account_after first (Some (fresh first permitted)) steps) ≡ wanted
 
+-- the greatest limit
 abbrev pub no_limit : ℕ
 no_limit = 2 ^ 64 - 1
 
@@ -97,5 +99,6 @@ pub record ServesRemnantAgain : Type 0 where
   pub refilled : Gives 4 7 (bytes 4 ∷ bytes 2 ∷ empty ∷ bytes 4 ∷ []) (Some (0, 0, 4, 4))
   pub again : Gives 4 7 (bytes 4 ∷ bytes 2 ∷ empty ∷ bytes 4 ∷ bytes 3 ∷ []) (Some (0, 0, 4, 7))
 
+-- all of these hold: the contract of `laws::store_serves_as_worked`
 abbrev pub ServesAsWorked : Type 0
 ServesAsWorked = ServesRemnant × ServesExact × ServesDoubled × ServesRaisedLimit × ServesKept × ServesSpares × ServesSparesAtLimit × ServesRemnantAgain

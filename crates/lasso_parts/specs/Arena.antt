@@ -6,7 +6,7 @@ use Rattle.lasso_parts.specs.Account.{Account}
 use Rattle.lasso_parts.specs.Bucket.{Extent}
 use Rattle.lasso_parts.specs.declared.arena.Span.{Span}
 
--- an arena, from which all else is derived
+-- an arena: its regions, those that the last clear kept first. All else is derived
 pub record Regions : Type 0 where
   -- the regions in the order in which they were made
   pub all : List Extent
@@ -21,9 +21,11 @@ pub record Regions : Type 0 where
   -- the most bytes that were copied in between two clears, or before the first
   pub most : ℕ
 
+-- what is at a position without a region
 abbrev pub no_region : Extent
 no_region = record { at = null_ptr; bytes = []; capacity = 0 }
 
+-- the region at this position
 abbrev pub region_at : List Extent → ℕ → Extent
 region_at regions k = get_or regions k no_region
 
@@ -68,7 +70,8 @@ abbrev pub account_at : Extent → ℕ → ℕ → ℕ → ℕ → Account
 account_at r spare doubling usage limit =
     record { room = r.capacity - length r.bytes; spare = spare; doubling = doubling; usage = usage; limit = limit }
 
--- the account of the arena
+-- the account of the arena: the usage is the sum of the regions' capacities, the room is what fits into the
+-- current region, and the spare is the sum of the kept ones, after the first, that hold no bytes
 abbrev pub account_of : Regions → Account
 account_of arena = account_at (region_at arena.all arena.current) (spare_of arena) arena.doubling (usage_of arena.all) arena.limit
 
@@ -80,7 +83,7 @@ emptied r = record r { bytes = [] }
 abbrev pub with_bytes : Extent → List ℕ → Extent
 with_bytes r more = record r { bytes = r.bytes ++ more }
 
--- the bytes that a span names
+-- the bytes that a span names: a region, a start and a length
 abbrev pub text_at : List Extent → Span → List ℕ
 text_at regions span = slice_range (region_at regions span.region).bytes span.start (span.start + span.len)
 
@@ -88,7 +91,7 @@ text_at regions span = slice_range (region_at regions span.region).bytes span.st
 abbrev pub address_of : List Extent → Span → Ptr
 address_of regions span = (region_at regions span.region).at +ₚ span.start
 
--- the regions have the text of this span
+-- the regions have the text of this span: these bytes were pushed, and are a text
 pub record IsStored (regions : List Extent) (span : Span) : Type 0 where
   pub region : span.region < length regions
   pub bytes : span.start + span.len ≤ length (region_at regions span.region).bytes

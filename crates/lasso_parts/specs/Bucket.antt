@@ -2,7 +2,7 @@
 use Rattle.std.specs.Prelude.{ℕ, List}
 use denote.RawPtr.{Ptr}
 
--- where a region lies, the bytes pushed since the last clear, and how many fit in all
+-- a region: where it lies, the bytes pushed since the last clear, and how many fit in all
 pub record Extent : Type 0 where
   pub at : Ptr
   pub bytes : List ℕ

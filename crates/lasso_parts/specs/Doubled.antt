@@ -28,6 +28,7 @@ abbrev pub kept_of : List Extent → List Extent
 kept_of [] = []
 kept_of (r ∷ rs) = r ∷ doubled_from (2 * r.capacity) rs
 
+-- the order of an arena's regions
 pub record IsOrdered (a : Regions) : Type 0 where
   pub some : 0 < first_of a
   pub kept : (0 < a.kept) × (a.kept ≤ length a.all)
@@ -42,10 +43,11 @@ pub record IsSound (a : Regions) : Type 0 where
   pub order : IsOrdered a
   pub thrift : IsThriftySince (first_of a) (copied_of a) (most_of a) (account_of a)
 
--- the region can take n bytes as a spare; it can't
+-- the region can take n bytes as a spare
 abbrev pub CanTake : ℕ → Extent → Type 0
 CanTake n r = (length r.bytes ≡ 0) × (n ≤ r.capacity)
 
+-- it can't
 abbrev pub CannotTake : ℕ → Extent → Type 0
 CannotTake n r = (0 < length r.bytes) ⊎ (r.capacity < n)
 

@@ -21,10 +21,12 @@ pub record LentText : Type 0 where
   pub at : Ptr
   pub source : Source
 
+-- the bytes of a text outside the entries, by whose memory they are
 abbrev pub source_text : List Extent → Source → Text
 source_text regions (Copied span) = text_at regions span
 source_text regions (Static text) = text
 
+-- how many bytes they are
 abbrev pub source_len : Source → ℕ
 source_len (Copied span) = span.len
 source_len (Static text) = length text
@@ -54,13 +56,13 @@ lent_bytes regions t = source_text regions t.source
 abbrev pub IsLent : List Extent → LentText → Type 0
 IsLent regions t = LiesAt regions t.at t.source
 
--- an entry
+-- an entry: what a list of texts keeps for a text
 pub data EntryView : Type 0 where
-  -- has the text itself
+  -- has a short text itself
   Inside : Text → EntryView
-  -- leads to it
+  -- leads to a long one
   Outside : LentText → EntryView
-  -- names its place in the list of the texts that are too long for an entry
+  -- names its place in the list of the texts that are too long for an entry: of 2 ^ 32 bytes or more
   Listed : ℕ → EntryView
 
 -- what is at a place where the list has no text
@@ -73,7 +75,8 @@ entry_text regions vast (Inside text) = text
 entry_text regions vast (Outside t) = lent_bytes regions t
 entry_text regions vast (Listed k) = lent_bytes regions (get_or vast k no_text)
 
--- the entry leads to its text, among these regions and in this list; a text that it has itself is always there
+-- the entry leads to its text, among these regions and in this list: the text is lent, or the place is in the
+-- list and the text there is lent; a text that it has itself is always there
 abbrev pub IsThere : List Extent → List LentText → EntryView → Type 0
 IsThere regions vast (Inside text) = Unit {0}
 IsThere regions vast (Outside t) = IsLent regions t
@@ -87,6 +90,6 @@ AllThere regions vast entries = All (IsThere regions vast) entries
 abbrev pub texts_of : List Extent → List LentText → List EntryView → List Text
 texts_of regions vast entries = map (entry_text regions vast) entries
 
--- the later list of texts outside the entries has those of the earlier one, at the same places
+-- the later list of texts outside the entries shows the same ones at the places of the earlier one
 abbrev pub KeepsPlaces : List LentText → List LentText → Type 0
 KeepsPlaces earlier later = (k : ℕ) → k < length earlier → (k < length later) × (get_or later k no_text ≡ get_or earlier k no_text)

@@ -42,7 +42,7 @@ used (Some n ∷ xs) = used xs + 1
 abbrev pub load_limit : ℕ → ℕ
 load_limit n = 3 * (n / 4)
 
--- n slots are no more than `capacity` positions need: none for none, and above 8 only where half would not do
+-- n slots are no more than `capacity` positions need: none for none, and above 8 only if half would not do
 abbrev pub IsFewest : ℕ → ℕ → Type 0
 IsFewest capacity n = (capacity ≡ 0 → n ≡ 0) × (8 < n → load_limit (n / 2) < capacity)
 
@@ -66,12 +66,13 @@ IsFull xs from to = (j : ℕ) → from ≤ j → j < to → slot xs j ≢ None
 abbrev pub Reaches : List (Option ℕ) → ℕ → ℕ → Type 0
 Reaches xs a j = ((a ≤ j) × IsFull xs a j) ⊎ ((j < a) × IsFull xs a (length xs) × IsFull xs 0 j)
 
--- where the table has slots, this one is empty, and the search for the hash ends there
+-- this slot is empty, and the search for the hash ends there
 pub record IsVacant (hash at : ℕ) (xs : List (Option ℕ)) : Type 0 where
   pub inside : at < length xs
   pub free : slot xs at ≡ None
   pub reached : Reaches xs (home (length xs) hash) at
 
+-- the same of a table that has slots; of one without slots it says nothing
 abbrev pub IsVacancy : ℕ → ℕ → List (Option ℕ) → Type 0
 IsVacancy hash at xs = 0 < length xs → IsVacant hash at xs
 
@@ -86,7 +87,7 @@ abbrev pub IsFiledAnywhere : Table → Type 0
 IsFiledAnywhere table = (hash_of : Text → ℕ) (texts : List Text) → IsFiled hash_of texts table
 
 -- an index that got the position n under a hash is filed under each list that has a text of that hash at n,
--- where it was before
+-- if it was so before
 abbrev pub StaysFiled : ℕ → ℕ → Table → Table → Type 0
 StaysFiled hash n old new =
     (hash_of : Text → ℕ) (texts : List Text) (text : Text) → IsFiled hash_of texts old → slice_get texts n ≡ Some text → hash ≡ hash_of text → IsFiled hash_of texts new

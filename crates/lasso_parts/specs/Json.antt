@@ -1,4 +1,5 @@
--- Lists of texts and keys as JSON: what is written, and how a value is read.
+-- Lists of texts and keys as JSON: what is written, and how a value is read. What a JSON value is is the word
+-- of `serde_json` (`Data` of its specs): contracts see the value of a `Value` by `view`.
 use Rattle.std.specs.Prelude.{◌≡◌, ◌⊎◌, ℕ, zero, suc, List, [], ◌∷◌, ◌++◌, length, map, Bool, if◌then◌else◌, Option, Some, None, IsSome, option_and_then, Result, Ok, Err}
 use Rattle.serde_json.specs.Data.{Data, string, array, Items, no_items, item}
 use Rattle.serde_json.specs.Find.{as_str, as_array, as_number, as_u64}
@@ -14,12 +15,12 @@ use Rattle.lasso_parts.specs.declared.json.error.JsonError.TheVariants.{NotAnArr
 abbrev pub json_array : List Text → Data
 json_array texts = array (items_of (map string texts))
 
--- the text of an item, where it is one
+-- the text of an item, if it is one
 abbrev pub item_text : ℕ → Option Text → Result Text JsonError
 item_text at None = Err (NotText at)
 item_text at (Some text) = Ok text
 
--- the key of a position, where there is one
+-- the key of a position, if there is one
 abbrev pub key_or_too_many : {K : Type 0} → ℕ → Option K → Result K JsonError
 key_or_too_many at None = Err (TooMany at)
 key_or_too_many at (Some key) = Ok key
@@ -29,7 +30,7 @@ abbrev pub and_then : {A B : Type 0} → Result A JsonError → (A → Result B 
 and_then (Err fault) rest = Err fault
 and_then (Ok value) rest = rest value
 
--- where an earlier item has the text; in a list that need not be distinct none counts
+-- the position of an earlier item that has the text; in a list that need not be distinct none counts
 abbrev pub earlier : Bool → List Text → Text → Option ℕ
 earlier distinct seen text = if distinct then position_of seen text else None
 
@@ -39,7 +40,8 @@ new_text key_at at text (Some _) = Err (Doubled at)
 new_text key_at at text None = and_then (key_or_too_many at (key_at at)) (λ _. Ok text)
 
 -- the next item's text, after those seen; or what is wrong with the item, of which the first holds: it is no
--- text, or an earlier item has it, or its position has no key
+-- text (`NotText`), or an earlier item has it (`Doubled`), or its position has no key (`TooMany`). The number
+-- in a fault counts the items from 0
 abbrev pub next_text : {K : Type 0} → (ℕ → Option K) → Bool → List Text → Data → Result Text JsonError
 next_text key_at distinct seen d =
     and_then (item_text (length seen) (as_str d)) (λ text. new_text key_at (length seen) text (earlier distinct seen text))
@@ -55,7 +57,8 @@ abbrev pub read_if_array : {K : Type 0} → (ℕ → Option K) → Bool → Opti
 read_if_array key_at distinct None = Err NotAnArray
 read_if_array key_at distinct (Some ds) = read_items key_at distinct [] ds
 
--- the list that a value is read as, or what is wrong with it
+-- the list that a value is read as: the texts of an array's items. Or what is wrong with the value: the fault
+-- of the first faulty item, or `NotAnArray`
 abbrev pub read_array : {K : Type 0} → (ℕ → Option K) → Bool → Data → Result (List Text) JsonError
 read_array key_at distinct d = read_if_array key_at distinct (as_array d)
 
@@ -72,13 +75,14 @@ no_memory = Err (Lasso FailedAllocation)
 abbrev pub TakesText : {K : Type 0} → (ℕ → Option K) → Data → Type 0
 TakesText key_at d = (first : Data) × (ds : Items) × (text : Text) × (as_array d ≡ Some (item first ds)) × (as_str first ≡ Some text) × IsSome (key_at 0)
 
--- the result is what the value is read as; or it is out of memory, and the value is such that it takes some
+-- the result is what the value is read as; or it is out of memory, and the value is such that reading it
+-- takes some
 abbrev pub ReadsOr : Type 0 → Result (List Text) JsonError → Result (List Text) JsonError → Type 0
 ReadsOr takes_memory read answer = (answer ≡ read) ⊎ ((answer ≡ no_memory) × takes_memory)
 
 -- ---- keys
 
--- the whole number that a value is, where it is one
+-- the whole number that a value is, if it is one
 abbrev pub whole_number : Data → Option ℕ
 whole_number d = option_and_then as_u64 (as_number d)
 
@@ -87,7 +91,8 @@ abbrev pub key_or_fault : {K : Type 0} → Option K → Result K JsonError
 key_or_fault None = Err NotAKey
 key_or_fault (Some key) = Ok key
 
--- the key that keeps the number: that of the position before it
+-- the key that keeps the number: that of the position before it. All that is no whole number from 1 to the
+-- greatest that the key type keeps is `NotAKey`
 abbrev pub key_kept : {K : Type 0} → (ℕ → Option K) → Option ℕ → Result K JsonError
 key_kept key_at None = Err NotAKey
 key_kept key_at (Some zero) = Err NotAKey

@@ -9,13 +9,15 @@ use Rattle.lasso_parts.specs.JsonLaws.{IsReadable}
 use Rattle.lasso_parts.specs.JsonObjects.{json_object, position_number, next_position, read_object, IsInOrder}
 use Rattle.lasso_parts.specs.declared.json.error.JsonError.{JsonError}
 
--- a value, whose members are in byte order, is read as a list exactly where it is the object of its texts and the
--- list is distinct and fits the keys
+-- a value, whose members are in byte order, is read as a list exactly if it is the object of its texts and
+-- the list is distinct and fits the keys, so no position is left without a text: the contract of
+-- `json_object_reads_exactly`
 abbrev pub ReadsObjectExactly : {K : Type 0} → (ℕ → Option K) → Type 0
 ReadsObjectExactly key_at =
     (d : Data) (texts : List Text) → IsInOrder d → (read_object key_at d ≡ Ok texts) ↔ ((d ≡ json_object texts) × IsReadable key_at true texts)
 
--- a distinct list that fits the keys is read back from the object that it was written as
+-- a distinct list that fits the keys is read back from the object that it was written as: the contract of
+-- `json_object_reads_back`
 abbrev pub ReadsObjectBack : {K : Type 0} → (ℕ → Option K) → Type 0
 ReadsObjectBack key_at =
     (texts : List Text) → IsDistinct texts → Fits key_at (length texts) → read_object key_at (json_object texts) ≡ Ok texts
@@ -31,7 +33,8 @@ pub record AreFree {K : Type 0} (key_at : ℕ → Option K) (n : ℕ) (positions
   pub keyed : All (λ p. IsSome (key_at p)) positions
   pub apart : lists.IsDistinct (λ p q. p == q) positions
 
--- an object is faulty exactly where a member is after members whose positions are free, and with that member's fault
+-- an object is faulty exactly if a member is after members whose positions are free, and with that member's
+-- fault: the contract of `json_object_faults_exactly`
 abbrev pub FaultsObjectExactly : {K : Type 0} → (ℕ → Option K) → Type 0
 FaultsObjectExactly key_at =
     (ms : Members) (fault : JsonError) → (read_object key_at (object ms) ≡ Err fault)

@@ -53,7 +53,9 @@ new_position at p true = Err (Taken at)
 new_position at p false = Ok p
 
 -- the next of n members' position, after those of the members before it; or what is wrong with the member, of
--- which the first holds: it is no whole number from 1 to n, or the position has no key, or an earlier member has it
+-- which the first holds: it is no whole number from 1 to n (`NotAPosition`), or the position before that
+-- number has no key (`TooMany`), or an earlier member has the position (`Taken`). The number in a fault
+-- counts the members from 0
 abbrev pub next_position : {K : Type 0} → (ℕ → Option K) → ℕ → List ℕ → Data → Result ℕ JsonError
 next_position key_at n seen d =
     and_then (member_position key_at n (length seen) (whole_number d)) (λ p. new_position (length seen) p (is_taken seen p))
@@ -69,7 +71,8 @@ abbrev pub read_if_object : {K : Type 0} → (ℕ → Option K) → Option Membe
 read_if_object key_at None = Err NotAnObject
 read_if_object key_at (Some ms) = read_members key_at (members_len ms) [] (replicate (members_len ms) []) ms
 
--- the list that a value is read as, or what is wrong with it
+-- the list that a value is read as: each member's text at the member's position. Or what is wrong with the
+-- value: the fault of the first faulty member, or `NotAnObject`. Members are taken in the value's order
 abbrev pub read_object : {K : Type 0} → (ℕ → Option K) → Data → Result (List Text) JsonError
 read_object key_at d = read_if_object key_at (as_object d)
 
@@ -88,6 +91,6 @@ member_texts (member t d ms) = t ∷ member_texts ms
 abbrev pub AreInOrder : Members → Type 0
 AreInOrder ms = IsStrictlySortedBy (slice_cmp nat_cmp) (member_texts ms)
 
--- so do those of the value, where it is an object
+-- so do those of the value, if it is an object. Any `Value` is so
 abbrev pub IsInOrder : Data → Type 0
 IsInOrder d = (ms : Members) → as_object d ≡ Some ms → AreInOrder ms

@@ -1,4 +1,6 @@
--- Key types that keep the number of their position plus one, so that what they keep is never 0.
+-- Key types that keep the number of their position plus one, so that what they keep is never 0. `Spur`,
+-- `MiniSpur`, `MicroSpur` and `LargeSpur` keep it in 32, 16, 8 and 64 bits; the last number of each is the
+-- greatest of its width, less one.
 use Rattle.std.specs.Prelude.{◌≡◌, ◌↔◌, ◌==◌, ℕ, ◌+◌, ◌-◌, ◌<◌, ◌≤◌, ◌^◌, ◌++◌, List, Option, Some, None, IsSome, IsTrue, nat_lt, if◌then◌else◌, codes, decimal}
 use Rattle.std.proofs.Common.{arith}
 use Rattle.std.proofs.lemmas.Bool.Decides.{nat_tests}
@@ -7,7 +9,7 @@ use Rattle.std.proofs.lemmas.Bool.Decides.{nat_tests}
 abbrev pub IsKeptNumber : ℕ → ℕ → Type 0
 IsKeptNumber greatest kept = (0 < kept) × (kept ≤ greatest)
 
--- the key of a position, where there is one
+-- the key of a position, if there is one
 abbrev pub kept_at : ℕ → ℕ → Option ℕ
 kept_at greatest n = if nat_lt n greatest then Some (n + 1) else None
 

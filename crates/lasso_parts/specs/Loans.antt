@@ -12,6 +12,6 @@ abbrev pub lent : Source → Ptr → Lft → Fml
 lent (Copied span) p κ = ftrue
 lent (Static text) p κ = elements_shared u8 text (block_of p) (count_of p) κ
 
--- the same for the lifetime that never ends
+-- the same for the lifetime that never ends: what a static text is kept by
 abbrev pub lent_for_ever : Source → Ptr → Fml
 lent_for_ever source p = lent source p []

@@ -6,6 +6,7 @@ use Rattle.lasso_parts.specs.Texts.{Text}
 use Rattle.lasso_parts.specs.Index.{slot, Holds, IsFull}
 use Rattle.lasso_parts.specs.IndexTable.{Misses}
 
+-- the walk found the text, or ended at an empty slot without it, or passed the whole range without either
 abbrev pub Tells : List Text → Text → List (Option ℕ) → ℕ → ℕ → Scan → Type 0
 Tells texts text xs from to (Found n) = Holds xs n × (slice_get texts n ≡ Some text)
 Tells texts text xs from to (Ended j) = (from ≤ j) × (j < to) × (slot xs j ≡ None) × IsFull xs from j × Misses texts text xs from j

@@ -8,7 +8,7 @@ pub record Sizes : Type 0 where
   pub strings : ℕ
   pub bytes : ℕ
 
--- less room for texts comes first, and where that is equal less room for bytes
+-- less room for texts comes first, and of equal ones less room for bytes
 abbrev pub sizes_cmp : Sizes → Sizes → Ordering
 sizes_cmp = then_cmp (on (λ (s : Sizes). s.strings) nat_cmp) (on (λ (s : Sizes). s.bytes) nat_cmp)
 

@@ -1,4 +1,5 @@
--- A run of the machine, worked by hand, in which every kind of step is taken: so the law of runs speaks of something.
+-- A run of the machine, worked by hand, in which every kind of step is taken: so the law of runs speaks of
+-- something. The contract of `machine::some_run`.
 use Rattle.std.specs.Prelude.{◌≡◌, ℕ, ◌%◌, List, [], ◌∷◌, Option, Some, None, Ok, Err, nat_lt, slice_index, if◌then◌else◌, codes}
 use Rattle.lasso_parts.specs.Texts.{Text}
 use Rattle.lasso_parts.specs.declared.util.LassoErrorKind.TheVariants.{MemoryLimitReached, KeySpaceExhaustion, FailedAllocation}

@@ -1,4 +1,5 @@
--- Calls that were worked by hand, and wrong ones that are no calls.
+-- Calls that were worked by hand, and wrong ones that are no calls: the contracts of
+-- `laws::worked_calls_are_calls` and `laws::wrong_calls_are_none`.
 use Rattle.std.specs.Prelude.{ℕ, [], ◌∷◌, ◌++◌, Some, None, Ok, Err}
 use Rattle.lasso_parts.specs.declared.util.LassoErrorKind.TheVariants.{MemoryLimitReached, KeySpaceExhaustion, FailedAllocation}
 use Rattle.lasso_log.specs.History.{Reserve, Charge, Append, Limit, History, Totals, IsOpening, opened, IsLegal}
@@ -34,6 +35,7 @@ last = (5, Reserve 0 1) ∷ (5, Append e) ∷ []
 abbrev pub Calls : (before after : History) (pass : ℕ) → Question → Reply ℕ → Type 0
 Calls before after pass question reply = IsCall three_keys opening before after pass question reply
 
+-- these are calls, in an interner that opens with no text and in one that opens with two
 pub record AreCalls : Type 0 where
   pub legal : IsLegal three_keys opening three
   -- each of the two passes has its own events among the other's
@@ -58,6 +60,7 @@ pub record AreCalls : Type 0 where
   pub opened_resolved : IsCall three_keys opening_with_texts [] last 9 (Resolve 0) (Resolved (Some bc))
   pub opened_added : IsCall three_keys opening_with_texts [] last 5 (Intern Copied e) (Interned (Ok 2))
 
+-- these are none
 pub record AreNoCalls : Type 0 where
   -- a key for a text that was not appended, or was twice
   pub dropped : Calls [] [] 7 (Intern Static a) (Interned (Ok 0)) → ⊥

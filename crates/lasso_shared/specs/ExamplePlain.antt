@@ -1,6 +1,9 @@
--- Replies that no plain call may give, worked by hand: so its clause refutes a body that gives them, whatever history explains the call.
+-- Replies that no plain call may give, worked by hand: so its clause refutes a body that gives them, whatever
+-- history explains the call. The contract of `laws::wrong_plain_calls_are_none`.
 --
--- Every list begins with the texts of the opening, and no usage is smaller than the opening's.
+-- Every list begins with the texts of the opening, and no usage is smaller than the opening's. So a plain
+-- call's clause refutes a smaller list or usage, and a text of the opening that is not found, gets another
+-- key or is refused.
 use Rattle.std.specs.Prelude.{◌≡◌, ◌≤◌, ℕ, true, false, List, [], ◌∷◌, None, Ok, Err}
 use Rattle.serde_json.specs.Data.{null}
 use Rattle.lasso_parts.specs.JsonObjects.{json_object}
@@ -25,6 +28,7 @@ opening_with_one = opened (a ∷ []) 4 1 6
 abbrev pub opening_turned : Totals
 opening_turned = opened (a ∷ bc ∷ []) 4 3 6
 
+-- no plain call has these replies
 pub record AreNoPlainCalls : Type 0 where
   -- fewer texts than the opening's, or none
   pub length_halved : IsNone Len (Number 1)

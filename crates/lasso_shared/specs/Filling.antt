@@ -23,7 +23,8 @@ abbrev pub Fills : {K : Type 0} → (ℕ → Option K) → Totals → (before af
 Fills key_at opening before after pass texts (Ok done) = InternsEach key_at opening before after pass texts
 Fills key_at opening before after pass texts (Err error) = FillingEndsRefused key_at opening before after pass texts error
 
--- by calls of a pass that had seen nothing, which has then seen a legal history
+-- a plain filling: by calls of a pass that had seen nothing before the first, and has seen a legal history
+-- after the last
 pub record IsPlainFilling {K : Type 0} (key_at : ℕ → Option K) (opening : Totals) (texts : List Text) (reply : Result (Unit {0}) LassoErrorKind) : Type 0 where
   pub pass : ℕ
   pub seen : History

@@ -19,7 +19,8 @@ abbrev pub read_by_form : {K : Type 0} → (ℕ → Option K) → Data → Optio
 read_by_form key_at d None = read_object key_at d
 read_by_form key_at d (Some ds) = read_array key_at true d
 
--- the list that a value is read as, or what is wrong with it: an array by its items, any other value as an object
+-- the list that a value is read as, or what is wrong with it: an array by its items, any other value as an
+-- object. So a value that is neither is `NotAnObject`, and `NotAnArray` is never the fault
 abbrev pub read_list : {K : Type 0} → (ℕ → Option K) → Data → Result (List Text) JsonError
 read_list key_at d = read_by_form key_at d (as_array d)
 

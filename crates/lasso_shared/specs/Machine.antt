@@ -1,4 +1,5 @@
--- A shared interner as a machine: what it holds, and the steps that its calls take, in any order.
+-- A shared interner as a machine, without threads, locks or memory: what it holds, and the steps that its
+-- calls take, in any order. Any function may give the texts their shards.
 use Rattle.std.specs.Prelude.{◌≡◌, ◌≢◌, ◌⊎◌, ◌==◌, ℕ, ◌+◌, ◌<◌, ◌≤◌, List, [], ◌∷◌, ◌++◌, map, length, Option, Some, None, IsSome, IsSomeAnd, is_some, option_map, option_and_then, slice_get, bytes_eq, nat_eq, nat_lt, if◌then◌else◌, Ok, Err}
 use Rattle.lasso_parts.specs.Texts.{Text}
 use Rattle.lasso_parts.specs.declared.util.LassoErrorKind.{LassoErrorKind}
@@ -35,6 +36,8 @@ pub record Call : Type 0 where
   pub shard : ℕ
   pub phase : Phase
 
+-- what the machine holds: the list; the buckets; doubling size, usage and limit; an index for each shard; and
+-- the calls in flight
 pub record State : Type 0 where
   pub texts : List Text
   pub buckets : List RangedBucket
@@ -46,26 +49,34 @@ pub record State : Type 0 where
   -- the call of each number that is in flight
   pub calls : ℕ → Option Call
 
+-- the steps, each with when it may be taken (`MayStep`) and what it leaves (`after`)
 pub data Step : Type 0 where
-  -- a call takes its text's shard, and looks the text up
+  -- a call takes its text's shard, and looks the text up: its number is not in flight, and no call holds the
+  -- shard. If the index has the text, its key is the reply; else the call is in flight, with the text missing
   Take : (number : ℕ) (keeping : Keeping) (text : Text) → Step
-  -- a call takes its text's bytes at the used end of the bucket at this position
+  -- a call takes its text's bytes at the used end of the bucket at this position: the text is missing, copied
+  -- and not empty, and the bucket has room. Then it is stored
   Reserve : (call : Call) (position : ℕ) → Step
-  -- a call adds a bucket of this size, with its text's bytes taken
+  -- a call adds a bucket of this size, with its text's bytes taken: the same, but no bucket has room, and the
+  -- limit does not refuse. Then it is stored
   Charge : (call : Call) (size : ℕ) → Step
-  -- a call puts its text last
+  -- a call puts its text last: it is stored, or missing and static or empty, and the length has a key
   Append : (call : Call) → Step
-  -- a call enters its text's position into the index, replies the key, and lets the shard go
+  -- a call enters its text's position into the index, replies the key, and lets the shard go: the text is
+  -- appended
   Release : (call : Call) (position : ℕ) → Step
-  -- a call replies this refusal, and lets the shard go
+  -- a call replies this refusal, and lets the shard go. `MemoryLimitReached`: the text is missing, copied and
+  -- not empty, no bucket has room, and the limit leaves none. `KeySpaceExhaustion`: it is ready to append,
+  -- and the length has no key. `FailedAllocation`: it is missing
   Refuse : (call : Call) (why : LassoErrorKind) → Step
-  -- something is read, and nothing changes
+  -- something is read, and nothing changes; a look-up of a text waits until no call holds its shard
   Read : (question : Question) → Step
-  -- the limit is replaced
+  -- the limit is replaced, at any time
   SetLimit : (number limit : ℕ) → Step
 
 -- ---- when a step may be taken
 
+-- the call is in flight
 abbrev pub IsInFlight : State → Call → Type 0
 IsInFlight s c = s.calls c.number ≡ Some c
 
@@ -77,6 +88,7 @@ IsFree s k = (c : Call) → IsInFlight s c → c.shard ≢ k
 abbrev pub NeedsBytes : Call → Type 0
 NeedsBytes c = (c.keeping ≡ Copied) × (c.text ≢ [])
 
+-- it has none
 abbrev pub NeedsNone : Call → Type 0
 NeedsNone c = (c.keeping ≡ Static) ⊎ (c.text ≡ [])
 
@@ -104,8 +116,9 @@ MayRead shard s (Question.SetLimit limit) = ⊥
 MayRead shard s Question.Freeze = ⊥
 MayRead shard s question = Unit {0}
 
--- Whether the step may be taken. `shard` gives the shard of each text, and `key_at` the key of each position, or none.
--- An append asks for a key, and doesn't look whether the list has the text.
+-- Whether the step may be taken. `shard` gives the shard of each text, and `key_at` the key of each position,
+-- or none. No step looks whether the list has a text before it is appended: that no text comes twice follows
+-- from who holds a shard.
 abbrev pub MayStep : {K : Type 0} → (ℕ → Option K) → (Text → ℕ) → State → Step → Type 0
 MayStep key_at shard s (Take number keeping text) = (s.calls number ≡ None) × IsFree s (shard text)
 MayStep key_at shard s (Reserve c position) =
@@ -134,6 +147,7 @@ with_call s c = record s { calls = put s.calls c.number (Some c) }
 abbrev pub without : State → Call → State
 without s c = record s { calls = put s.calls c.number None }
 
+-- the call in this phase
 abbrev pub in_phase : Phase → Call → Call
 in_phase phase c = record c { phase = phase }
 
@@ -153,7 +167,7 @@ reserved n b =
 abbrev pub charged : (size n : ℕ) → RangedBucket
 charged size n = record { bucket = record { size = size; used = n }; ranges = record { start = 0; bytes = n } ∷ [] }
 
--- a call that took its shard is done where the index had its text, and else goes on
+-- a call that took its shard is done if the index had its text, and else goes on
 abbrev pub taken : State → Call → Option ℕ → State
 taken s c (Some position) = s
 taken s c None = with_call s c
@@ -169,6 +183,7 @@ new_call shard number keeping text =
       phase = Missing;
     }
 
+-- what a step leaves
 abbrev pub after : (Text → ℕ) → State → Step → State
 after shard s (Take number keeping text) = taken s (new_call shard number keeping text) (s.index (shard text) text)
 after shard s (Reserve c position) = record (with_call s (in_phase Stored c)) { buckets = changed_at position (reserved (length c.text)) s.buckets }
@@ -186,6 +201,7 @@ after shard s (SetLimit number limit) = record s { limit = limit }
 
 -- ---- what a step adds to the history, and what it replies
 
+-- the events that a step adds to the history
 abbrev pub events : Step → History
 events (Reserve c position) = (c.number, Event.Reserve position (length c.text)) ∷ []
 events (Charge c size) = (c.number, Event.Charge size (length c.text)) ∷ []
@@ -216,7 +232,7 @@ read key_at shard s Strings = Some (Listed (Ok s.texts))
 read key_at shard s Serialize = Some (Listed (Ok s.texts))
 read key_at shard s question = None
 
--- what a step replies, and to what; none, where it replies nothing
+-- what a step replies, and to what; none, if it replies nothing
 abbrev pub reply : {K : Type 0} → (ℕ → Option K) → (Text → ℕ) → State → Step → Option (Question × Reply K)
 reply key_at shard s (Take number keeping text) = found_reply keeping text (option_and_then key_at (s.index (shard text) text))
 reply key_at shard s (Release c position) = found_reply c.keeping c.text (key_at position)

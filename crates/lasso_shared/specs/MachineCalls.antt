@@ -24,6 +24,7 @@ IsAmidCall pass (Refuse c why) = c.number ≢ pass
 IsAmidCall pass (SetLimit number limit) = number ≢ pass
 IsAmidCall pass step = Unit {0}
 
+-- so it is with each of these steps
 abbrev pub AreAmidCall : (pass : ℕ) → List Step → Type 0
 AreAmidCall pass [] = Unit {0}
 AreAmidCall pass (step ∷ steps) = IsAmidCall pass step × AreAmidCall pass steps
@@ -55,8 +56,8 @@ IsMachineCall key_at shard s steps pass question r =
     ((step : Step) × (steps ≡ step ∷ []) × IsOneStepCall key_at shard s step pass question r)
     ⊎ IsLongCall key_at shard s steps pass question r
 
--- The law: in every run, each call of the machine is a call of its pass, which had seen the history up to the call's first
--- step, and has seen it up to the last.
+-- The law: in every run, each call of the machine is a call of its pass, which had seen the history up to the
+-- call's first step, and has seen it up to the last. The contract of `machine::machine_calls_are_calls`
 abbrev pub EachCallIsACall : {K : Type 0} → (ℕ → Option K) → Type 0
 EachCallIsACall {K} key_at =
     (shard : Text → ℕ) (start : State) (earlier steps : List Step) (pass : ℕ) (question : Question) (r : Reply K)

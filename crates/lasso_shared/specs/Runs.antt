@@ -6,7 +6,7 @@ use Rattle.lasso_log.specs.History.{History, IsOpening, totals, Lacks, IsLegal}
 use Rattle.lasso_log.specs.Replies.{Question, Reply, MayReply}
 use Rattle.lasso_shared.specs.Machine.{Range, RangedBucket, Phase, Missing, Stored, Appended, Call, State, Step, Take, Release, Refuse, Read, IsInFlight, IsFree, MayStep, after, events, reply, sums}
 
--- what shard k's index has of the text while no call is in flight: its position, where it is one of the shard's
+-- what shard k's index has of the text while no call is in flight: its position, if it is one of the shard's
 abbrev pub position_in : (Text → ℕ) → State → ℕ → Text → Option ℕ
 position_in shard s k text = if shard text == k then position_of s.texts text else None
 
@@ -25,12 +25,13 @@ StandsBy s text (Appended position) = slice_get s.texts position ≡ Some text
 StandsBy s text Missing = Lacks s.texts text
 StandsBy s text Stored = Lacks s.texts text
 
--- the index of a held shard is exact for the text, or lacks it where the holder has just appended it
+-- the index of a held shard is exact for the text, or lacks it if the holder has just appended it
 abbrev pub IsNearly : (Text → ℕ) → State → Call → Text → Type 0
 IsNearly shard s c text =
     (s.index c.shard text ≡ position_in shard s c.shard text)
     ⊎ ((text ≡ c.text) × (s.index c.shard text ≡ None) × (position : ℕ) × (c.phase ≡ Appended position))
 
+-- a good state
 pub record IsGood {K : Type 0} (key_at : ℕ → Option K) (shard : Text → ℕ) (s : State) : Type 0 where
   -- no text occurs twice, and each position has a key
   pub distinct : IsDistinct s.texts
@@ -47,14 +48,14 @@ pub record IsGood {K : Type 0} (key_at : ℕ → Option K) (shard : Text → ℕ
   -- no two ranges of a bucket overlap, and none passes its end
   pub filled : All IsFilled s.buckets
 
--- what a run begins with: an opening, with exact indexes and no call in flight
+-- a start, with which a run begins: an opening, with exact indexes, ranges in order and no call in flight
 pub record IsStart {K : Type 0} (key_at : ℕ → Option K) (shard : Text → ℕ) (s : State) : Type 0 where
   pub opening : IsOpening key_at (sums s)
   pub filled : All IsFilled s.buckets
   pub index : (k : ℕ) (text : Text) → s.index k text ≡ position_in shard s k text
   pub idle : (number : ℕ) → s.calls number ≡ None
 
--- each of the steps may be taken where the ones before it have led
+-- each of the steps may be taken after the ones before it
 abbrev pub IsRun : {K : Type 0} → (ℕ → Option K) → (Text → ℕ) → State → List Step → Type 0
 IsRun key_at shard s [] = Unit {0}
 IsRun key_at shard s (step ∷ steps) = MayStep key_at shard s step × IsRun key_at shard (after shard s step) steps
@@ -99,7 +100,8 @@ pub record HoldsInRun {K : Type 0} (key_at : ℕ → Option K) (shard : Text →
   pub legal : IsLegal key_at (sums start) (run_history steps)
   pub adds_up : totals (sums start) (run_history steps) ≡ sums (run shard start steps)
 
--- the law, for keys that are given by this function
+-- the law, for keys that are given by this function: the contract of `machine::all_runs` and
+-- `machine::all_runs_of`
 abbrev pub EachRunHolds : {K : Type 0} → (ℕ → Option K) → Type 0
 EachRunHolds key_at =
     (shard : Text → ℕ) (start : State) (steps : List Step)

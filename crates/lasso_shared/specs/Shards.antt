@@ -1,5 +1,7 @@
--- Shards: which texts of a list are a shard's, what its index and its number say of a history that was seen, and how a new text of it
--- goes last in the list.
+-- Shards: which texts of a list are a shard's, what its index and its number say of a history that was seen,
+-- and how a new text of it goes last in the list. A shard is the texts whose hashes have one number in their
+-- four highest bits. Under its lock are an index of those texts and how many they are. A tally is the spine,
+-- and how many texts each shard has in the history that the spine has seen.
 use Rattle.std.specs.Prelude.{◌≡◌, ℕ, suc, ◌/◌, ◌^◌, ◌<◌, ◌↔◌, Bool, true, nat_eq, List, [], ◌∷◌, Option, Some, None, Result, Ok, Err, slice_get, slice_index_or, length, if◌then◌else◌}
 use mathlib.Core.List.{IsPrefix}
 use Rattle.lasso_parts.specs.Texts.{Text, IsDistinct, key_of}
@@ -10,7 +12,7 @@ use Rattle.lasso_log.specs.History.{Append, Lacks}
 use Rattle.lasso_log.specs.Notes.{NoteView, Since}
 use Rattle.lasso_log.specs.Views.{InternerId, SnapshotView, SpineView, list_of}
 
--- the shard of a hash: the number in its four highest bits
+-- the shard of a hash of 64 bits: the number in its four highest bits, so there are 16 shards
 abbrev pub shard_of : ℕ → ℕ
 shard_of hash = hash / 2 ^ 60
 
@@ -31,7 +33,8 @@ count_in hash_of number texts = count_where (is_in hash_of number) texts
 abbrev pub IsOfShard : (Text → ℕ) → ℕ → List Text → ℕ → Type 0
 IsOfShard hash_of number texts m = (t : Text) × (slice_get texts m ≡ Some t) × (is_in hash_of number t ≡ true)
 
--- the index of a shard of a list: exactly the positions of the shard's texts are held
+-- the index of a shard of a list: it is filed under the list, and exactly the positions of the shard's texts
+-- are held. The list is distinct
 pub record IsShardOf (hash_of : Text → ℕ) (number : ℕ) (texts : List Text) (table : Table) : Type 0 where
   pub filed : IsFiled hash_of texts table
   pub holds : (m : ℕ) → Holds table.slots m ↔ IsOfShard hash_of number texts m
@@ -54,7 +57,8 @@ pub record IsTally (hash_of : Text → ℕ) (of : InternerId) (spine : SpineView
   pub all : length counts ≡ 16
   pub counts_each : Counts hash_of (list_of of spine.notes) counts
 
--- the notes begin with what the shard has seen, and have no more texts of the shard
+-- the notes begin with what the shard has seen, and have no more texts of the shard. So the shard's index is
+-- that of their list too, and a text of the shard that the index lacks is not in it
 pub record IsWholeShard (hash_of : Text → ℕ) (number : ℕ) (of : InternerId) (known notes : List NoteView) : Type 0 where
   pub begins : IsPrefix known notes
   pub counts : count_in hash_of number (list_of of known) ≡ count_in hash_of number (list_of of notes)

@@ -25,13 +25,14 @@ abbrev pub done_reply : {K : Type 0} → Result (Unit {0}) LassoError → Reply 
 done_reply (Ok _) = Done
 done_reply (Err error) = Refused error
 
--- the reply to a look-up of a key's text: a copy of it, or a refusal where there is no memory for that
+-- the reply to a look-up of a key's text: a copy of it, or a refusal if there is no memory for that
 abbrev pub resolves_to : {K : Type 0} → Option Text → Reply K → Type 0
 resolves_to found reply =
     ((copy : Option (String Global)) × (reply ≡ Reply.Text copy) × (option_map string_bytes copy ≡ found))
     ⊎ ((reply ≡ Refused FailedAllocation) × IsSome found)
 
--- what a command returns, and what it leaves of the interner; H is the type of the hashers that S makes
+-- what a command returns, and what it leaves of the interner; H is the type of the hashers that S makes. A
+-- refused command other than `Extend` and `CloneFrom` changes nothing
 abbrev pub replies_to : {K S A H : Type 0} → (ℕ → Option K) → (K → ℕ) → InternerView → Command K S A H → Reply K → InternerView → Type 0
 replies_to {K} key_at number old (Intern text) reply new = (outcome : Result K LassoError) × InternsIn key_at old text.now outcome new × (reply ≡ intern_reply outcome)
 replies_to {K} key_at number old (InternStatic text) reply new = (outcome : Result K LassoError) × InternsStaticIn key_at old text.now outcome new × (reply ≡ intern_reply outcome)

@@ -10,8 +10,8 @@ use Rattle.lasso_single.specs.Interner.{InternerView, KeepsOrigin, most_copied}
 abbrev pub bytes_of : List Text → ℕ
 bytes_of texts = sum_by (λ (t : Text). length t) texts
 
--- the account after the texts are stored in order, or none where the limit refuses one of them; `first` is the first
--- bucket's size
+-- the account after the texts are stored in order, or none if the limit refuses one of them; `first` is the
+-- first bucket's size
 abbrev pub store_all : ℕ → Account → List Text → Option Account
 store_all first a [] = Some a
 store_all first a (t ∷ ts) = option_and_then (λ b. store_all first b ts) (store first a (length t))
@@ -24,12 +24,13 @@ bucket_for bytes = if nat_eq bytes 0 then 4096 else bytes
 abbrev pub clone_size : List Text → ℕ
 clone_size texts = bucket_for (bytes_of texts)
 
--- the account of a clone: all texts in one bucket, under a limit that is no lower than before and has room for them
+-- the account of a clone: all texts in one bucket of their bytes (4096 if they have none), under the greater
+-- of the limit and that size
 abbrev pub clone_of : List Text → ℕ → Option Account
 clone_of texts limit = store_all (clone_size texts) (fresh (clone_size texts) (max limit (clone_size texts))) texts
 
--- copying one text puts it last and stores its bytes; or the limit refuses it, or it is out of memory where
--- the limit has room for it, and then nothing changes
+-- copying one text puts it last and stores its bytes; or the limit refuses it, or memory runs out though the
+-- limit has room for it, and then nothing changes
 abbrev pub CopiesOne : InternerView → Text → Result (Unit {0}) LassoError → InternerView → Type 0
 CopiesOne old text reply new =
     MatchResult reply
@@ -37,15 +38,16 @@ CopiesOne old text reply new =
     (λ error. (new.texts ≡ old.texts) × (new.account ≡ old.account) × (new.copied ≡ old.copied) × (((error ≡ FailedAllocation) × IsSome (store old.first old.account (length text))) ⊎ ((error ≡ MemoryLimitReached) × (store old.first old.account (length text) ≡ None))))
     × KeepsOrigin old new
 
--- copying the texts from that account on stopped with j of them copied: the limit refused the next one; or it
--- was out of memory for it, though the limit had room for it, or before the first
+-- copying the texts from that account on stopped with j of them copied: the limit refused the next one; or
+-- memory ran out for it, though the limit had room for it, or before the first
 abbrev pub StopsAt : ℕ → Account → List Text → ℕ → LassoError → Account → Type 0
 StopsAt first account texts j error stopped =
     (store_all first account (take j texts) ≡ Some stopped) × (((error ≡ FailedAllocation) × ((j ≡ 0) ⊎ ((text : Text) × (slice_get texts j ≡ Some text) × IsSome (store first stopped (length text)))))
     ⊎ ((error ≡ MemoryLimitReached) × ((text : Text) × (slice_get texts j ≡ Some text) × (store first stopped (length text) ≡ None))))
 
--- copying the texts into an interner, which is cleared before, leaves just them; or it stops at one of them, and
--- then leaves no text and the account that was reached, cleared. What was copied counts as after a clear.
+-- copying the texts into an interner, which is cleared before, leaves just them, under its own account; or it
+-- stops at one of them, and then leaves no text and the account that was reached, cleared. What was copied
+-- counts as after a clear, and so among the bytes in between two clears.
 abbrev pub clone_into : InternerView → List Text → Result (Unit {0}) LassoError → InternerView → Type 0
 clone_into old texts reply new =
     MatchResult reply
@@ -54,6 +56,7 @@ clone_into old texts reply new =
     × (new.account ≡ clear old.first stopped) × (new.most ≡ max (most_copied old) (bytes_of (take j texts)))))
     × (new.first ≡ old.first) × (new.is_cleared ≡ true)
 
--- the account of a list that was read: all texts in one bucket, under the greatest limit
+-- the account of a list that was read: all texts in one bucket of their bytes (4096 if they have none), under
+-- the greatest limit
 abbrev pub read_of : List Text → Option Account
 read_of texts = store_all (clone_size texts) (fresh (clone_size texts) (2 ^ 64 - 1)) texts

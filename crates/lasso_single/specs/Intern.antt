@@ -16,8 +16,8 @@ abbrev pub stored_or_refused : Held → Text → Option Account → Result Held 
 stored_or_refused held text None = Err MemoryLimitReached
 stored_or_refused held text (Some account) = Ok (with_text held text account)
 
--- a new text is refused where its position has no key; the account is asked only after that. `first` is the first
--- bucket's size
+-- a new text is refused if its position has no key; the account is asked only after that. `first` is the
+-- first bucket's size
 abbrev pub keyed_or_refused : {K : Type 0} → ℕ → Held → Text → Option K → Result Held LassoError
 keyed_or_refused first held text None = Err KeySpaceExhaustion
 keyed_or_refused first held text (Some _) = stored_or_refused held text (store first held.account (length text))
@@ -27,16 +27,19 @@ abbrev pub found_or_new : {K : Type 0} → (ℕ → Option K) → ℕ → Held �
 found_or_new key_at first held text (Some _) = Ok held
 found_or_new key_at first held text None = keyed_or_refused first held text (key_at (length held.texts))
 
--- what interning the text leaves where memory is found, or why it is refused
+-- what interning the text leaves if memory is found, or why it is refused; the first case that fits. A
+-- present text changes nothing. If the list's length has no key, `KeySpaceExhaustion`. If the account refuses
+-- the text, `MemoryLimitReached`. Else the text goes last, and the account is the stored one
 abbrev pub interned : {K : Type 0} → (ℕ → Option K) → ℕ → Held → Text → Result Held LassoError
 interned key_at first held text = found_or_new key_at first held text (position_of held.texts text)
 
--- the text's position once it is interned
+-- the text's position once it is interned: where it is, or else the list's length
 abbrev pub interned_position : List Text → Text → ℕ
 interned_position texts text = unwrap_or (position_of texts text) (length texts)
 
--- interning the text returns the key of its position and leaves what the definition says; or it is refused
--- and leaves all as it was, out of memory only where the list would grow
+-- interning the text returns the key of its position and leaves what `interned` says. Or it is refused, and
+-- leaves list and account as they were: as `interned` says, or by `FailedAllocation`, but only if the text
+-- would go last
 abbrev pub Interns : {K : Type 0} → (ℕ → Option K) → ℕ → List Text → Account → Text → Result K LassoError → List Text → Account → Type 0
 Interns key_at first texts account text reply texts' account' =
     let before : Held = record { texts = texts; account = account } in
@@ -55,7 +58,8 @@ abbrev pub found_or_kept : {K : Type 0} → (ℕ → Option K) → Held → Text
 found_or_kept key_at held text (Some _) = Ok held
 found_or_kept key_at held text None = kept_or_refused held text (key_at (length held.texts))
 
--- what interning a text that lives as long as the program leaves where memory is found, or why it is refused
+-- the same as `interned` of a text that lives as long as the program and is kept as it is: the account is not
+-- asked, and stays
 abbrev pub interned_static : {K : Type 0} → (ℕ → Option K) → Held → Text → Result Held LassoError
 interned_static key_at held text = found_or_kept key_at held text (position_of held.texts text)
 
@@ -68,14 +72,16 @@ InternsStatic key_at texts account text reply texts' account' =
     (λ error. (texts' ≡ texts) × (account' ≡ account) × ((interned_static key_at before text ≡ Err error)
     ⊎ ((error ≡ FailedAllocation) × (position_of texts text ≡ None) × IsOk (interned_static key_at before text))))
 
--- interning a text: its reply, and all that contracts see of the interner
+-- interning a copied text: its reply, and all that contracts see of the interner. `Interns` holds of its list
+-- and its account, by its own first bucket; the copied bytes grow by `bytes_added` if a key is returned, and
+-- else stay; and `KeepsOrigin` holds
 abbrev pub InternsIn : {K : Type 0} → (ℕ → Option K) → InternerView → Text → Result K LassoError → InternerView → Type 0
 InternsIn key_at old text reply new =
     Interns key_at old.first old.texts old.account text reply new.texts new.account
     × MatchResult reply (λ _. new.copied ≡ old.copied + bytes_added old.texts text) (λ _. new.copied ≡ old.copied)
     × KeepsOrigin old new
 
--- interning a text that is kept as it is: the same
+-- the same of a text that is kept as it is; the copied bytes stay
 abbrev pub InternsStaticIn : {K : Type 0} → (ℕ → Option K) → InternerView → Text → Result K LassoError → InternerView → Type 0
 InternsStaticIn key_at old text reply new =
     InternsStatic key_at old.texts old.account text reply new.texts new.account × (new.copied ≡ old.copied) × KeepsOrigin old new

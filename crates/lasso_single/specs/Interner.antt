@@ -3,6 +3,7 @@ use Rattle.std.specs.Prelude.{◌≡◌, ℕ, Bool, false, List, [], length, max
 use Rattle.lasso_parts.specs.Texts.{Text, position_of}
 use Rattle.lasso_parts.specs.Account.{Account, fresh}
 
+-- an interner
 pub record InternerView : Type 0 where
   -- the texts in the order of their keys
   pub texts : List Text
@@ -10,14 +11,16 @@ pub record InternerView : Type 0 where
   pub account : Account
   -- the bytes of the first bucket
   pub first : ℕ
-  -- how many bytes were copied into buckets since it was last cleared, or since it was made
+  -- how many bytes were copied into buckets since it was last cleared, or since it was made; those copied
+  -- while it was made are counted, and no static text is
   pub copied : ℕ
   -- the most bytes that were copied in between two clears, or before the first; those since the last one are not counted
   pub most : ℕ
   -- whether it was ever cleared
   pub is_cleared : Bool
 
--- the most bytes copied in between two clears so far; the time before the first clear and that after the last count too
+-- the most bytes copied in between two clears so far; the time before the first clear and that after the last
+-- one count too. Copying over an interner counts as a clear, and its copies as after it
 abbrev pub most_copied : InternerView → ℕ
 most_copied i = max i.most i.copied
 

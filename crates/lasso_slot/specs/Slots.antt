@@ -1,11 +1,14 @@
 -- What a slot shares, and what a claim owns.
 --
--- While a slot is shared, for a lifetime α, an invariant keeps its word and one of two things.
---     lent      nobody has the value whole: it is shared for a lifetime `a` of its own, whose token is cut into 2 ^ 63 lots. Each reader
---               has one lot, and the invariant the rest, at most as many short as the word has readers. With all lots it can end `a`
---     out       somebody has the value whole, and the invariant only keeps the lots of nothing but one, which is the claim's
--- A lot is a part of one ghost name, which says of what it is: of nothing by 0, of the token of `a` by `a + 1`. So whoever brings a lot
--- back learns which of the two the slot is in, and the name changes only where all lots are in one hand.
+-- While a slot is shared, for a lifetime α, an invariant keeps its word and one of two things. `lent`: nobody
+-- has the value whole. It is shared for a lifetime `a` of its own, whose token is cut into 2 ^ 63 lots. Each
+-- reader has one lot, and the invariant the rest, at most as many short as the word has readers. With all
+-- lots it can end `a`. `out`: somebody has the value whole, and the invariant only keeps the lots of nothing
+-- but one, which is the claim's.
+--
+-- A lot is a part of one ghost name, which says of what it is: of nothing by 0, of the token of `a` by
+-- `a + 1`. So whoever brings a lot back learns which of the two the slot is in, and the name changes only if
+-- all lots are in one hand.
 use Rattle.std.specs.Prelude.{ℕ, zero, suc, ◌+◌, ◌-◌, ◌<◌, ◌≤◌, [], ◌∷◌, Option, Some, None}
 use base.FractionLaws.{Counts}
 use base.Fraction.{full_share}
@@ -43,6 +46,7 @@ lots_at γ v e = fsep (token v e) (named_as γ v e)
 abbrev pub lots : GName → ℕ → ℕ → Fml
 lots γ v k = fex Share (λ e. fex (Counts 63 e k) (λ _. lots_at γ v e))
 
+-- one lot of v
 abbrev pub lot : GName → ℕ → Fml
 lot γ v = lots γ v 1
 
@@ -54,6 +58,8 @@ all_but m γ v = lots γ v (9223372036854775808 - m)
 abbrev pub Keeping : Type 0
 Keeping = Lft × GName
 
+-- the two things that the invariant keeps: `out`, and `lent` with its lifetime, how many lots are out, and
+-- the value
 pub data Stage (X : Type 0) : Type 0 where
   out : Stage X
   lent : ℕ → ℕ → X → Stage X
@@ -126,12 +132,15 @@ module _ (R : RattleType) (fits : R.Denot → Type 0) where
   abbrev pub owned_slot : (ℕ → R.Denot → Fml) → Fml
   owned_slot fields = fex ℕ (λ w. fex R.Denot (λ x. fsep (holds (fits x)) (fields w x)))
 
+  -- a slot that threads share, for a lifetime
   abbrev pub shared_slot : Ptr → Lft → Fml
   shared_slot p = lent_at p (λ b o. some Keeping (known b o))
 
   module _ (β : Lft) (p : Ptr) (right : ℕ) (v : Option R.Denot) where
+    -- what a claim with this right owns
     abbrev pub claimed : Fml
     claimed = at_place p (λ b o. fex Keeping (λ t. fsep (known b o t β) (entitled b o t right v)))
 
+    -- what others see of a claim
     abbrev pub lent_claim : Lft → Fml
     lent_claim = lent_at p (λ b o. visible_by b o right v β)

@@ -2,16 +2,19 @@
 -- The low 32 bits count the readers. From 2 ^ 32 on further readers stay out, and from `taken` on somebody has the slot whole.
 use Rattle.std.specs.Prelude.{◌≡◌, ◌≢◌, ◌⊎◌, ℕ, ◌+◌, ◌-◌, ◌%◌, ◌<◌, ◌≤◌}
 
--- the rights of a claim; 0 is the right to nothing
+-- the right of a reader's claim; 0 is the right to nothing
 abbrev pub shared : ℕ
 shared = 1
 
+-- the right of a claim of the whole slot
 abbrev pub whole : ℕ
 whole = 2
 
+-- the least word at which somebody has the slot whole
 abbrev pub taken : ℕ
 taken = 8589934592
 
+-- how many readers a word counts
 abbrev pub readers : ℕ → ℕ
 readers word = word % 4294967296
 
