@@ -1,6 +1,6 @@
 #!/usr/bin/env python3
 """Writes the inputs of the benchmark into the folder that is given, each whole and as a tenth of its lines: those that are named, or else the
-four that come first.
+six that come first.
 
 The seed is fixed, so that every run on every machine has the same bytes.
 """
@@ -53,21 +53,44 @@ def few(rng):
     return rng.choices(words, k=2_000_000)
 
 
-def rows(rng):
-    """Two million lines over 200,000 words, each of which comes."""
-    words = distinct_words(rng, 200_000, 4, 12)
-    lines = words + rng.choices(words, k=1_800_000)
+def shuffled(rng, words, count):
+    """So many lines over the words in random order, each of which comes."""
+    lines = words + rng.choices(words, k=count - len(words))
     rng.shuffle(lines)
     return lines
 
 
-INPUTS = {"zipf": zipf, "distinct": distinct, "long": long_lines, "few": few, "large": large, "rows": rows}
+def rows(rng):
+    """Two million lines over 200,000 words, each of which comes."""
+    return shuffled(rng, distinct_words(rng, 200_000, 4, 12), 2_000_000)
+
+
+def mid(rng):
+    """A million lines over 100,000 texts of 35 bytes, in random order."""
+    return shuffled(rng, distinct_words(rng, 100_000, 35, 35), 1_000_000)
+
+
+def wide(rng):
+    """Two million lines over a million texts of 35 bytes, in random order."""
+    return shuffled(rng, distinct_words(rng, 1_000_000, 35, 35), 2_000_000)
+
+
+INPUTS = {
+    "zipf": zipf,
+    "distinct": distinct,
+    "long": long_lines,
+    "few": few,
+    "mid": mid,
+    "wide": wide,
+    "large": large,
+    "rows": rows,
+}
 
 
 def main():
     folder = Path(sys.argv[1])
     folder.mkdir(parents=True, exist_ok=True)
-    for name in sys.argv[2:] or list(INPUTS)[:4]:
+    for name in sys.argv[2:] or list(INPUTS)[:6]:
         lines = INPUTS[name](random.Random(f"{SEED} {name}"))
         for suffix, part in (("", lines), (".tenth", lines[: len(lines) // 10])):
             (folder / f"{name}{suffix}").write_text("\n".join(part) + "\n", encoding="ascii")

@@ -8,6 +8,7 @@ ghost use Rattle.lasso_encode.specs.Encoding.{spur_at, encoded_texts, InternsCod
 
 use lasso_parts::keys::Spur;
 use lasso_parts::util::LassoResult;
+use lasso_single::batch::{Batch, intern_next, look_ahead};
 use lasso_single::rodeo::Rodeo;
 use std::alloc::Allocator;
 use std::hash::BuildHasher;
@@ -40,8 +41,12 @@ pub fn encode<S: BuildHasher, A: Allocator + Clone>(
 {
     // Where there is no memory for the codes of all texts, each asks for its own.
     let _ = codes.reserve(texts.len());
-    for text in texts {
-        encode_text(rodeo, text, codes)?;
+    let mut batch = Batch::new();
+    for i in 0..texts.len() {
+        if batch.is_due() {
+            look_ahead(rodeo, &texts[i..], &mut batch);
+        }
+        encode_next(rodeo, texts[i], &mut batch, codes)?;
     }
     Ok(())
 }
@@ -70,10 +75,7 @@ pub fn encode_text<S: BuildHasher, A: Allocator + Clone>(
         (λ error. (rodeo.new ≡ rodeo.old) × (codes.new.items ≡ codes.old.items) × IsRefused rodeo.old text.now error
         × MayLackMemory rodeo.old codes.new text.now error × (vec_capacity codes.old ≤ vec_capacity codes.new)) }
 {
-    codes.reserve(1)?;
-    let code = intern_code(rodeo, text)?;
-    codes.push(code)?;
-    Ok(())
+    encode_next(rodeo, text, &mut Batch::new(), codes)
 }
 
 /// Interns the text, and returns its code: its position in the interner's list, which it keeps. 4294967295 is
@@ -95,6 +97,42 @@ pub fn intern_code<S: BuildHasher, A: Allocator + Clone>(
     ensures code { IfOk result (λ code. position_of rodeo.new.texts text.now ≡ Some code) }
     ensures range { IfOk result (λ code. code < 4294967295) }
 {
-    let key = rodeo.try_get_or_intern(text)?;
+    intern_code_next(rodeo, text, &mut Batch::new())
+}
+
+/// `encode_text` for the next text of a batch: the texts are those of a walk, and the caller keeps the
+/// batch from one to the next (`lasso_single::batch`).
+#[inline(always)]
+pub fn encode_next<S: BuildHasher, A: Allocator + Clone>(
+    rodeo: &mut Rodeo<Spur, S, A>,
+    text: &str,
+    batch: &mut Batch,
+    codes: &mut Vec<u32>,
+) -> LassoResult<()>
+    ensures { MatchResult result
+        (λ _. ((key : ℕ) × InternsIn {K = ℕ} spur_at rodeo.old text.now (Ok key) rodeo.new)
+        × ((code : ℕ) × (position_of rodeo.new.texts text.now ≡ Some code) × (codes.new.items ≡ codes.old.items ++ code ∷ []))
+        × (vec_capacity codes.old ≤ vec_capacity codes.new))
+        (λ error. (rodeo.new ≡ rodeo.old) × (codes.new.items ≡ codes.old.items) × IsRefused rodeo.old text.now error
+        × MayLackMemory rodeo.old codes.new text.now error × (vec_capacity codes.old ≤ vec_capacity codes.new)) }
+{
+    codes.reserve(1)?;
+    let code = intern_code_next(rodeo, text, batch)?;
+    codes.push(code)?;
+    Ok(())
+}
+
+/// `intern_code` for the next text of a batch, as `encode_next` has it.
+#[inline(always)]
+pub fn intern_code_next<S: BuildHasher, A: Allocator + Clone>(
+    rodeo: &mut Rodeo<Spur, S, A>,
+    text: &str,
+    batch: &mut Batch,
+) -> LassoResult<u32>
+    ensures interns { InternsCode rodeo.old text.now result rodeo.new }
+    ensures code { IfOk result (λ code. position_of rodeo.new.texts text.now ≡ Some code) }
+    ensures range { IfOk result (λ code. code < 4294967295) }
+{
+    let key = intern_next(rodeo, text, batch)?;
     Ok(key.into_position())
 }

@@ -8,4 +8,4 @@ mod encoding;
 #[cfg(test)]
 mod tests;
 
-pub use encoding::{encode, encode_text, intern_code};
+pub use encoding::{encode, encode_next, encode_text, intern_code, intern_code_next};

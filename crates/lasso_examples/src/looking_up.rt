@@ -90,3 +90,27 @@ fn a_run_of_commands(rt: HostRuntime) -> Result<(), Fail> {
     is_so(&rt, are_right(&replies), "the replies");
     Ok(())
 }
+
+#[test]
+fn keys_of_a_list_of_texts(rt: HostRuntime) -> Result<(), Fail> {
+    let mut rodeo = Rodeo::default(rt.alloc())?;
+    rodeo.extend(["red", "green"])?;
+    let mut keys = Vec::new(rt.alloc());
+    rodeo.get_all(&["green", "blue", "green"], &mut keys)?;
+    assert!(rt; keys.len() == 3);
+    assert!(rt; keys[0] == rodeo.get("green"));
+    assert!(rt; keys[1].is_none());
+    Ok(())
+}
+
+#[test]
+fn texts_of_a_list_of_keys(rt: HostRuntime) -> Result<(), Fail> {
+    let mut rodeo = Rodeo::default(rt.alloc())?;
+    let red = rodeo.try_get_or_intern("red")?;
+    let green = rodeo.try_get_or_intern("green")?;
+    let mut texts = Vec::new(rt.alloc());
+    assert!(rt; rodeo.contains_keys(&[green, red, green]));
+    rodeo.resolve_all(&[green, red, green], &mut texts)?;
+    assert!(rt; texts.as_slice() == ["green", "red", "green"].as_slice());
+    Ok(())
+}

@@ -4,6 +4,7 @@ pub mod EndFaults
 pub mod Lines
 pub mod Ways
 pub mod Cuts
+pub mod LineEnds
 pub mod Numbers
 pub mod Settings
 pub mod Buffers

@@ -4,6 +4,7 @@ pub mod Report
 pub mod Answer
 pub mod Arguments
 pub mod Stretch
+pub mod LineEnds
 pub mod Fronts
 pub mod Ordered
 pub mod Shares

@@ -10,7 +10,6 @@ mod hashing;
 pub mod key_slots;
 mod lists;
 mod probe;
-mod same;
 mod table;
 mod vacancy;
 
@@ -19,7 +18,7 @@ use crate::util::{LassoError, LassoErrorKind, LassoResult};
 pub use hashing::hash_text;
 use key_slots::KeySlots;
 pub use lists::Texts;
-use probe::{Scan, free_slot, home_slot, scan_slots, tag_of};
+use probe::{Scan, first_tagged, free_slot, home_slot, scan_slots, tag_of};
 use std::alloc::Allocator;
 use std::hash::BuildHasher;
 use std::marker::Model;
@@ -252,6 +251,14 @@ impl<K: Key, A: Allocator> Index<K, A> {
         ensures { IsTrue result ↔ (0 < room self.now.slots) }
     {
         self.used < self.slots.len() / 4 * 3
+    }
+
+    // What `guess_position` returns.
+    #[inline(always)]
+    pub(crate) fn guess(&self, hash: u64) -> Option<usize>
+        ensures { IfSome result (λ n. Holds self.now.slots n) }
+    {
+        first_tagged(&self.slots, hash)
     }
 
     // What `locate` returns: the search from the home slot up, then below it.

@@ -1,5 +1,6 @@
--- What interning a list of texts returns and leaves.
-use Rattle.std.specs.Prelude.{ℕ, ◌≡◌, ◌-◌, List, ◌++◌, length, map, take, Option, Some, Err, IsSomeAnd, slice_get}
+-- What interning a list of texts returns and leaves, and what is found for a list of texts or of keys.
+use denote.Ref.{Bor}
+use Rattle.std.specs.Prelude.{ℕ, ◌≡◌, ◌-◌, ◌<◌, List, ◌++◌, length, map, take, Option, Some, Err, IsSomeAnd, slice_get}
 use Rattle.lasso_parts.specs.Texts.{Text, key_of}
 use Rattle.lasso_parts.specs.declared.util.LassoError.{LassoError}
 use Rattle.lasso_single.specs.Intern.{InternsIn}
@@ -21,3 +22,20 @@ AddsKeys {K} key_at list texts before after = (keys : List K) × (after ≡ befo
 abbrev pub IsNextRefused : {K : Type 0} → (ℕ → Option K) → InternerView → List K → List K → List Text → LassoError → Type 0
 IsNextRefused {K} key_at now before after texts error =
     IsSomeAnd (slice_get texts (length after - length before)) (λ text. InternsIn {K = K} key_at now text (Err error) now)
+
+-- the key of each text, or none if the text is absent, was put after the earlier ones
+abbrev pub AddsFound : {K : Type 0} → (ℕ → Option K) → List Text → List Text → List (Option K) → List (Option K) → Type 0
+AddsFound key_at list texts before after = after ≡ before ++ map (key_of key_at list) texts
+
+-- each of the keys stands for a text of the list
+abbrev pub HaveTexts : {K : Type 0} → (K → ℕ) → List Text → List K → Type 0
+HaveTexts {K} number list keys = (i : ℕ) (key : K) → slice_get keys i ≡ Some key → number key < length list
+
+-- the texts are those that the keys have in the list, one for each key
+abbrev pub AreTexts : {K : Type 0} → (K → ℕ) → List Text → List K → List Text → Type 0
+AreTexts number list keys texts = map (λ key. slice_get list (number key)) keys ≡ map Some texts
+
+-- the texts of the keys were put after the earlier ones
+abbrev pub AddsTexts : {K : Type 0} → (K → ℕ) → List Text → List K → List (Bor Text) → List (Bor Text) → Type 0
+AddsTexts number list keys before after =
+    (lent : List (Bor Text)) × (after ≡ before ++ lent) × AreTexts number list keys (map (λ text. text.now) lent)

@@ -1,15 +1,19 @@
 //! `RodeoReader`, a frozen interner that still finds the keys of texts.
-ghost use Rattle.std.specs.Prelude.{◌≡◌, ◌==◌, ◌<◌, length, Some, is_some, IsTrue, ◌↔◌, slice_get, option_map};
+ghost use Rattle.std.specs.Prelude.{◌≡◌, ◌==◌, ◌+◌, ◌<◌, length, map, Some, is_some, IsTrue, IfErr, OnErr, OnOk, ◌↔◌, slice_get, option_map, vec_len};
+ghost use Rattle.std.specs.Vec.{vec_capacity};
+ghost use Rattle.lasso_parts.specs.declared.util.LassoErrorKind.TheVariants.{FailedAllocation};
 ghost use Rattle.lasso_parts.specs.Texts.{position_of, key_of, IsDistinct, Fits};
 ghost use Rattle.std.specs.Cmp.{partial_equiv_from_equiv};
 ghost use Rattle.std.specs.List.{enumerate_from};
 ghost use Rattle.lasso_single.specs.Equality.{texts_eq, texts_equivalence};
+ghost use Rattle.lasso_single.specs.KeyLists.{AddsFound, AddsTexts, HaveTexts};
 
 use crate::resolver::RodeoResolver;
 use crate::rodeo::Rodeo;
 use lasso_parts::index::Texts;
 use lasso_parts::iter::{Iter, Strings};
 use lasso_parts::keys::Key;
+use lasso_parts::util::LassoResult;
 use std::alloc::Allocator;
 use std::fmt;
 use std::hash::BuildHasher;
@@ -75,6 +79,24 @@ impl<K: Key, S: BuildHasher, A: Allocator> RodeoReader<K, S, A> {
         ensures present { is_some result ≡ is_some (position_of self.now text.now) }
     {
         self.rodeo.get(text)
+    }
+
+    /// Appends to `keys` the key of each text in order, or `None` for an absent one: what `get` returns.
+    /// Texts are looked up in batches, which is faster than one after another where they lie out of the
+    /// caches.
+    ///
+    /// The only error is `FailedAllocation`, where there is no room in `keys` for all of them; `keys` has
+    /// the same items then.
+    pub fn get_all<B: Allocator>(
+        &self,
+        texts: &[&str],
+        keys: &mut Vec<Option<K>, B>,
+    ) -> LassoResult<()>
+        ensures keys { OnOk result (AddsFound K.key_at self.now (map (λ t. t.now) texts.now) keys.old.items keys.new.items) }
+        ensures unchanged { OnErr result (keys.new.items ≡ keys.old.items) }
+        ensures refused { IfErr result (λ error. (error ≡ FailedAllocation) × (vec_capacity keys.old < vec_len keys.old + length texts.now)) }
+    {
+        self.rodeo.get_all(texts, keys)
     }
 
     /// Whether the text is present.
@@ -148,6 +170,31 @@ impl<K: Key, S: BuildHasher, A: Allocator> RodeoReader<K, S, A> {
         ensures { slice_get self.now (K.number key) ≡ Some result.now }
     {
         self.resolve(key)
+    }
+
+    /// Whether each key stands for a text of this reader.
+    pub fn contains_keys(&self, keys: &[K]) -> bool
+        ensures { IsTrue result ↔ HaveTexts K.number self.now keys.now }
+    {
+        self.rodeo.contains_keys(keys)
+    }
+
+    /// Appends to `texts` the text of each key in order: what `resolve` returns. Each key must stand for a
+    /// text of this reader: `contains_keys` is the test.
+    ///
+    /// The only error is `FailedAllocation`, where there is no room in `texts` for all of them; `texts` has
+    /// the same items then.
+    pub fn resolve_all<'a, B: Allocator>(
+        &'a self,
+        keys: &[K],
+        texts: &mut Vec<&'a str, B>,
+    ) -> LassoResult<()>
+        requires { HaveTexts K.number self.now keys.now }
+        ensures texts { OnOk result (AddsTexts K.number self.now keys.now texts.old.items texts.new.items) }
+        ensures unchanged { OnErr result (texts.new.items ≡ texts.old.items) }
+        ensures refused { IfErr result (λ error. (error ≡ FailedAllocation) × (vec_capacity texts.old < vec_len texts.old + length keys.now)) }
+    {
+        self.rodeo.resolve_all(keys, texts)
     }
 
     /// The number of texts.

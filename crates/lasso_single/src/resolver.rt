@@ -1,9 +1,12 @@
 //! `RodeoResolver`, a frozen interner that gives the texts of keys alone.
-ghost use Rattle.std.specs.Prelude.{◌≡◌, ◌==◌, ◌<◌, length, Some, IsTrue, ◌↔◌, slice_get, option_map};
+ghost use Rattle.std.specs.Prelude.{◌≡◌, ◌==◌, ◌+◌, ◌<◌, length, Some, IsTrue, IfErr, OnErr, OnOk, ◌↔◌, slice_get, option_map, vec_len};
+ghost use Rattle.std.specs.Vec.{vec_capacity};
+ghost use Rattle.lasso_parts.specs.declared.util.LassoErrorKind.TheVariants.{FailedAllocation};
 ghost use Rattle.lasso_parts.specs.Texts.{Fits};
 ghost use Rattle.std.specs.Cmp.{partial_equiv_from_equiv};
 ghost use Rattle.std.specs.List.{enumerate_from};
 ghost use Rattle.lasso_single.specs.Equality.{texts_eq, texts_equivalence};
+ghost use Rattle.lasso_single.specs.KeyLists.{AddsTexts, HaveTexts};
 
 use crate::reader::RodeoReader;
 use crate::rodeo::Rodeo;
@@ -11,6 +14,7 @@ use crate::text_list::TextList;
 use lasso_parts::index::Texts;
 use lasso_parts::iter::{Iter, Strings};
 use lasso_parts::keys::Key;
+use lasso_parts::util::LassoResult;
 use std::alloc::Allocator;
 use std::fmt;
 use std::hash::BuildHasher;
@@ -132,6 +136,31 @@ impl<K: Key, A: Allocator> RodeoResolver<K, A> {
         ensures { slice_get self.now (K.number key) ≡ Some result.now }
     {
         self.resolve(key)
+    }
+
+    /// Whether each key stands for a text of this resolver.
+    pub fn contains_keys(&self, keys: &[K]) -> bool
+        ensures { IsTrue result ↔ HaveTexts K.number self.now keys.now }
+    {
+        self.list.contains_keys(keys)
+    }
+
+    /// Appends to `texts` the text of each key in order: what `resolve` returns. Each key must stand for a
+    /// text of this resolver: `contains_keys` is the test.
+    ///
+    /// The only error is `FailedAllocation`, where there is no room in `texts` for all of them; `texts` has
+    /// the same items then.
+    pub fn resolve_all<'a, B: Allocator>(
+        &'a self,
+        keys: &[K],
+        texts: &mut Vec<&'a str, B>,
+    ) -> LassoResult<()>
+        requires { HaveTexts K.number self.now keys.now }
+        ensures texts { OnOk result (AddsTexts K.number self.now keys.now texts.old.items texts.new.items) }
+        ensures unchanged { OnErr result (texts.new.items ≡ texts.old.items) }
+        ensures refused { IfErr result (λ error. (error ≡ FailedAllocation) × (vec_capacity texts.old < vec_len texts.old + length keys.now)) }
+    {
+        self.list.resolve_all(keys, texts)
     }
 
     /// The number of texts.

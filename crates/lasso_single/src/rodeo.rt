@@ -3,11 +3,13 @@ ghost use Rattle.std.specs.Prelude.{◌≡◌, ◌==◌, ◌+◌, ◌*◌, ◌<�
 ghost use Rattle.lasso_parts.specs.Texts.{position_of, key_of, IsDistinct, Fits};
 ghost use Rattle.lasso_single.specs.Interner.{most_copied};
 
+mod batches;
 mod changes;
 mod clones;
 mod copying;
 mod filling;
 mod freezing;
+mod guessing;
 mod interning;
 mod json;
 mod makers;

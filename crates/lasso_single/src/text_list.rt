@@ -8,6 +8,7 @@ ghost use Rattle.lasso_parts.specs.Texts.{Fits};
 ghost use Rattle.lasso_single.specs.Copies.{bytes_of, clone_size, read_of};
 ghost use Rattle.lasso_single.specs.Equality.{texts_eq};
 ghost use Rattle.lasso_single.specs.Interner.{IsMadeWith, KeepsOrigin, most_copied};
+ghost use Rattle.lasso_single.specs.KeyLists.{AddsTexts, HaveTexts};
 ghost use Rattle.lasso_parts.specs.declared.util.LassoErrorKind.TheVariants.{FailedAllocation};
 
 mod memory;
@@ -247,6 +248,37 @@ impl<A: Allocator> TextList<A> {
         } else {
             None
         }
+    }
+
+    /// Whether each key stands for a text of the list.
+    pub(crate) fn contains_keys<K: Key>(&self, keys: &[K]) -> bool
+        ensures { IsTrue result ↔ HaveTexts K.number self.now.texts keys.now }
+    {
+        for i in 0..keys.len() {
+            if keys[i].into_usize() >= self.len() {
+                return false;
+            }
+        }
+        true
+    }
+
+    /// Appends to `texts` the text of each key in order. The only error is `FailedAllocation`, and `texts`
+    /// has the same items then.
+    pub(crate) fn resolve_all<'a, K: Key, B: Allocator>(
+        &'a self,
+        keys: &[K],
+        texts: &mut Vec<&'a str, B>,
+    ) -> LassoResult<()>
+        requires { HaveTexts K.number self.now.texts keys.now }
+        ensures texts { OnOk result (AddsTexts K.number self.now.texts keys.now texts.old.items texts.new.items) }
+        ensures unchanged { OnErr result (texts.new.items ≡ texts.old.items) }
+        ensures refused { IfErr result (λ error. (error ≡ FailedAllocation) × (vec_capacity texts.old < vec_len texts.old + length keys.now)) }
+    {
+        texts.reserve(keys.len())?;
+        for i in 0..keys.len() {
+            texts.push_reserved(self.text_at(keys[i].into_usize()));
+        }
+        Ok(())
     }
 
     /// Whether the limit admits a text of `len` bytes. It takes no memory.

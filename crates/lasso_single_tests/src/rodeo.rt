@@ -1,5 +1,6 @@
 //! Interning with small buckets and low limits, worked out by hand, and with key types that lack a number.
 
+mod batches;
 mod changes;
 mod clears;
 mod clones;

@@ -44,3 +44,17 @@ pub fn passed_over(tags: &[u8], from: usize, to: usize, tag: u8) -> usize
     }
     at
 }
+
+// The index of the first of sixteen tags from the index on that is the one given or that of an empty slot,
+// or one past them if there is none. The index itself if fewer than sixteen tags are left.
+#[inline(always)]
+pub fn first_in_group(tags: &[u8], at: usize, tag: u8) -> usize
+    requires { at ≤ length tags.now }
+    ensures { AreOthers tags.now tag at result }
+{
+    if tags.len() - at < GROUP {
+        at
+    } else {
+        at + others_in_group(tags, at, tag)
+    }
+}

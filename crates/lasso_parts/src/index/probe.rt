@@ -5,11 +5,11 @@ ghost use Rattle.lasso_parts.specs.Index.{slot, used, home, tag_of, Holds, IsFul
 ghost use Rattle.lasso_parts.specs.IndexTable.{AllInList, HaveTag};
 ghost use Rattle.lasso_parts.specs.Scan.{Tells};
 
-use crate::index::groups::passed_over;
+use crate::index::groups::{first_in_group, passed_over};
 use crate::index::key_slots::KeySlots;
 use crate::index::lists::Texts;
-use crate::index::same::is_same;
 use crate::keys::Key;
+use crate::same::is_same;
 use std::alloc::Allocator;
 
 // How many bits of a hash are below those of the tag.
@@ -143,6 +143,25 @@ fn found_at<K: Key, A: Allocator, T: Texts>(
     let position = slots.key(j).into_usize();
     if is_same(texts.text_at(position), text) {
         return Some(position);
+    }
+    None
+}
+
+// The position of the first key with the tag of that hash among the sixteen slots from the home slot on,
+// unless an empty slot comes before it. No text is read.
+#[inline(always)]
+pub fn first_tagged<K: Key, A: Allocator>(slots: &KeySlots<K, A>, hash: u64) -> Option<usize>
+    ensures { IfSome result (λ n. Holds slots.now.slots n) }
+{
+    let tags = slots.tags();
+    let count = slots.len();
+    if count == 0 {
+        return None;
+    }
+    let tag = tag_of(hash);
+    let j = first_in_group(tags, home_slot(hash, count), tag);
+    if j < count && tags[j] == tag {
+        return Some(slots.key(j).into_usize());
     }
     None
 }

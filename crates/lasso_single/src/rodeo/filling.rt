@@ -8,6 +8,7 @@ ghost use Rattle.lasso_single.specs.Interner.{InternerView, made_with};
 ghost use Rattle.lasso_single.specs.KeyLists.{AddsKeys, IsNextRefused, keyed_texts};
 
 use super::Rodeo;
+use crate::batch::{Batch, intern_next, look_ahead};
 use lasso_parts::keys::Key;
 use lasso_parts::util::LassoResult;
 use std::alloc::Allocator;
@@ -71,8 +72,12 @@ impl<K: Key, S: BuildHasher, A: Allocator + Clone> Rodeo<K, S, A> {
             ⊎ IsNextRefused K.key_at self.new keys.old.items keys.new.items (map (λ t. t.now) texts.now) error) }
     {
         keys.reserve(texts.len())?;
-        for text in texts {
-            let key = self.try_get_or_intern(text)?;
+        let mut batch = Batch::new();
+        for i in 0..texts.len() {
+            if batch.is_due() {
+                look_ahead(self, &texts[i..], &mut batch);
+            }
+            let key = intern_next(self, texts[i], &mut batch)?;
             keys.push_reserved(key);
         }
         Ok(())

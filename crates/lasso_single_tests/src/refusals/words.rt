@@ -74,11 +74,79 @@ fn ends_list(memory: &Memory) -> LassoErrorKind {
     }
 }
 
+// Whether "ab", "cd", "ab" have the keys of these positions, and "e" has none.
+fn are_of_list(keys: &[Option<Spur>]) -> bool {
+    match keys {
+        [Some(first), Some(second), Some(third), None] => {
+            first.into_usize() == 0 && second.into_usize() == 1 && third.into_usize() == 0
+        }
+        _ => false,
+    }
+}
+
+// Looks for the list's keys, again while a request is refused. A refused call adds none.
+fn finds_keys<A: Allocator + Clone + Copy>(
+    rt: &impl Abort,
+    memory: &Memory,
+    rodeo: &Metered<Spur, A>,
+    alloc: A,
+) {
+    let mut keys: Vec<Option<Spur>, A> = Vec::new(alloc);
+    for _call in 0..REFUSALS.saturating_add(1) {
+        let refusal = refusal_of(rodeo.get_all(&LIST, &mut keys));
+        if !memory.has_refused_anew() {
+            is_so(rt, refusal.is_none(), "the keys of a list");
+            break;
+        }
+        is_so(rt, is_kind(refusal, MEMORY), "keys out of memory");
+        is_so(rt, keys.is_empty(), "the keys of a refused call");
+    }
+    is_so(rt, are_of_list(keys.as_slice()), "the keys");
+}
+
+fn resolve_all<'a, A: Allocator + Clone>(
+    rodeo: &'a Metered<Spur, A>,
+    keys: &[Spur],
+    texts: &mut Vec<&'a str, A>,
+) -> Option<LassoErrorKind> {
+    if !rodeo.contains_keys(keys) {
+        return Some(KEYS);
+    }
+    refusal_of(rodeo.resolve_all(keys, texts))
+}
+
+fn are_texts(texts: &[&str]) -> bool {
+    texts == ["ab", "cd", "ab"].as_slice()
+}
+
+// Looks for the texts of the list's keys in the same way.
+fn finds_texts<A: Allocator + Clone + Copy>(
+    rt: &impl Abort,
+    memory: &Memory,
+    rodeo: &Metered<Spur, A>,
+    keys: &[Spur],
+    alloc: A,
+) {
+    let mut texts: Vec<&str, A> = Vec::new(alloc);
+    for _call in 0..REFUSALS.saturating_add(1) {
+        let refusal = resolve_all(rodeo, keys, &mut texts);
+        if !memory.has_refused_anew() {
+            is_so(rt, refusal.is_none(), "the texts of a list");
+            break;
+        }
+        is_so(rt, is_kind(refusal, MEMORY), "texts out of memory");
+        is_so(rt, texts.is_empty(), "the texts of a refused call");
+    }
+    is_so(rt, are_texts(texts.as_slice()), "the texts");
+}
+
 // "ab" and "cd" use up the limit of 4 bytes. The list of keys allocates too, and that may be refused as well.
 fn listed<A: Allocator + Clone + Copy>(rt: &impl Abort, memory: &Memory, alloc: A) {
     if let Some(mut rodeo) = interner::<Spur, A>(rt, memory, alloc, 2, 4) {
         let mut keys: Keys<A> = Vec::new(alloc);
         lists(rt, memory, &mut rodeo, &mut keys);
+        finds_keys(rt, memory, &rodeo, alloc);
+        finds_texts(rt, memory, &rodeo, keys.as_slice(), alloc);
         let refusal = intern_all(&mut rodeo, &["ab", "cd", "e"], &mut keys);
         is_so(rt, is_kind(refusal, ends_list(memory)), "the last list");
     }

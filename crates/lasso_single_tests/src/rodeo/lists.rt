@@ -11,7 +11,7 @@ use std::process::Abort;
 use std::test::Fail;
 
 // Whether the keys stand for these positions.
-fn stand_for<K: Key>(keys: &[K], positions: &[usize]) -> bool {
+pub fn stand_for<K: Key>(keys: &[K], positions: &[usize]) -> bool {
     for (key, position) in keys.iter().zip(positions) {
         if key.into_usize() != *position {
             return false;

@@ -3,5 +3,5 @@ use Rattle.lasso_encode.proofs.Encoded.{Encoded}
 use Rattle.lasso_encode.proofs.encoding.encode.Given as goal
 
 -- the texts before the index were encoded
-abbrev pub invariant-loop-text : goal.invariant-loop-text
-invariant-loop-text g l = Encoded l.fn.rodeo (take l.text-index (map (λ t. t.now) l.texts)) l.fn.codes.items l.rodeo l.codes.items
+abbrev pub invariant-loop-i : goal.invariant-loop-i
+invariant-loop-i g l = Encoded l.fn.rodeo (take l.i (map (λ t. t.now) l.texts)) l.fn.codes.items l.rodeo l.codes.items

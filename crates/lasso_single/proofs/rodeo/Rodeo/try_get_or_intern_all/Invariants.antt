@@ -4,8 +4,8 @@ use Rattle.lasso_single.proofs.KeyLists.{Keyed}
 use Rattle.lasso_single.proofs.rodeo.Rodeo.try_get_or_intern_all.Given as goal
 
 -- the texts before the index were interned, and there is room for the keys of the others
-abbrev pub invariant-loop-text : goal.invariant-loop-text
-invariant-loop-text g l = record {
-  keyed : Keyed g.row.K.Denot g.K.Key.key_at l.fn.self (take l.text-index (map (λ t. t.now) l.texts)) l.fn.keys.items l.self l.keys.items;
-  room : vec_len l.keys + (length l.texts - l.text-index) ≤ vec_capacity l.keys;
+abbrev pub invariant-loop-i : goal.invariant-loop-i
+invariant-loop-i g l = record {
+  keyed : Keyed g.row.K.Denot g.K.Key.key_at l.fn.self (take l.i (map (λ t. t.now) l.texts)) l.fn.keys.items l.self l.keys.items;
+  room : vec_len l.keys + (length l.texts - l.i) ≤ vec_capacity l.keys;
 }

@@ -1,11 +1,13 @@
-//! Whether two texts are the same. Those of at most sixteen bytes are compared by their ends, each as one number.
-ghost use Rattle.std.specs.Prelude.{◌≡◌, ◌≤◌, length, bytes_eq};
+//! Whether two texts are the same. Those of at most sixteen bytes are compared by their ends, each as one
+//! number. The crate `lasso` leaves this module out.
+ghost use Rattle.std.specs.Prelude.{◌≡◌, ◌≤◌, true, length, bytes_eq};
 
 use crate::chunks::{first, last};
+use crate::entries::short::SHORT;
 
 /// Whether both texts are the same.
 #[inline(always)]
-pub(super) fn is_same(one: &str, other: &str) -> bool
+pub fn is_same(one: &str, other: &str) -> bool
     ensures { result ≡ bytes_eq one.now other.now }
 {
     let one = one.as_bytes();
@@ -24,6 +26,32 @@ pub(super) fn is_same(one: &str, other: &str) -> bool
     } else {
         one == other
     }
+}
+
+/// A first look at whether both texts are the same, which those that are the same pass: whether they have
+/// the same length and, unless they are short, the same ends. It reads no bytes of a short text, and only
+/// the ends of another.
+#[inline(always)]
+pub fn is_alike(one: &str, other: &str) -> bool
+    ensures { one.now ≡ other.now → result ≡ true }
+{
+    let one = one.as_bytes();
+    let other = other.as_bytes();
+    if one.len() != other.len() {
+        return false;
+    }
+    one.len() <= SHORT || have_same_ends(one, other)
+}
+
+// Whether both texts have the same first eight bytes and the same last eight.
+#[inline(always)]
+fn have_same_ends(one: &[u8], other: &[u8]) -> bool
+    requires one { 8 ≤ length one.now }
+    requires other { 8 ≤ length other.now }
+    ensures { one.now ≡ other.now → result ≡ true }
+{
+    is_same_word(last::<8>(one), last::<8>(other))
+        && is_same_word(first::<8>(one), first::<8>(other))
 }
 
 // Whether both texts have the same first eight bytes and the same last eight, which are all of them.

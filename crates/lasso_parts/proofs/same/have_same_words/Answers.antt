@@ -1,7 +1,7 @@
 use Rattle.std.proofs.Common.{◌≡◌, ◌∙◌, ◌-◌, List, ℕ, length, take, drop, bytes_eq, ap, sym, arith}
 use Rattle.std.proofs.lemmas.Slice.Eq.{bytes_eq-Decides}
 use Rattle.lasso_parts.proofs.Ends.{told_by_last}
-use Rattle.lasso_parts.proofs.index.same.have_same_words.Goals as goal
+use Rattle.lasso_parts.proofs.same.have_same_words.Goals as goal
 
 pub returns-then-is_same_word : goal.returns-then-is_same_word
 returns-then-is_same_word c =

@@ -1,5 +1,5 @@
 use Rattle.std.proofs.Common.{◌+◌, ◌∷◌, ◌++◌, [], ap, arith, ◌∙◌}
-use Rattle.lasso_encode.proofs.encoding.encode_text.Goals as goal
+use Rattle.lasso_encode.proofs.encoding.encode_next.Goals as goal
 
 pub returns : goal.returns
 returns g c =

@@ -2,7 +2,7 @@ use Rattle.std.proofs.Common.{◌≡◌, ◌∙◌, rules, ap, sym, w16}
 use Rattle.std.specs.Int.{from_le_bytes, to_le_bytes}
 use Rattle.std.proofs.lemmas.Nat.{le_bytes_2}
 use Rattle.lasso_parts.proofs.ReadNumbers.{told_by_number}
-use Rattle.lasso_parts.proofs.index.same.is_same_pair.Goals as goal
+use Rattle.lasso_parts.proofs.same.is_same_pair.Goals as goal
 
 pub returns : goal.returns
 returns c =

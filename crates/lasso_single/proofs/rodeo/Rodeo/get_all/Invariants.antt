@@ -1,0 +1,11 @@
+use Rattle.std.proofs.Common.{◌+◌, ◌-◌, ◌≤◌, length, map, take, vec_len}
+use Rattle.std.specs.Vec.{vec_capacity}
+use Rattle.lasso_single.specs.KeyLists.{AddsFound}
+use Rattle.lasso_single.proofs.rodeo.Rodeo.get_all.Given as goal
+
+-- the texts before the index have their keys, and there is room for those of the others
+abbrev pub invariant-loop-i : goal.invariant-loop-i
+invariant-loop-i g l = record {
+  found : AddsFound g.K.Key.key_at l.self.texts (take l.i (map (λ t. t.now) l.texts)) l.fn.keys.items l.keys.items;
+  room : vec_len l.keys + (length l.texts - l.i) ≤ vec_capacity l.keys;
+}

@@ -1,0 +1,86 @@
+//! The calls of a `Rodeo` that take a list of texts or of keys and read.
+ghost use Rattle.std.specs.Prelude.{◌≡◌, ◌+◌, ◌<◌, ◌↔◌, length, map, IsTrue, OnOk, OnErr, IfErr, vec_len};
+ghost use Rattle.std.specs.Vec.{vec_capacity};
+ghost use Rattle.lasso_parts.specs.declared.util.LassoErrorKind.TheVariants.{FailedAllocation};
+ghost use Rattle.lasso_single.specs.KeyLists.{AddsFound, AddsTexts, HaveTexts};
+
+use super::Rodeo;
+use crate::batch::{Batch, get_next, look_ahead};
+use lasso_parts::keys::Key;
+use lasso_parts::util::LassoResult;
+use std::alloc::Allocator;
+use std::hash::BuildHasher;
+
+impl<K: Key, S: BuildHasher, A: Allocator> Rodeo<K, S, A> {
+    /// Appends to `keys` the key of each text in order, or `None` for an absent one: what `get` returns.
+    /// Texts are looked up in batches, which is faster than one after another where they lie out of the
+    /// caches.
+    ///
+    /// The only error is `FailedAllocation`, where there is no room in `keys` for all of them; `keys` has
+    /// the same items then.
+    ///
+    /// ```rust
+    /// let mut rodeo = Rodeo::default(rt.alloc())?;
+    /// rodeo.extend(["red", "green"])?;
+    /// let mut keys = Vec::new(rt.alloc());
+    /// rodeo.get_all(&["green", "blue", "green"], &mut keys)?;
+    /// assert!(rt; keys.len() == 3);
+    /// assert!(rt; keys[0] == rodeo.get("green"));
+    /// assert!(rt; keys[1].is_none());
+    /// ```
+    pub fn get_all<B: Allocator>(
+        &self,
+        texts: &[&str],
+        keys: &mut Vec<Option<K>, B>,
+    ) -> LassoResult<()>
+        ensures keys { OnOk result (AddsFound K.key_at self.now.texts (map (λ t. t.now) texts.now) keys.old.items keys.new.items) }
+        ensures unchanged { OnErr result (keys.new.items ≡ keys.old.items) }
+        ensures refused { IfErr result (λ error. (error ≡ FailedAllocation) × (vec_capacity keys.old < vec_len keys.old + length texts.now)) }
+    {
+        keys.reserve(texts.len())?;
+        let mut batch = Batch::new();
+        for i in 0..texts.len() {
+            if batch.is_due() {
+                look_ahead(self, &texts[i..], &mut batch);
+            }
+            let key = get_next(self, texts[i], &mut batch);
+            keys.push_reserved(key);
+        }
+        Ok(())
+    }
+
+    /// Whether each key stands for a text of this interner.
+    pub fn contains_keys(&self, keys: &[K]) -> bool
+        ensures { IsTrue result ↔ HaveTexts K.number self.now.texts keys.now }
+    {
+        self.list.contains_keys(keys)
+    }
+
+    /// Appends to `texts` the text of each key in order: what `resolve` returns. Each key must stand for a
+    /// text of this interner: `contains_keys` is the test.
+    ///
+    /// The only error is `FailedAllocation`, where there is no room in `texts` for all of them; `texts` has
+    /// the same items then.
+    ///
+    /// ```rust
+    /// let mut rodeo = Rodeo::default(rt.alloc())?;
+    /// let red = rodeo.try_get_or_intern("red")?;
+    /// let green = rodeo.try_get_or_intern("green")?;
+    /// let mut texts = Vec::new(rt.alloc());
+    /// assert!(rt; rodeo.contains_keys(&[green, red, green]));
+    /// rodeo.resolve_all(&[green, red, green], &mut texts)?;
+    /// assert!(rt; texts.as_slice() == ["green", "red", "green"].as_slice());
+    /// ```
+    pub fn resolve_all<'a, B: Allocator>(
+        &'a self,
+        keys: &[K],
+        texts: &mut Vec<&'a str, B>,
+    ) -> LassoResult<()>
+        requires { HaveTexts K.number self.now.texts keys.now }
+        ensures texts { OnOk result (AddsTexts K.number self.now.texts keys.now texts.old.items texts.new.items) }
+        ensures unchanged { OnErr result (texts.new.items ≡ texts.old.items) }
+        ensures refused { IfErr result (λ error. (error ≡ FailedAllocation) × (vec_capacity texts.old < vec_len texts.old + length keys.now)) }
+    {
+        self.list.resolve_all(keys, texts)
+    }
+}
