@@ -8,7 +8,7 @@ use crate::timing::{
 use anyhow::{Result, ensure};
 use lasso::{Key, Spur, SpurRodeo, SpurRodeoReader, SpurThreadedRodeo};
 use lasso_columns::{decode, encode, encode_in_parts, encode_lines, encode_shared, merge};
-use lasso_cut::first_line;
+use lasso_input::first_line;
 use std::alloc::Global;
 use std::rt::Clock;
 use std::str::from_utf8;

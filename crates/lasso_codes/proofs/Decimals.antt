@@ -10,7 +10,7 @@ use Rattle.std.proofs.lemmas.Bool.Decides.{nat_tests}
 use Rattle.std.proofs.lemmas.Fmt.{decimal_is_IsNumeral, length-decimal-le}
 use Rattle.std.proofs.lemmas.Str.{digit_value_digit}
 use Rattle.std.proofs.lemmas.Str.Parse.{digit_from_value}
-use Rattle.lasso_cut.specs.Lines.{NoFeed}
+use Rattle.lasso_input.specs.Lines.{NoFeed}
 use Rattle.lasso_codes.specs.Arguments.{is_digit, digits_after, digits_value}
 
 value_grows : (n : ℕ) (ds : List ℕ) → n ≤ digits_value_after 10 n ds

@@ -16,7 +16,7 @@ use Rattle.lasso_single.proofs.Filled.{accepted, extend_push}
 use Rattle.lasso_columns.proofs.PartLists.{list_extended}
 use Rattle.lasso_encode.specs.Encoding.{spur_at}
 use Rattle.lasso_columns.specs.Faults.{IsFaultOf}
-use Rattle.lasso_cut.specs.Lines.{lines_of}
+use Rattle.lasso_input.specs.Lines.{lines_of}
 use Rattle.lasso_columns.specs.Parts.{new_texts}
 use Rattle.lasso_columns.specs.declared.faults.LineError.TheVariants.{Refused}
 use Rattle.lasso_parts.specs.declared.util.LassoErrorKind.TheVariants.{FailedAllocation}

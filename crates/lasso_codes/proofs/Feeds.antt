@@ -8,8 +8,8 @@ use Rattle.std.specs.Prelude.{IfSome}
 use Rattle.std.specs.Io.BufRead.{take_through, drop_through}
 use Rattle.std.proofs.lemmas.Bool.Decides.{nat_tests}
 use Rattle.std.proofs.lemmas.List.{length_push}
-use Rattle.lasso_cut.specs.Lines.{lines_of, is_line_feed, NoFeed}
-use Rattle.lasso_cut.proofs.FirstLines.{lines_cut, lines_end}
+use Rattle.lasso_input.specs.Lines.{lines_of, is_line_feed, NoFeed}
+use Rattle.lasso_input.proofs.FirstLines.{lines_cut, lines_end}
 use Rattle.lasso_codes.specs.Streams.{cut_line, CutsLine, TakesLine}
 use Rattle.lasso_codes.specs.declared.input.Cut.{Cut}
 use Rattle.lasso_codes.specs.declared.input.Cut.TheVariants.{Whole, Part, End}

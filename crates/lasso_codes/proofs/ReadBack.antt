@@ -20,10 +20,10 @@ use Rattle.std.proofs.lemmas.Nat.{from_le_bytes-to_le_bytes_4}
 use Rattle.std.proofs.lemmas.Str.{is_utf8-from_IsUtf8}
 use Rattle.lasso_parts.proofs.TextLemmas.{position_here, position_last}
 use Rattle.lasso_parts.specs.Texts.{Text, position_of}
-use Rattle.lasso_cut.specs.Lines.{NoFeed, is_line_feed, lines_of}
+use Rattle.lasso_input.specs.Lines.{NoFeed, is_line_feed, lines_of}
 use Rattle.lasso_columns.specs.Parts.{new_texts}
 use Rattle.lasso_encode.proofs.Coded.{position_stays}
-use Rattle.lasso_cut.proofs.FirstLines.{no_feed_both}
+use Rattle.lasso_input.proofs.FirstLines.{no_feed_both}
 use Rattle.lasso_codes.specs.Arguments.{digits_value}
 use Rattle.lasso_codes.specs.Columns.{is_null, texts_of, dictionary_of, entry_of, entry_bytes, header, header_front, column_of, column_bytes}
 use Rattle.lasso_codes.specs.Distinct.{with_feed}

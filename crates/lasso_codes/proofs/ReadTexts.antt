@@ -13,7 +13,7 @@ use Rattle.lasso_single.specs.Interner.{InternerView, made_with}
 use Rattle.lasso_single.proofs.Filled.{accepted, extend_push}
 use Rattle.lasso.proofs.Calling.{list_interned}
 use Rattle.lasso_encode.specs.Encoding.{spur_at}
-use Rattle.lasso_cut.specs.Lines.{NoFeed, is_line_feed}
+use Rattle.lasso_input.specs.Lines.{NoFeed, is_line_feed}
 use Rattle.lasso_codes.specs.Stages.{Reading}
 use Rattle.lasso_codes.specs.Reading.{ReadTexts, on_text, texts_from, AddsText, AddError, IsTextError, TextsError}
 use Rattle.lasso_codes.specs.Streams.{cut_line}

@@ -14,8 +14,8 @@ use Rattle.std.proofs.lemmas.List.{drop-append-le, drop-take}
 use Rattle.std.proofs.lemmas.Str.{IsUtf8-nil, IsUtf8-take, IsUtf8-drop, IsCharBoundary-before_ascii, IsCharBoundary-after_ascii}
 use Rattle.std.proofs.lemmas.Bool.Decides.{nat_tests}
 use Rattle.memchr.specs.Find.{IsFirstByte, is_byte}
-use Rattle.lasso_cut.specs.Lines.{lines_of}
-use Rattle.lasso_cut.proofs.FirstLines.{Cut, cut_at, lines_cut}
+use Rattle.lasso_input.specs.Lines.{lines_of}
+use Rattle.lasso_input.proofs.FirstLines.{Cut, cut_at, lines_cut}
 use Rattle.lasso_codes.specs.Reading.{cut_entry}
 use Rattle.lasso_codes.specs.Streams.{cut_line}
 use Rattle.lasso_codes.specs.declared.entries.Entry.{Entry}

@@ -9,7 +9,7 @@ use Rattle.std.proofs.Math.Seq.{take-append_seam}
 use Rattle.std.proofs.lemmas.List.{append-nil, length_push, length-append}
 use Rattle.std.proofs.lemmas.List.Elements.{All-push}
 use Rattle.lasso_parts.specs.Texts.{Text}
-use Rattle.lasso_cut.specs.Lines.{lines_of}
+use Rattle.lasso_input.specs.Lines.{lines_of}
 use Rattle.lasso_codes.specs.Stages.{Taken}
 
 -- one line more

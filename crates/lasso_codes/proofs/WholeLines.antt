@@ -21,7 +21,7 @@ use Rattle.lasso_columns.proofs.PartLists.{found_interned, list_extended}
 use Rattle.lasso_encode.specs.Codes.{AreCodes, AddsCodes}
 use Rattle.lasso_encode.specs.Encoding.{spur_at, encoded_texts, IsRefused}
 use Rattle.lasso_columns.specs.Faults.{IsFaultOf}
-use Rattle.lasso_cut.specs.Lines.{lines_of}
+use Rattle.lasso_input.specs.Lines.{lines_of}
 use Rattle.lasso_columns.specs.Parts.{new_texts}
 use Rattle.lasso_columns.specs.declared.faults.LineError.TheVariants.{Refused, NotText}
 use Rattle.lasso_counts.proofs.Rest.{first, found_extended, take_front}

@@ -2,7 +2,7 @@
 use Rattle.std.specs.Prelude.{ℕ, zero, suc, ◌≡◌, ◌+◌, Bool, List, [], ◌++◌, take, flat_map, Option, Some, None, Result, Ok, Err, MatchResult, slice_get}
 use Rattle.lasso_parts.specs.Texts.{Text}
 use Rattle.lasso_parts.specs.declared.util.LassoErrorKind.TheVariants.{FailedAllocation}
-use Rattle.lasso_cut.specs.Lines.{lines_of}
+use Rattle.lasso_input.specs.Lines.{lines_of}
 use Rattle.lasso_columns.specs.declared.faults.LineError.TheVariants.{Refused}
 use Rattle.lasso_codes.specs.Distinct.{with_feed}
 use Rattle.lasso_codes.specs.Encode.{EncodeEnd}

@@ -5,7 +5,7 @@ use Rattle.lasso_parts.specs.Texts.{Text, position_of}
 use Rattle.lasso_single.specs.Filling.{extend}
 use Rattle.lasso_single.specs.Interner.{InternerView, made_with}
 use Rattle.lasso_encode.specs.Encoding.{spur_at}
-use Rattle.lasso_cut.specs.Lines.{lines_of}
+use Rattle.lasso_input.specs.Lines.{lines_of}
 use Rattle.lasso_counts.specs.Counts.{AreCounts}
 use Rattle.lasso_codes.specs.Columns.{is_null, texts_of, entry_at}
 use Rattle.lasso_codes.specs.Decode.{fed_lines}

@@ -1,7 +1,7 @@
 -- How calls change the bytes that a reader has left and those that a writer has, if they are known.
 use Rattle.std.specs.Prelude.{ℕ, ◌≡◌, ◌<◌, Bool, true, false, List, [], ◌∷◌, ◌++◌, length, Option, Some, None, Result, MatchResult, option_map, if◌then◌else◌}
 use Rattle.std.specs.Io.KnownBytes.{Appends}
-use Rattle.lasso_cut.specs.Lines.{lines_of, is_line_feed}
+use Rattle.lasso_input.specs.Lines.{lines_of, is_line_feed}
 use Rattle.lasso_codes.specs.Errors.{IsWriteError}
 use Rattle.lasso_codes.specs.declared.input.Cut.{Cut}
 use Rattle.lasso_codes.specs.declared.input.Cut.TheVariants.{Whole, Part, End}

@@ -14,7 +14,7 @@ use crate::lines::{intern_line, untested_len};
 use crate::output::{end_flushed, write_line};
 use crate::streams::{Input, Output};
 use lasso::{Capacity, MemoryLimits, Rodeo, SpurRodeo};
-use lasso_cut::find_newline;
+use lasso_input::find_newline;
 use std::alloc::Global;
 use std::io::{Read, Write};
 

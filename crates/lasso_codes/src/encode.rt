@@ -3,7 +3,7 @@ ghost use Rattle.std.specs.Prelude.{◌≡◌, ◌+◌, ◌<◌, ◌≤◌, ◌-
 ghost use Rattle.lasso_single.specs.Interner.{InternerView, made_with};
 ghost use Rattle.lasso_encode.specs.Encoding.{IsRefused};
 ghost use Rattle.lasso_columns.specs.Faults.{IsFaultOf};
-ghost use Rattle.lasso_cut.specs.Lines.{lines_of};
+ghost use Rattle.lasso_input.specs.Lines.{lines_of};
 ghost use Rattle.lasso_columns.specs.declared.faults.LineError.TheVariants.{Refused};
 ghost use Rattle.lasso_parts.specs.declared.util.LassoErrorKind.TheVariants.{FailedAllocation};
 ghost use Rattle.lasso_codes.specs.Arguments.{word_of};
@@ -25,7 +25,7 @@ use crate::streams::{Input, Output};
 use crate::whole::{read_whole, text_lines};
 use lasso::{LassoError, LassoErrorKind, LassoResult, MemoryLimits, SpurRodeo};
 use lasso_columns::{LineError, encode_in_parts};
-use lasso_cut::find_newline;
+use lasso_input::find_newline;
 use lasso_encode::intern_code;
 use std::alloc::Global;
 use std::io::{Read, Write};

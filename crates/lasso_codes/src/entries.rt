@@ -12,7 +12,7 @@ use crate::numbers::parse_digits;
 use crate::streams::Input;
 use lasso::SpurRodeo;
 use lasso::index::Texts;
-use lasso_cut::find_newline;
+use lasso_input::find_newline;
 use std::io::Read;
 
 /// An entry of a column, as it is read.

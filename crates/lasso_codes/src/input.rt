@@ -1,6 +1,6 @@
 //! Reads lines.
 ghost use Rattle.std.specs.Prelude.{◌≡◌, ◌+◌, ℕ, List, [], ◌∷◌, ◌++◌, IfOk, IfErr};
-ghost use Rattle.lasso_cut.specs.Lines.{NoFeed};
+ghost use Rattle.lasso_input.specs.Lines.{NoFeed};
 ghost use Rattle.lasso_codes.specs.Streams.{CutsLine, TakesLine};
 ghost use Rattle.lasso_codes.specs.Errors.{failed_reads, IsReadError};
 

@@ -16,7 +16,7 @@ use crate::numbers::parse_digits;
 use crate::streams::Input;
 use lasso::SpurRodeo;
 use lasso_columns::LineError;
-use lasso_cut::find_newline;
+use lasso_input::find_newline;
 use memchr::memchr;
 use std::io::Read;
 

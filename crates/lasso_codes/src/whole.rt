@@ -1,6 +1,6 @@
 //! Reads a whole input, and cuts it into lines of text.
 ghost use Rattle.std.specs.Prelude.{◌≡◌, ◌+◌, ℕ, List, Some, IfOk, IfErr, map};
-ghost use Rattle.lasso_cut.specs.Lines.{lines_of};
+ghost use Rattle.lasso_input.specs.Lines.{lines_of};
 ghost use Rattle.lasso_columns.specs.declared.faults.LineError.TheVariants.{Refused};
 ghost use Rattle.lasso_parts.specs.declared.util.LassoErrorKind.TheVariants.{FailedAllocation};
 ghost use Rattle.lasso_codes.specs.Errors.{failed_reads, IsReadError};
@@ -8,7 +8,7 @@ ghost use Rattle.lasso_codes.specs.Whole.{AreTextLines};
 
 use crate::error::RunError;
 use crate::streams::Input;
-use lasso_cut::first_line;
+use lasso_input::first_line;
 use std::alloc::Global;
 use std::io::Read;
 use std::str::from_utf8;

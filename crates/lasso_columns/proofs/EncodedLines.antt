@@ -14,7 +14,7 @@ use Rattle.lasso_single.specs.Interner.{InternerView}
 use Rattle.lasso_encode.proofs.Encoded.{Encoded, encoded_push, encoded_still, encoded_are, encoded_length, next_at}
 use Rattle.lasso_encode.specs.Encoding.{spur_at, encoded_texts}
 use Rattle.lasso_columns.specs.Faults.{IsFaultOf, IsNextFault}
-use Rattle.lasso_cut.specs.Lines.{lines_of}
+use Rattle.lasso_input.specs.Lines.{lines_of}
 use Rattle.lasso_columns.specs.declared.faults.LineError.{LineError}
 
 -- the first `count` lines were cut off the bytes and encoded, and `rest` is left

@@ -8,4 +8,4 @@ pub mod Readings
 -- the lemmas about codes and about lines
 pub use Rattle.lasso_encode.proofs.Coded
 pub use Rattle.lasso_encode.proofs.Encoded
-pub use Rattle.lasso_cut.proofs.FirstLines
+pub use Rattle.lasso_input.proofs.FirstLines

@@ -7,4 +7,4 @@ pub mod Dictionaries
 -- the definitions of codes and of lines, so that a caller's crate names `lasso_columns` alone
 pub use Rattle.lasso_encode.specs.Codes
 pub use Rattle.lasso_encode.specs.Encoding
-pub use Rattle.lasso_cut.specs.Lines
+pub use Rattle.lasso_input.specs.Lines

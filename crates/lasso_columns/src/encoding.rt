@@ -6,11 +6,11 @@ ghost use Rattle.lasso_single.specs.Intern.{InternsIn};
 ghost use Rattle.lasso_encode.specs.Codes.{AddsCodes};
 ghost use Rattle.lasso_encode.specs.Encoding.{spur_at, encoded_texts};
 ghost use Rattle.lasso_columns.specs.Faults.{IsFaultOf, IsNextFault, LineMayLackMemory, NextLineMayLackMemory};
-ghost use Rattle.lasso_cut.specs.Lines.{lines_of};
+ghost use Rattle.lasso_input.specs.Lines.{lines_of};
 
 use crate::faults::LineError;
 use lasso::{Rodeo, Spur};
-use lasso_cut::first_line;
+use lasso_input::first_line;
 use lasso_encode::encode_text;
 use std::alloc::Allocator;
 use std::hash::BuildHasher;

@@ -8,8 +8,8 @@ use Rattle.memchr.specs.Find.{IsFirstByte, is_byte}
 use Rattle.lasso_lines.specs.Stretch.{LeadsTo, FailsWith}
 use Rattle.lasso_parts.specs.Held.{Held}
 use Rattle.lasso_parts.specs.declared.util.LassoErrorKind.TheVariants.{FailedAllocation}
-use Rattle.lasso_cut.specs.Lines.{lines_of, NoFeed}
-use Rattle.lasso_cut.proofs.FirstLines.{Cut, cut_at, no_feed_both, lines_cut}
+use Rattle.lasso_input.specs.Lines.{lines_of, NoFeed}
+use Rattle.lasso_input.proofs.FirstLines.{Cut, cut_at, no_feed_both, lines_cut}
 use Rattle.lasso_lines.specs.Report.{after_line, line_report, EndsFrom}
 use Rattle.lasso_lines.specs.Answer.{LineFails, no_memory}
 use Rattle.lasso_lines.specs.declared.fault.RunFault.{RunFault}

@@ -9,7 +9,7 @@ use Rattle.std.proofs.lemmas.Str.{IsUtf8-nil, IsUtf8-take, IsUtf8-drop, IsCharBo
 use Rattle.std.proofs.lemmas.Bool.Decides.{nat_tests}
 use Rattle.memchr.specs.Find.{IsFirstByte, is_byte}
 use Rattle.lasso_lines.proofs.Buffers.{take_drop}
-use Rattle.lasso_cut.proofs.FirstLines.{Cut, cut_at}
+use Rattle.lasso_input.proofs.FirstLines.{Cut, cut_at}
 
 -- a line feed in the first n bytes is ASCII
 byte_of_front : (bytes : List ℕ) (n at : ℕ) → at < n → at < length bytes → slice_index bytes at == 10 ≡ true → get_or (take n bytes) at 0 < 128

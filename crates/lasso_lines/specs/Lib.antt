@@ -4,7 +4,6 @@ pub mod Report
 pub mod Answer
 pub mod Arguments
 pub mod Stretch
-pub mod LineEnds
 pub mod Fronts
 pub mod Ordered
 pub mod Shares

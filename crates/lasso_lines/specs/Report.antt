@@ -11,7 +11,7 @@ use Rattle.lasso_parts.specs.Texts.{Text}
 use Rattle.lasso_parts.specs.declared.util.LassoError.{LassoError}
 use Rattle.lasso_parts.specs.declared.util.LassoErrorKind.TheVariants.{FailedAllocation}
 use Rattle.lasso_single.specs.Intern.{interned, interned_position}
-use Rattle.lasso_cut.specs.Lines.{lines_of}
+use Rattle.lasso_input.specs.Lines.{lines_of}
 use Rattle.lasso_encode.specs.Encoding.{spur_at}
 use Rattle.lasso_lines.specs.Stream.{Begins}
 use Rattle.lasso_lines.specs.declared.fault.RunFault.{RunFault}

@@ -2,7 +2,7 @@
 -- at once.
 use Rattle.std.specs.Prelude.{ℕ, List, ◌++◌, Result, Err}
 use Rattle.lasso_parts.specs.Held.{Held}
-use Rattle.lasso_cut.specs.Lines.{lines_of}
+use Rattle.lasso_input.specs.Lines.{lines_of}
 use Rattle.lasso_lines.specs.Report.{EndsFrom}
 use Rattle.lasso_lines.specs.declared.fault.RunFault.{RunFault}
 

@@ -10,7 +10,6 @@ use crate::stream::ByteWriter;
 use itoa::{Buffer, write_digits};
 use lasso_parts::keys::{Key, Spur};
 use lasso_parts::util::FixedState;
-use lasso_single::batch::{Batch, intern_next};
 use lasso_single::rodeo::Rodeo;
 use std::alloc::Global;
 use std::str::{Utf8Error, from_utf8, from_utf8_unchecked};
@@ -18,13 +17,12 @@ use std::str::{Utf8Error, from_utf8, from_utf8_unchecked};
 pub(crate) type LineRodeo = Rodeo<Spur, FixedState, Global>;
 
 // Interns the line and writes its answer: the position of its text, a space, the line and a line feed.
-// `is_text`: the caller has checked that `line` is UTF-8. It is the next text of `batch`. `number` is the
-// line's, for the fault. The interner's first bucket must have 4096 bytes.
+// `is_text`: the caller has checked that `line` is UTF-8. `number` is the line's, for the fault. The
+// interner's first bucket must have 4096 bytes.
 pub(crate) fn answer_line<O: ByteWriter>(
     rodeo: &mut LineRodeo,
     line: &[u8],
     is_text: bool,
-    batch: &mut Batch,
     number: u64,
     writer: &mut O,
 ) -> Result<(), RunFault>
@@ -40,7 +38,7 @@ pub(crate) fn answer_line<O: ByteWriter>(
     let Ok(text) = line_text(line, is_text) else {
         return Err(RunFault::NotText(number));
     };
-    match intern_next(rodeo, text, batch) {
+    match rodeo.try_get_or_intern(text) {
         Ok(key) => write_answer(writer, key.into_usize(), line),
         Err(error) => Err(RunFault::Refused(number, error)),
     }

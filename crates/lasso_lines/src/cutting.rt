@@ -1,6 +1,6 @@
 //! Reads a whole input, and cuts it into lines.
 ghost use Rattle.std.specs.Prelude.{◌≡◌, ◌+◌, ◌++◌, ◌∷◌, ◌⊎◌, ℕ, List, [], Some, OnOk, IfOk, IfErr, IsUtf8, map};
-ghost use Rattle.lasso_cut.specs.Lines.{lines_of};
+ghost use Rattle.lasso_input.specs.Lines.{lines_of};
 ghost use Rattle.lasso_lines.specs.Stream.{Stays, Ended};
 ghost use Rattle.lasso_lines.specs.Answer.{IsInputFault, IsCutFault, failed_reads};
 ghost use Rattle.lasso_lines.specs.LineFaults.{AreTexts, IsFaultOf};
@@ -10,7 +10,7 @@ ghost use Rattle.lasso_parts.specs.declared.util.LassoErrorKind.TheVariants.{Fai
 use crate::fault::RunFault;
 use crate::stream::ByteReader;
 use crate::stretches::{hold, next_number};
-use lasso_cut::{after_newline, find_newline};
+use lasso_input::{after_newline, find_newline};
 use std::str::from_utf8;
 use std::sync::Wait;
 

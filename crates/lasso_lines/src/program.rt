@@ -7,7 +7,7 @@ ghost use Rattle.lasso_lines.specs.Arguments.{settings_of};
 ghost use Rattle.lasso_lines.specs.LineFaults.{AreTexts, IsFaultOf};
 ghost use Rattle.lasso_lines.specs.Explained.{IsExplainedBy};
 ghost use Rattle.lasso_lines.specs.Ordered.{WritesOrdered, BeginsOrdered};
-ghost use Rattle.lasso_cut.specs.Lines.{lines_of};
+ghost use Rattle.lasso_input.specs.Lines.{lines_of};
 ghost use Rattle.lasso_lines.specs.declared.fault.RunFault.TheVariants.{Usage, WriteFailed};
 
 use crate::arguments::{Settings, arguments};

@@ -1,21 +1,18 @@
 //! Writes the answers to the lines of a stretch: the bytes in a reader's buffer at one time.
-ghost use Rattle.std.specs.Prelude.{◌≡◌, ℕ, ◌+◌, ◌-◌, ◌<◌, ◌≤◌, ◌++◌, [], OnOk, IfOk, IfErr, MatchResult, IsUtf8, drop, length, take};
+ghost use Rattle.std.specs.Prelude.{◌≡◌, ℕ, ◌+◌, ◌-◌, ◌<◌, ◌++◌, [], OnOk, IfOk, IfErr, MatchResult, IsUtf8, length, take};
 ghost use Rattle.lasso_lines.specs.Stream.{Grows, OnlyGrows, written};
 ghost use Rattle.lasso_lines.specs.Report.{holding, first_bytes};
 ghost use Rattle.lasso_lines.specs.Answer.{AnswersLine, IsAnswerFault, failed_writes};
-ghost use Rattle.lasso_cut.specs.Lines.{NoFeed};
-ghost use Rattle.lasso_lines.specs.LineEnds.{AreEnds};
+ghost use Rattle.lasso_input.specs.Lines.{NoFeed};
 ghost use Rattle.lasso_lines.specs.Stretch.{LeadsTo, FailsWith};
-ghost use Rattle.memchr.specs.Find.{IsFirstByte, is_byte};
 ghost use Rattle.lasso_lines.specs.declared.fault.RunFault.TheVariants.{Refused};
 ghost use Rattle.lasso_parts.specs.declared.util.LassoErrorKind.TheVariants.{FailedAllocation};
 
 use crate::answers::{LineRodeo, answer_line};
 use crate::fault::RunFault;
 use crate::stream::ByteWriter;
-use lasso_cut::{after_newline, find_newline};
-use lasso_single::batch::{Batch, TOGETHER, look_ahead};
-use std::str::{from_utf8, from_utf8_unchecked};
+use lasso_input::{after_newline, find_newline};
+use std::str::from_utf8;
 use std::sync::Wait;
 
 // Writes the answers to the lines that end in the buffer. The first one has the number `number` and begins
@@ -24,7 +21,6 @@ use std::sync::Wait;
 pub(crate) fn answer_stretch<R: Wait, O: ByteWriter>(
     rt: &R,
     rodeo: &mut LineRodeo,
-    batch: &mut Batch,
     begun: &mut Vec<u8>,
     buffer: &[u8],
     number: u64,
@@ -45,7 +41,7 @@ pub(crate) fn answer_stretch<R: Wait, O: ByteWriter>(
     ensures faults { IfErr result IsAnswerFault }
 {
     if begun.is_empty() {
-        let (next, last) = answer_lines(rt, rodeo, batch, buffer, number, writer)?;
+        let (next, last) = answer_lines(rt, rodeo, buffer, number, writer)?;
         hold(begun, last, next)?;
         return Ok(next);
     }
@@ -53,9 +49,9 @@ pub(crate) fn answer_stretch<R: Wait, O: ByteWriter>(
         hold(begun, buffer, number)?;
         return Ok(number);
     };
-    answer_held(rodeo, batch, begun, &buffer[..at], number, writer)?;
+    answer_held(rodeo, begun, &buffer[..at], number, writer)?;
     let second = next_number(rt, number);
-    let (next, last) = answer_lines(rt, rodeo, batch, after_newline(buffer, at), second, writer)?;
+    let (next, last) = answer_lines(rt, rodeo, after_newline(buffer, at), second, writer)?;
     hold(begun, last, next)?;
     Ok(next)
 }
@@ -65,7 +61,6 @@ pub(crate) fn answer_stretch<R: Wait, O: ByteWriter>(
 fn answer_lines<'a, R: Wait, O: ByteWriter>(
     rt: &R,
     rodeo: &mut LineRodeo,
-    batch: &mut Batch,
     stretch: &'a [u8],
     number: u64,
     writer: &mut O,
@@ -86,91 +81,14 @@ fn answer_lines<'a, R: Wait, O: ByteWriter>(
     let untested = untested_len(stretch);
     let mut number = number;
     let mut rest = stretch;
-    let mut ends = [0; TOGETHER];
-    let mut count = 0usize;
-    let mut left = 0usize;
-    while let Some(at) = next_end(rest, &ends, count, left) {
-        let ahead = look_ahead_if_due(rodeo, rest, untested, batch, &mut ends, (count, left));
+    while let Some(at) = find_newline(rest) {
         let line = &rest[..at];
         let is_text = untested < rest.len() - at;
-        answer_line(rodeo, line, is_text, batch, number, writer)?;
+        answer_line(rodeo, line, is_text, number, writer)?;
         number = next_number(rt, number);
         rest = after_newline(rest, at);
-        count = ahead.0;
-        left = ahead.1.saturating_sub(1);
     }
     Ok((number, rest))
-}
-
-// The place of the first line feed. `ends` has it if there are places left.
-#[inline(always)]
-fn next_end(bytes: &[u8], ends: &[usize; TOGETHER], count: usize, left: usize) -> Option<usize>
-    requires ends { AreEnds bytes.now (drop (count - left) (take count ends.now)) }
-    requires left { left ≤ count }
-    requires count { count ≤ 32 }
-    ensures { IsFirstByte (is_byte 10) bytes.now result }
-{
-    if left > 0 {
-        return Some(ends[count - left]);
-    }
-    find_newline(bytes)
-}
-
-// Looks ahead at the first lines that end in the bytes, if that is due and pays. Returns how many places
-// `ends` has, and how many of them are left, as it was given both.
-#[inline(always)]
-fn look_ahead_if_due(
-    rodeo: &LineRodeo,
-    bytes: &[u8],
-    untested: usize,
-    batch: &mut Batch,
-    ends: &mut [usize; TOGETHER],
-    ahead: (usize, usize),
-) -> (usize, usize)
-    requires text { IsUtf8 (take (length bytes.now - untested) bytes.now) }
-    requires ends { AreEnds bytes.now (drop (ahead.0 - ahead.1) (take ahead.0 ends.old)) }
-    requires left { ahead.1 ≤ ahead.0 }
-    requires count { ahead.0 ≤ 32 }
-    ensures ends { AreEnds bytes.now (drop (result.0 - result.1) (take result.0 ends.new)) }
-    ensures left { result.1 ≤ result.0 }
-    ensures count { result.0 ≤ 32 }
-{
-    if !batch.is_due() {
-        return ahead;
-    }
-    let count = look_ahead_at_lines(rodeo, bytes, untested, batch, ends);
-    (count, count)
-}
-
-// Looks ahead at the first lines that end in the bytes, as many as a batch has, up to the first that is not
-// known to be UTF-8: all bytes but the `untested` last ones are. Leaves in `ends` where they end, each
-// counted from the line's begin, and returns how many they are.
-#[inline(never)]
-fn look_ahead_at_lines(
-    rodeo: &LineRodeo,
-    bytes: &[u8],
-    untested: usize,
-    batch: &mut Batch,
-    ends: &mut [usize; TOGETHER],
-) -> usize
-    requires { IsUtf8 (take (length bytes.now - untested) bytes.now) }
-    ensures ends { AreEnds bytes.now (take result ends.new) }
-    ensures most { result ≤ 32 }
-{
-    let mut texts = [""; TOGETHER];
-    let mut count = 0usize;
-    let mut rest = bytes;
-    while let Some(at) = find_newline(rest) {
-        if count == TOGETHER || untested >= rest.len() - at {
-            break;
-        }
-        texts[count] = unsafe { from_utf8_unchecked(&rest[..at]) };
-        ends[count] = at;
-        count += 1;
-        rest = after_newline(rest, at);
-    }
-    look_ahead(rodeo, &texts[..count], batch);
-    count
 }
 
 // How many bytes at the end are not known to be UTF-8. All bytes before them are. Tests for ASCII first,
@@ -213,7 +131,6 @@ pub(crate) fn hold(begun: &mut Vec<u8>, bytes: &[u8], number: u64) -> Result<(),
 // Writes the answer to the line made of `begun` and `end`, and then empties `begun`.
 fn answer_held<O: ByteWriter>(
     rodeo: &mut LineRodeo,
-    batch: &mut Batch,
     begun: &mut Vec<u8>,
     end: &[u8],
     number: u64,
@@ -229,7 +146,7 @@ fn answer_held<O: ByteWriter>(
     ensures emptied { OnOk result (begun.new.items ≡ []) }
 {
     hold(begun, end, number)?;
-    answer_line(rodeo, begun, false, batch, number, writer)?;
+    answer_line(rodeo, begun, false, number, writer)?;
     begun.clear();
     Ok(())
 }

@@ -1,7 +1,7 @@
 //! A run in which several threads intern the lines, and which writes the distinct lines in order.
 ghost use Rattle.std.specs.Prelude.{◌≡◌, ℕ, ◌+◌, ◌<◌, List, [], Some, Err, OnOk, IfOk, IfErr};
 ghost use Rattle.lasso_encode.specs.Encoding.{spur_at};
-ghost use Rattle.lasso_cut.specs.Lines.{lines_of};
+ghost use Rattle.lasso_input.specs.Lines.{lines_of};
 ghost use Rattle.lasso_log.specs.History.{IsLegal};
 ghost use Rattle.lasso_log.specs.Views.{PassView, InternerId, IsSamePass, list_of, seen};
 ghost use Rattle.lasso_lines.specs.Stream.{Grows, OnlyGrows, Stays, Ended, written};

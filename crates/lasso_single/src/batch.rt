@@ -87,6 +87,12 @@ impl Batch {
         pays
     }
 
+    /// Passes over the next text, which is not looked up.
+    #[inline(always)]
+    pub fn skip(&mut self) {
+        self.taken = self.taken.wrapping_add(1);
+    }
+
     // The guess at the next text, or `None` if nothing is counted.
     #[inline(always)]
     fn next(&mut self) -> Option<usize> {

@@ -2,7 +2,7 @@ use Rattle.std.proofs.Common.{◌≡◌, ◌+◌, Bor, map, length, sym, subst, 
 use Rattle.std.proofs.lemmas.List.{length-map}
 use Rattle.lasso_parts.specs.Texts.{Text}
 use Rattle.lasso_encode.specs.Encoding.{IsRefused}
-use Rattle.lasso_cut.specs.Lines.{lines_of}
+use Rattle.lasso_input.specs.Lines.{lines_of}
 use Rattle.lasso_columns.specs.declared.faults.LineError.TheVariants.{NotText}
 use Rattle.lasso_counts.proofs.Added.{all_are}
 use Rattle.lasso_counts.proofs.Rest.{within}

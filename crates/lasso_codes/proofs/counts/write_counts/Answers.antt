@@ -3,7 +3,7 @@ use Rattle.std.specs.Prelude.{flat_map}
 use Rattle.std.proofs.lemmas.Grind.{common_steps}
 use Rattle.std.proofs.lemmas.Result.{err_from_is_err_and}
 use Rattle.lasso_single.specs.Interner.{made_with}
-use Rattle.lasso_cut.specs.Lines.{lines_of}
+use Rattle.lasso_input.specs.Lines.{lines_of}
 use Rattle.lasso_counts.specs.Counts.{AreCounts, pair_of}
 use Rattle.lasso_codes.specs.Counts.{CountsEnd, count_line}
 use Rattle.lasso_codes.specs.Streams.{WritesAll}

@@ -2,7 +2,7 @@ use Rattle.std.proofs.Common.{◌≡◌, ◌+◌, ◌-◌, ◌<◌, ◌++◌, Ok
 use Rattle.std.proofs.lemmas.Grind.{common_steps}
 use Rattle.std.proofs.lemmas.Bool.Decides.{nat_tests}
 use Rattle.std.proofs.lemmas.Result.{err_from_is_err_and}
-use Rattle.lasso_cut.proofs.FirstLines.{rest_behind}
+use Rattle.lasso_input.proofs.FirstLines.{rest_behind}
 use Rattle.lasso_codes.specs.Distinct.{DistinctEnd, PassesLine, PassError}
 use Rattle.lasso_codes.specs.Stages.{OnTheWay}
 use Rattle.lasso_codes.specs.declared.error.RunError.TheVariants.{TooManyLines}

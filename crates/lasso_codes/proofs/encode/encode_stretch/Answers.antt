@@ -2,7 +2,7 @@ use Rattle.std.proofs.Common.{◌≡◌, ◌+◌, ◌-◌, ◌<◌, ◌++◌, le
 use Rattle.std.proofs.lemmas.Grind.{common_steps}
 use Rattle.std.proofs.lemmas.Bool.Decides.{nat_tests}
 use Rattle.lasso_single.specs.Interner.{made_with}
-use Rattle.lasso_cut.proofs.FirstLines.{rest_behind}
+use Rattle.lasso_input.proofs.FirstLines.{rest_behind}
 use Rattle.lasso_codes.specs.Arguments.{word_of}
 use Rattle.lasso_codes.proofs.EncodedLines.{encoding_push, encoding_many, encoding_line_fails}
 use Rattle.lasso_codes.proofs.Stretches.{next_cut, next_inside, next_tested, others_tested}

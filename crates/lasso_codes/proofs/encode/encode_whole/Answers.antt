@@ -7,7 +7,7 @@ use Rattle.lasso_single.specs.Filling.{extend}
 use Rattle.lasso_single.proofs.Filled.{accepted}
 use Rattle.lasso_encode.specs.Codes.{AddsCodes}
 use Rattle.lasso_encode.specs.Encoding.{spur_at, encoded_texts, IsRefused}
-use Rattle.lasso_cut.specs.Lines.{lines_of}
+use Rattle.lasso_input.specs.Lines.{lines_of}
 use Rattle.lasso_columns.specs.declared.faults.LineError.TheVariants.{NotText, Refused}
 use Rattle.lasso_codes.specs.Arguments.{word_of}
 use Rattle.lasso_codes.specs.Columns.{texts_of}

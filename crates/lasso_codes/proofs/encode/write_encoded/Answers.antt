@@ -1,7 +1,7 @@
 use Rattle.std.proofs.Common.{ℕ, ◌^◌, ◌<◌, ◌∙◌, List, length, ap, sym, subst, arith}
 use Rattle.std.proofs.lemmas.Result.{err_from_is_err_and}
 use Rattle.lasso_single.specs.Interner.{made_with}
-use Rattle.lasso_cut.specs.Lines.{lines_of}
+use Rattle.lasso_input.specs.Lines.{lines_of}
 use Rattle.lasso_codes.specs.Arguments.{word_of}
 use Rattle.lasso_codes.specs.Encode.{AreNumbered, EncodeEnd}
 use Rattle.lasso_codes.proofs.Failing.{written_no_read}

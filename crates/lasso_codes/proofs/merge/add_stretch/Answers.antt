@@ -1,6 +1,6 @@
 use Rattle.std.proofs.Common.{◌≡◌, ◌+◌, ◌-◌, ◌++◌, length, take, drop, ap, subst, refl, arith, length-drop}
 use Rattle.std.proofs.lemmas.Result.{err_from_is_err_and}
-use Rattle.lasso_cut.proofs.FirstLines.{rest_behind}
+use Rattle.lasso_input.proofs.FirstLines.{rest_behind}
 use Rattle.lasso_codes.specs.Merge.{recoded}
 use Rattle.lasso_codes.specs.Stages.{EntriesAhead}
 use Rattle.lasso_codes.specs.Reading.{items_from}

@@ -10,16 +10,16 @@ returns-in_default-clause-answers g c =
     let before = holding c.args.rodeo.now.texts c.args.rodeo.now.account in
     nothing_more _ _ (faulty _ (not_text before c.args.number c.args.line.now c.in_default.ensures.cases) refl)
 
-pub returns-in-Ok-intern_next-clause-answers :
-    goal.returns-in-Ok-intern_next-clause-answers
-returns-in-Ok-intern_next-clause-answers g c =
+pub returns-in-Ok-try_get_or_intern-clause-answers :
+    goal.returns-in-Ok-try_get_or_intern-clause-answers
+returns-in-Ok-try_get_or_intern-clause-answers g c =
     let before = holding c.args.rodeo.now.texts c.args.rodeo.now.account in
-    let after = holding c.intern_next.new.rodeo.texts c.intern_next.new.rodeo.account in
-    grows_as _ _ _ _ c.write_answer.ensures.bytes (answered_line c.args.rodeo.now.first before after c.args.number c.args.line.now c.in-Ok.text.now c.into_usize.result c.in-Ok-intern_next.key c.write_answer.result c.requires.first c.in-Ok.ensures.cases c.in-Ok-intern_next.ensures.0 c.into_usize.ensures)
+    let after = holding c.try_get_or_intern.new.self.texts c.try_get_or_intern.new.self.account in
+    grows_as _ _ _ _ c.write_answer.ensures.bytes (answered_line c.args.rodeo.now.first before after c.args.number c.args.line.now c.in-Ok.text.now c.into_usize.result c.in-Ok-try_get_or_intern.key c.write_answer.result c.requires.first c.in-Ok.ensures.cases c.in-Ok-try_get_or_intern.ensures.0 c.into_usize.ensures)
 
-pub returns-in-Ok-intern_next-clause-faults :
-    goal.returns-in-Ok-intern_next-clause-faults
-returns-in-Ok-intern_next-clause-faults g c = write_fault _ c.write_answer.ensures.faults
+pub returns-in-Ok-try_get_or_intern-clause-faults :
+    goal.returns-in-Ok-try_get_or_intern-clause-faults
+returns-in-Ok-try_get_or_intern-clause-faults g c = write_fault _ c.write_answer.ensures.faults
 
 pub returns-in-Err-clause-answers : goal.returns-in-Err-clause-answers
 returns-in-Err-clause-answers g c =

@@ -3,8 +3,8 @@ use Rattle.std.proofs.lemmas.Grind.{common_steps}
 use Rattle.std.proofs.lemmas.List.{length-map}
 use Rattle.std.proofs.lemmas.Result.{err_from_is_err_and}
 use Rattle.lasso_parts.specs.Texts.{Text}
-use Rattle.lasso_cut.specs.Lines.{lines_of}
-use Rattle.lasso_cut.proofs.FirstLines.{lines_first, lines_last}
+use Rattle.lasso_input.specs.Lines.{lines_of}
+use Rattle.lasso_input.proofs.FirstLines.{lines_first, lines_last}
 use Rattle.lasso_lines.specs.LineFaults.{first_not_text}
 use Rattle.lasso_lines.proofs.FirstFaults.{after_text, fault_here}
 use Rattle.lasso_lines.proofs.cutting.cut.Goals as goal

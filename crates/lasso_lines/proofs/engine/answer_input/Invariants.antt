@@ -1,7 +1,7 @@
 use Rattle.std.proofs.Common.{◌≡◌, ◌<◌, ℕ, List, Some}
 use Rattle.lasso_lines.specs.Stream.{Grows, OnlyGrows, written}
 use Rattle.lasso_lines.specs.Report.{holding, first_bytes}
-use Rattle.lasso_cut.specs.Lines.{NoFeed}
+use Rattle.lasso_input.specs.Lines.{NoFeed}
 use Rattle.lasso_lines.proofs.Ways.{OnTheWay}
 use Rattle.lasso_lines.proofs.engine.answer_input.Given as goal
 

@@ -1,4 +1,4 @@
-use Rattle.std.proofs.Common.{ℕ, List, ◌≡◌, ◌+◌, ◌-◌, ◌<◌, [], ◌++◌, length, take, drop, refl, sym, subst, arith}
+use Rattle.std.proofs.Common.{◌≡◌, ◌+◌, ◌-◌, ◌<◌, [], ◌++◌, length, take, drop, refl, sym, subst, arith}
 use Rattle.std.proofs.lemmas.Result.{err_from_is_err_and}
 use Rattle.std.proofs.lemmas.Grind.{common_steps}
 use Rattle.std.proofs.lemmas.Bool.Decides.{nat_tests}
@@ -7,10 +7,8 @@ use Rattle.lasso_lines.specs.Report.{holding}
 use Rattle.lasso_lines.specs.Stretch.{LeadsTo}
 use Rattle.lasso_lines.proofs.FailedCalls.{then_failed, none_failed}
 use Rattle.lasso_lines.proofs.Known.{grows_then, only_grows_then}
-use Rattle.lasso_cut.proofs.FirstLines.{none_no_feed}
+use Rattle.lasso_input.proofs.FirstLines.{none_no_feed}
 use Rattle.lasso_lines.proofs.Cuts.{leads_line, leads_then, fails_line, fails_then}
-use Rattle.lasso_lines.specs.LineEnds.{AreEnds}
-use Rattle.lasso_lines.proofs.LineEnds.{left_of, ends_pass}
 use Rattle.lasso_lines.proofs.Tested.{line_is_tested, behind_is_tested}
 use Rattle.lasso_lines.proofs.stretches.answer_lines.Goals as goal
 
@@ -49,12 +47,6 @@ loop-at-preserved g c =
       failures = omega (arith, c.in_ok-answer_line.ensures.failures, c.loop-at.invariant.failures);
       delivered = only_grows_then _ _ _ c.loop-at.invariant.delivered c.answer_line.ensures.delivered;
       text = subst (λ bs. IsUtf8 (take (length bs - untested) bs)) (sym same) (behind_is_tested rest at untested c.loop-at.invariant.text c.in-Some.ensures);
-      count = c.look_ahead_if_due-ahead.ensures.count;
-      left = omega (arith, c.look_ahead_if_due-ahead.ensures.left, c.saturating_sub-left.ensures);
-      ends =
-          let ahead = c.look_ahead_if_due-ahead in
-          let passed = ends_pass rest ahead.new.ends ahead.result.0 ahead.result.1 at ahead.ensures.left (omega (arith, ahead.ensures.count)) ahead.ensures.ends c.in-Some.ensures in
-          subst (λ (bs : List ℕ). AreEnds bs (left_of ahead.new.ends ahead.result.0 c.saturating_sub-left.result)) (sym same) (rw c.saturating_sub-left.ensures passed);
       answers = grows_then _ _ _ _ _ _ c.loop-at.invariant.answers c.in_ok-answer_line.ensures.answers (λ part reply leads good.
           subst (λ n. LeadsTo before c.args.number c.args.stretch.now after n behind (part ++ reply)) (sym c.next_number-number.ensures)
           (leads_then before mid after c.args.number c.loop-at.number (c.loop-at.number + 1) c.args.stretch.now rest behind part reply leads

@@ -5,8 +5,8 @@ use Rattle.lasso_lines.specs.Report.{holding}
 use Rattle.lasso_lines.specs.Stretch.{LeadsTo, FailsWith}
 use Rattle.lasso_lines.proofs.FailedCalls.{then_failed, none_failed}
 use Rattle.lasso_lines.proofs.Known.{nothing_more, grows_as, grows_then, only_grows_then}
-use Rattle.lasso_cut.specs.Lines.{NoFeed}
-use Rattle.lasso_cut.proofs.FirstLines.{none_no_feed}
+use Rattle.lasso_input.specs.Lines.{NoFeed}
+use Rattle.lasso_input.proofs.FirstLines.{none_no_feed}
 use Rattle.lasso_lines.proofs.Cuts.{held_no_feed, leads_line, leads_held, leads_then, fails_line, fails_held, fails_then}
 use Rattle.lasso_lines.proofs.stretches.answer_stretch.Goals as goal
 

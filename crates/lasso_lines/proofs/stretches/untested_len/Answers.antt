@@ -1,7 +1,7 @@
 use Rattle.std.proofs.Common.{◌≡◌, ◌-◌, length, take, subst, sym, arith}
 use Rattle.std.specs.Str.{IsUtf8}
 use Rattle.std.proofs.lemmas.Str.{IsUtf8-from_ascii}
-use Rattle.lasso_cut.proofs.FirstLines.{take_all}
+use Rattle.lasso_input.proofs.FirstLines.{take_all}
 use Rattle.lasso_lines.proofs.stretches.untested_len.Goals as goal
 
 pub returns-then-is_ascii : goal.returns-then-is_ascii

@@ -2,7 +2,7 @@ use Rattle.std.proofs.Common.{◌∙◌, List, Bor, map, ap, subst}
 use Rattle.std.specs.Prelude.{IfErr, IfOk}
 use Rattle.std.proofs.lemmas.Result.{err_from_is_err_and}
 use Rattle.lasso_parts.specs.Texts.{Text}
-use Rattle.lasso_cut.specs.Lines.{lines_of}
+use Rattle.lasso_input.specs.Lines.{lines_of}
 use Rattle.lasso_log.specs.Views.{list_of, seen}
 use Rattle.lasso_lines.specs.Shares.{AreCodesOf, IsRefusalOf}
 use Rattle.lasso_lines.proofs.Explaining.{cut_explained, share_explained}

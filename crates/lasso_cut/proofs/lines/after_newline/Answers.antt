@@ -1,6 +1,0 @@
-use Rattle.std.proofs.Common.{◌+◌}
-use Rattle.lasso_cut.proofs.FirstLines.{rest_behind}
-use Rattle.lasso_cut.proofs.lines.after_newline.Goals as goal
-
-pub returns-clause-value : goal.returns-clause-value
-returns-clause-value c = rest_behind (c.args.at + 1) c.args.bytes.now

@@ -1,0 +1,4 @@
+pub mod Feeds
+pub mod FirstLines
+pub mod Tested
+pub mod Remaining

@@ -1,0 +1,16 @@
+//! The lines of an input. Each line feed ends a line and is no part of it, and bytes after the last one are a
+//! line too.
+//!
+//! A `Stretch` is what of the input is in memory at one time. It gives one `Line` after another, and looks ahead
+//! at them for the interner that they go into. `find_newline`, `after_newline` and `first_line` cut bytes by hand.
+#![tactic(auto)]
+
+mod line;
+mod newlines;
+mod stretch;
+#[cfg(test)]
+mod tests;
+
+pub use line::Line;
+pub use newlines::{after_newline, find_newline, first_line};
+pub use stretch::Stretch;

@@ -1,0 +1,150 @@
+//! The lines of a stretch of the input: bytes that are in memory at one time.
+//!
+//! A stretch is tested for UTF-8 once, for all its lines. A line feed is ASCII, so a line that ends in the
+//! tested bytes is UTF-8, and so are the tested bytes after it.
+ghost use Rattle.std.specs.Prelude.{◌≡◌, ◌-◌, ◌<◌, ◌++◌, ◌∷◌, [], MatchOption, IfSome, IsUtf8, length, take};
+ghost use Rattle.lasso_input.specs.Lines.{NoFeed, lines_of};
+
+use crate::line::Line;
+use crate::newlines::{after_newline, find_newline};
+use lasso_parts::keys::Key;
+use lasso_single::batch::{Batch, TOGETHER, look_ahead};
+use lasso_single::rodeo::Rodeo;
+use std::alloc::Allocator;
+use std::hash::BuildHasher;
+use std::marker::Model;
+use std::str::from_utf8;
+
+/// The bytes of a stretch that are left, from the begin of a line on. Contracts see these bytes.
+#[derive(Drop)]
+pub struct Stretch<'a> {
+    rest: &'a [u8],
+    // how many bytes at the end are not known to be UTF-8
+    untested: usize,
+}
+
+impl<'a> Model for Stretch<'a> {
+    ghost use Rattle.std.specs.Prelude.{ℕ, ◌-◌, List, IsUtf8, length, take};
+
+    ghost Value = { List ℕ };
+
+    ghost view = { λ s. s.rest.now };
+
+    ghost invariant = { λ s. IsUtf8 (take (length s.rest.now - s.untested) s.rest.now) };
+}
+
+impl<'a> Stretch<'a> {
+    /// All bytes, of which none is taken yet.
+    #[inline]
+    pub fn new(bytes: &'a [u8]) -> Self
+        ensures { result ≡ bytes.now }
+    {
+        Stretch {
+            rest: bytes,
+            untested: untested_len(bytes),
+        }
+    }
+
+    /// The bytes that are left.
+    #[inline(always)]
+    pub fn rest(&self) -> &'a [u8]
+        ensures { result.now ≡ self.now }
+    {
+        self.rest
+    }
+
+    /// Takes the next line that a line feed ends, with the line feed. `None` if no line feed is left: nothing
+    /// is taken.
+    #[inline(always)]
+    pub fn next_ended(&mut self) -> Option<Line<'a>>
+        ensures line { MatchOption result (NoFeed self.old × (self.new ≡ self.old)) (λ line. NoFeed line × (self.old ≡ line ++ 10 ∷ self.new)) }
+        ensures less { IfSome result (λ _. length self.new < length self.old) }
+    {
+        let rest = self.rest;
+        let untested = self.untested;
+        let Some(at) = find_newline(rest) else {
+            return None;
+        };
+        self.rest = after_newline(rest, at);
+        Some(Line::tested(&rest[..at], untested < rest.len() - at))
+    }
+
+    /// Takes the next line. Bytes after the last line feed are a line too. `None` if no byte is left.
+    #[inline(always)]
+    pub fn next_line(&mut self) -> Option<Line<'a>>
+        ensures lines { MatchOption result (self.old ≡ []) (λ line. lines_of self.old ≡ line ∷ lines_of self.new) }
+        ensures less { IfSome result (λ _. length self.new < length self.old) }
+    {
+        if let Some(line) = self.next_ended() {
+            return Some(line);
+        }
+        let last = self.rest;
+        if last.is_empty() {
+            return None;
+        }
+        self.rest = &[];
+        Some(Line::tested(last, self.untested == 0))
+    }
+
+    /// Looks ahead at the next lines, if that is due and pays: up to the first that is not known to be UTF-8.
+    /// The caller then interns or looks for them with `batch`, line by line.
+    #[inline(always)]
+    pub fn look_ahead<K: Key, S: BuildHasher, A: Allocator>(
+        &self,
+        rodeo: &Rodeo<K, S, A>,
+        batch: &mut Batch,
+    ) {
+        if batch.is_due() {
+            look_ahead_at(self.copy(), rodeo, batch);
+        }
+    }
+
+    // The same bytes once more.
+    #[inline(always)]
+    fn copy(&self) -> Stretch<'a>
+        ensures { result ≡ self.now }
+    {
+        Stretch {
+            rest: self.rest,
+            untested: self.untested,
+        }
+    }
+}
+
+// Looks ahead at the first lines that a line feed ends. By value, so that the caller's stretch may stay in
+// registers.
+#[inline(never)]
+fn look_ahead_at<K: Key, S: BuildHasher, A: Allocator>(
+    lines: Stretch<'_>,
+    rodeo: &Rodeo<K, S, A>,
+    batch: &mut Batch,
+) {
+    let mut lines = lines;
+    let mut texts = [""; TOGETHER];
+    let mut count = 0;
+    while count < TOGETHER {
+        let Some(line) = lines.next_ended() else {
+            break;
+        };
+        let Ok(text) = line.text() else {
+            break;
+        };
+        texts[count] = text;
+        count += 1;
+    }
+    look_ahead(rodeo, &texts[..count], batch);
+}
+
+// How many bytes at the end are not known to be UTF-8. The bytes before them are. Tests for ASCII first, which
+// is faster.
+fn untested_len(bytes: &[u8]) -> usize
+    ensures { IsUtf8 (take (length bytes.now - result) bytes.now) }
+{
+    if bytes.is_ascii() {
+        return 0;
+    }
+    match from_utf8(bytes) {
+        Ok(_) => 0,
+        Err(error) => bytes.len() - error.valid_up_to(),
+    }
+}
