@@ -6,6 +6,8 @@ pub mod bucket_list;
 pub mod cells_ahead;
 mod charges;
 mod charging;
+mod hinting;
+mod hints;
 pub mod kept_slot;
 mod limits;
 mod look;

@@ -5,6 +5,7 @@ ghost use Rattle.lasso_log.specs.History.{IsLegal, IsOpening};
 ghost use Rattle.lasso_log.specs.Notes.{Since, opening_of, notes_of, IsOpened};
 ghost use Rattle.lasso_log.specs.Views.{PassView, interner_id, seen, IsSamePass};
 
+use crate::log::hints::Hints;
 use crate::log::look::look;
 use crate::log::note::Note;
 use crate::log::rule::LogRule;
@@ -23,6 +24,7 @@ pub struct Pass<K: Key> {
     // The word of a ticket that it used, if it used one. No other thread exchanges it.
     pub(super) used: Option<Word<Note, u64, LogRule<K>>>,
     pub(super) number: Tag,
+    pub(super) hints: Hints<K>,
 }
 
 impl<K: Key> Model for Pass<K> {
@@ -39,7 +41,7 @@ impl<K: Key> Model for Pass<K> {
 
     ghost view = { λ p. record { number = first_number p.number.numbers; of = interner_id p.seen.book p.seen.names (opening_of p.seen.log); notes = notes_of p.seen.log } };
 
-    ghost invariant = { λ p. IsTicket p.seen.book p.ticket.word p.ticket.pen × IfSome p.used (IsUsedWord p.seen.book (notes_of p.seen.log)) × (p.ticket.pen.nib.key ≡ ticket_of (first_number p.number.numbers) (notes_of p.seen.log)) × IsOpened p.seen.log × IsLegal K.key_at (opening_of p.seen.log) (history (notes_of p.seen.log)) × IsOpening K.key_at (opening_of p.seen.log) };
+    ghost invariant = { λ p. IsTicket p.seen.book p.ticket.word p.ticket.pen × IfSome p.used (IsUsedWord p.seen.book (notes_of p.seen.log)) × (p.ticket.pen.nib.key ≡ ticket_of (first_number p.number.numbers) (notes_of p.seen.log)) × IsOpened p.seen.log × IsLegal K.key_at (opening_of p.seen.log) (history (notes_of p.seen.log)) × IsOpening K.key_at (opening_of p.seen.log) × (p.hints.of ≡ interner_id p.seen.book p.seen.names (opening_of p.seen.log)) };
 }
 
 // One call, so that proofs of callers see nothing of the fields where a pass is let go.
@@ -50,6 +52,7 @@ impl<K: Key> Drop for Pass<K> {
             ticket: _,
             used: _,
             number: _,
+            hints: _,
         } = self;
     }
 }

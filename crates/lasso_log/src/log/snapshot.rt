@@ -43,6 +43,15 @@ impl<K: Key> Snapshot<K> {
         both.learn(&self.seen);
     }
 
+    // The same history.
+    pub(super) fn again(&self) -> Snapshot<K>
+        ensures { result ≡ self.now }
+    {
+        Snapshot {
+            seen: self.copy_seen(),
+        }
+    }
+
     // The log that it has seen.
     pub(super) fn copy_seen(&self) -> Seen<Note, u64, LogRule<K>>
         ensures of { (result.book ≡ self.now.of.book) × (result.names ≡ self.now.of.chunks) × (opening_of result.log ≡ self.now.of.opening) }

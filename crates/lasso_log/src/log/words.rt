@@ -13,6 +13,7 @@ ghost use Rattle.lasso_log.specs.Views.{InternerId, SnapshotView, IsSamePass};
 ghost use Rattle.lasso_log.specs.Events.{event_of, IsQuiet};
 
 use crate::chunks::rule::NoGain;
+use crate::log::hints::Hints;
 use crate::log::look::look;
 use crate::log::memory::TextMemory;
 use crate::log::note::{Change, Note};
@@ -110,6 +111,7 @@ impl<K: Key> Log<K> {
             ticket,
             used: None,
             number,
+            hints: Hints::none(self.snapshot()),
         }
     }
 

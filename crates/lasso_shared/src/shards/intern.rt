@@ -66,6 +66,7 @@ impl<K: Key, S: BuildHasher + Drop> Shards<K, S> {
         let (guard, mut shard) = self.lock(number_of(hash)).write(rt);
         let reply = self.intern_held(rt, &mut shard.shard, pass, hash, text);
         guard.unlock(rt, shard);
+        pass.saw(&reply);
         reply
     }
 

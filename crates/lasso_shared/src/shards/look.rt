@@ -109,10 +109,58 @@ impl<K: Key, S: BuildHasher + Drop> Shards<K, S> {
         ensures since { Since pass.old.number pass.old.notes pass.new.notes [] }
         ensures found { IfSome result (λ k. key_of K.key_at (list_of self.now.log pass.new.notes) text.now ≡ Some k) }
     {
+        if let Some(key) = self.follow(pass, hash, text) {
+            return Some(key);
+        }
+        pass.count_look(self.alloc);
+        if pass.expects_new() {
+            return None;
+        }
         let guard = self.lock(number_of(hash)).read(rt);
-        let found = self.find(&guard.get().shard, pass, hash, text);
+        let found = self.find_and_hint(&guard.get().shard, pass, hash, text);
         guard.unlock();
         found
+    }
+
+    // The key of the text, where a hint of the pass tells its position. It takes no lock.
+    #[inline(always)]
+    fn follow(&self, pass: &mut Pass<K>, hash: u64, text: &str) -> Option<K>
+        requires { pass.old.of ≡ self.now.log }
+        ensures same { IsSamePass pass.new pass.old }
+        ensures since { Since pass.old.number pass.old.notes pass.new.notes [] }
+        ensures found { IfSome result (λ k. key_of K.key_at (list_of self.now.log pass.new.notes) text.now ≡ Some k) }
+    {
+        let position = self.log.hinted(pass, hash, text)?;
+        pass.prove_legal();
+        let known = pass.snapshot();
+        Some(key_at(&known, position as usize))
+    }
+
+    // `find`, after which a hint of the pass tells where a text lies that is there.
+    #[inline(always)]
+    fn find_and_hint(
+        &self,
+        shard: &Shard<K, S>,
+        pass: &mut Pass<K>,
+        hash: u64,
+        text: &str,
+    ) -> Option<K>
+        requires of { pass.old.of ≡ self.now.log }
+        requires hashed { hash ≡ text_hash S.build_hasher S.Hasher.write S.Hasher.finish self.now.hasher text.now }
+        requires held { IsShard (text_hash S.build_hasher S.Hasher.write S.Hasher.finish self.now.hasher) (shard_of hash) self.now.log shard.now.known shard.now.index shard.now.count }
+        ensures same { IsSamePass pass.new pass.old }
+        ensures since { Since pass.old.number pass.old.notes pass.new.notes [] }
+        ensures found { IfSome result (λ k. key_of K.key_at (list_of self.now.log pass.new.notes) text.now ≡ Some k) }
+    {
+        pass.learn(&shard.known);
+        let known = pass.snapshot();
+        match self.find_position(shard, &known, hash, text) {
+            Some(position) => {
+                pass.hint(hash, position as u64);
+                Some(key_at(&known, position))
+            }
+            None => None,
+        }
     }
 
     // The key of the text, where the shard's index has it, without a pass. Other readers may look up at the
@@ -180,6 +228,9 @@ impl<K: Key, S: BuildHasher + Drop> Shards<K, S> {
         ensures call { IsCall K.key_at self.now.log.opening (seen pass.old) (seen pass.new) pass.old.number (Get text.now) (Found result) }
     {
         let hash = hash_text(&self.hasher, text);
+        if let Some(key) = self.follow(pass, hash, text) {
+            return Some(key);
+        }
         let guard = self.lock(number_of(hash)).read(rt);
         let found = self.look_up(rt, &guard.get().shard, pass, hash, text);
         guard.unlock();

@@ -24,7 +24,7 @@ invariant_of-self g c =
     let e = c.learn.ensures in
     let t = tails c.self.inside.seen.log c.learn.new.self.log i.3 e.2 in
     let legal = legal_opened g.K.Key.key_at c.self.inside.seen.log c.learn.new.self.log i.3 e.2 e.4 in
-    rw (e.0, c.look.ensures.2, c.look.ensures.3) (i.0, used_word_later c.self.inside.seen.book (notes_of c.self.inside.seen.log) (notes_of c.learn.new.self.log) c.self.inside.used t.2 i.1, i.2 ∙ sym (facts g c).1, t.0, rw (← t.1) legal, rw (← t.1) i.5)
+    rw (e.0, c.look.ensures.2, c.look.ensures.3) (i.0, used_word_later c.self.inside.seen.book (notes_of c.self.inside.seen.log) (notes_of c.learn.new.self.log) c.self.inside.used t.2 i.1, i.2 ∙ sym (facts g c).1, t.0, rw (← t.1) legal, rw (← t.1) i.5, rw (e.1, ← t.1) i.6)
 
 pub returns-clause-since : goal.returns-clause-since
 returns-clause-since g c = rw (← c.self.view_is) (facts g c).0

@@ -61,6 +61,7 @@ invariant_of-pass g c =
     let before : c.again-before.result.log ≡ a = ap (λ s. s.log) c.again-before.ensures in
     let book : c.offer-after.result.book ≡ c.args.self.now.book = same.0 ∙ (c.learn-2.ensures.0 ∙ (c.learn.ensures.0 ∙ (ap (λ y. y.book) c.again-seen.ensures ∙ ap (λ y. y.book) c.self.view_is))) in
     let mine : c.pass.inside.seen.book ≡ c.offer-after.result.book = ap (λ s. s.of.book) c.pass.view_is ∙ (ap (λ x. x.book) c.requires.of.0 ∙ sym book) in
+    let names : c.offer-after.result.names ≡ c.pass.inside.seen.names = same.1 ∙ (c.learn-2.ensures.1 ∙ (c.learn.ensures.1 ∙ (ap (λ y. y.names) c.again-seen.ensures ∙ ap (λ y. y.chunks) c.self.view_is))) ∙ sym (ap (λ s. s.of.chunks) c.pass.view_is ∙ ap (λ x. x.chunks) c.requires.of.0) in
     let by : e.by ≡ first_number c.pass.inside.number.numbers = ap (λ (w : NoteView). w.by) offer.1 in
     let past = tails a after i.3 (prefix_trans a v after c.learn-2.ensures.3 same.2) in
     let used = used_word_later c.pass.inside.seen.book (notes_of a) (notes_of after) c.pass.inside.used past.2 i.1 in (
@@ -70,6 +71,7 @@ invariant_of-pass g c =
       fact.opened,
       rw fact.opening fact.legal,
       rw (← past.1) i.5,
+      rw (← mine, names, ← past.1) i.6,
     )
 
 pub invariant_of-result : goal.invariant_of-result

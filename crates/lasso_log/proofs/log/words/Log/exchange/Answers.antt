@@ -69,6 +69,7 @@ invariant_of-pass-2 g c =
     let by : e.by ≡ first_number c.pass.inside.number.numbers = ap (λ (w : NoteView). w.by) offer.1 in
     let self : book ≡ c.args.self.now.book = c.compare_exchange-found.ensures.0 ∙ (c.learn-2.ensures.0 ∙ (c.learn.ensures.0 ∙ (ap (λ s. s.book) c.again-seen.ensures ∙ ap (λ o. o.book) c.self.view_is))) in
     let mine : book ≡ c.pass.inside.seen.book = self ∙ sym (ap (λ s. s.of.book) c.pass.view_is ∙ ap (λ o. o.book) c.requires.of.0) in
+    let names : c.compare_exchange-found.new.seen.names ≡ c.pass.inside.seen.names = c.compare_exchange-found.ensures.1 ∙ (c.learn-2.ensures.1 ∙ (c.learn.ensures.1 ∙ (ap (λ s. s.names) c.again-seen.ensures ∙ ap (λ o. o.chunks) c.self.view_is))) ∙ sym (ap (λ s. s.of.chunks) c.pass.view_is ∙ ap (λ o. o.chunks) c.requires.of.0) in
     let word : c.use_up.result ≡ word_of c.pass.inside.seen.book c.pass.inside.ticket.pen.nib.key = used.word ∙ i.0.0 in
     let own : key ≡ c.pass.inside.ticket.pen.nib.key = ap (λ w. w.key) word in
     let ticket : f.done.note.ticket ≡ key = f.done.ticket ∙ (ap (λ (w : NoteView). w.ticket) offer.1 ∙ sym own) in (
@@ -78,6 +79,7 @@ invariant_of-pass-2 g c =
       f.opened,
       rw f.opening f.legal,
       rw f.opening i.5,
+      rw (mine, names, f.opening) i.6,
     )
 
 pub returns-clause-done : goal.returns-clause-done

@@ -30,7 +30,7 @@ invariant_of-pass g c =
     let e = c.load_seen-found.ensures in
     let t = tails c.pass.inside.seen.log c.load_seen-found.new.seen.log i.3 e.2 in
     let legal = legal_opened g.K.Key.key_at c.pass.inside.seen.log c.load_seen-found.new.seen.log i.3 e.2 (e.3.0, e.3.1) in
-    rw (e.0, c.look.ensures.2, c.look.ensures.3) (i.0, used_word_later c.pass.inside.seen.book (notes_of c.pass.inside.seen.log) (notes_of c.load_seen-found.new.seen.log) c.pass.inside.used t.2 i.1, i.2 ∙ sym (facts g c).1, t.0, rw (← t.1) legal, rw (← t.1) i.5)
+    rw (e.0, c.look.ensures.2, c.look.ensures.3) (i.0, used_word_later c.pass.inside.seen.book (notes_of c.pass.inside.seen.log) (notes_of c.load_seen-found.new.seen.log) c.pass.inside.used t.2 i.1, i.2 ∙ sym (facts g c).1, t.0, rw (← t.1) legal, rw (← t.1) i.5, rw (e.1, ← t.1) i.6)
 
 pub returns-clause-since : goal.returns-clause-since
 returns-clause-since g c = rw (← c.pass.view_is) (facts g c).0
