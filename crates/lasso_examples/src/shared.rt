@@ -1,10 +1,14 @@
 //! The examples in the documents of the interner that threads share, in tests. That of its maker with limits
 //! is a script of `lasso_replay`.
+ghost use Rattle.std.specs.Prelude.{◌≡◌};
+
 use crate::answers::is_so;
 use crate::shared_plain::{fresh, runs_fresh};
+use lasso::log::Pass;
 use lasso::{FixedState, Key, LassoResult, Spur, SpurThreadedRodeo, ThreadedRodeo};
 use lasso_shared_testing::calls::{
-    copied, copied_as, found_as, kept_as, pass_of, seen_by, set_limit_as, stands_for, sums_as,
+    copied, copied_as, found_as, hinted_pass_of, kept_as, pass_of, seen_by, set_limit_as, stands_for,
+    sums_as,
 };
 use lasso_shared_testing::steps::Step;
 use lasso_shared_testing::steps::Step::{Counts, Finds, Interns, Reads};
@@ -20,6 +24,7 @@ enum Calls {
     Copied,
     LookedUp,
     Met,
+    Hinted,
     Limited,
 }
 
@@ -57,6 +62,30 @@ fn meets<R: Wait>(rt: &R, shared: &SpurThreadedRodeo) -> LassoResult<bool> {
     Ok(stands_for(shared, &mut second, key, "Hello, world!"))
 }
 
+// Whether the text's key by the pass resolves to it.
+fn resolves_by<R: Wait>(
+    rt: &R,
+    shared: &SpurThreadedRodeo,
+    pass: &mut Pass<Spur>,
+    text: &str,
+) -> LassoResult<bool>
+    requires { pass.old.of ≡ shared.now }
+    ensures { pass.new.of ≡ pass.old.of }
+{
+    let key = copied_as(rt, shared, pass, text)?;
+    Ok(stands_for(shared, pass, key, text))
+}
+
+// Whether a pass with hints resolves each key, of texts that come again.
+fn hints<R: AllocGlobal + Wait>(rt: &R, shared: &SpurThreadedRodeo) -> LassoResult<bool> {
+    let mut pass = hinted_pass_of(rt.alloc(), shared);
+    let red = resolves_by(rt, shared, &mut pass, "red")?;
+    let green = resolves_by(rt, shared, &mut pass, "green")?;
+    let again = resolves_by(rt, shared, &mut pass, "red")?;
+    let hinted = resolves_by(rt, shared, &mut pass, "red")?;
+    Ok(red && green && again && hinted && seen_by(shared, &mut pass) == 2)
+}
+
 // Whether the limit that is set is read, and the usage stays.
 fn limits<R: Wait>(rt: &R, shared: &SpurThreadedRodeo) -> bool {
     let mut pass = pass_of(shared);
@@ -64,12 +93,17 @@ fn limits<R: Wait>(rt: &R, shared: &SpurThreadedRodeo) -> bool {
     sums_as(rt, shared, &mut pass) == (10, 4096)
 }
 
-fn are_right<R: Wait>(rt: &R, shared: &SpurThreadedRodeo, calls: Calls) -> LassoResult<bool> {
+fn are_right<R: AllocGlobal + Wait>(
+    rt: &R,
+    shared: &SpurThreadedRodeo,
+    calls: Calls,
+) -> LassoResult<bool> {
     match calls {
         Calls::Kept => keeps(rt, shared),
         Calls::Copied => copies(rt, shared),
         Calls::LookedUp => looks_up(rt, shared),
         Calls::Met => meets(rt, shared),
+        Calls::Hinted => hints(rt, shared),
         Calls::Limited => Ok(limits(rt, shared)),
     }
 }
@@ -120,6 +154,11 @@ fn shared_with_a_pass(rt: HostRuntime) -> Result<(), Fail> {
 #[test]
 fn shared_by_passes_that_meet(rt: HostRuntime) -> Result<(), Fail> {
     runs_as(&rt, Calls::Met)
+}
+
+#[test]
+fn shared_by_a_pass_with_hints(rt: HostRuntime) -> Result<(), Fail> {
+    runs_as(&rt, Calls::Hinted)
 }
 
 #[test]

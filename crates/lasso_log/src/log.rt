@@ -6,6 +6,7 @@ pub mod bucket_list;
 pub mod cells_ahead;
 mod charges;
 mod charging;
+mod hint_table;
 mod hinting;
 mod hints;
 pub mod kept_slot;

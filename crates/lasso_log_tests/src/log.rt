@@ -4,6 +4,7 @@ ghost use Rattle.lasso_log.specs.Views.{InternerId, IsSameSpine, PassView, list_
 
 mod copied;
 mod given_back;
+mod hints;
 mod opened;
 
 use crate::checks::is_so;

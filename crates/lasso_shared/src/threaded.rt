@@ -3,7 +3,8 @@
 //! A call with a pass knows what the pass's holder has seen of the interner's history. The call's reply is explained at one step
 //! between what the pass had seen and what it has seen after, and the events past that of the pass's number are exactly those of
 //! the call. A plain call is that call of a new pass. What is stored lies in a log that is read without a lock. A text is looked
-//! up in its shard, which other texts of the shard share; a new text goes through its shard and then through the spine.
+//! up in its shard, which other texts of the shard share; a new text goes through its shard and then through the spine. A pass that
+//! keeps hints finds a text that it met before without the shard.
 ghost use Rattle.std.specs.Prelude.{◌≡◌, []};
 ghost use Rattle.lasso_log.specs.Views.{PassView, InternerId};
 
@@ -25,6 +26,7 @@ use crate::shards::Shards;
 use lasso_log::log::Pass;
 use lasso_parts::keys::{Key, Spur};
 use lasso_parts::util::FixedState;
+use std::alloc::Global;
 use std::hash::BuildHasher;
 use std::marker::Model;
 pub use walking::{Iter, Strings};
@@ -78,5 +80,30 @@ impl<K: Key, S: BuildHasher + Drop> ThreadedRodeo<K, S> {
         ensures notes { result.notes ≡ [] }
     {
         self.shards.log.pass()
+    }
+
+    /// A pass that has seen nothing yet, and that keeps hints: it remembers where in the list it met texts, and
+    /// finds them there again without a lock. So it is for a thread that meets the same texts often. Its calls
+    /// return what those of any pass do.
+    ///
+    /// The hints take 65,536 bytes, which no limit counts, and which are freed with the pass. Out of memory
+    /// the pass keeps none; `Pass::has_hints` tells. It does not wait.
+    ///
+    /// ```rust
+    /// let rodeo: SpurThreadedRodeo = ThreadedRodeo::default(rt.alloc())?;
+    /// let mut pass = rodeo.pass_with_hints(rt.alloc());
+    /// for text in ["red", "green", "red", "red"] {
+    ///     let key = rodeo.try_get_or_intern_as(&rt, &mut pass, text)?;
+    ///     assert!(rt; rodeo.try_resolve_as(&mut pass, key) == Some(text));
+    /// }
+    /// assert!(rt; rodeo.len_as(&mut pass) == 2);
+    /// ```
+    pub fn pass_with_hints(&self, alloc: Global) -> Pass<K>
+        ensures of { result.of ≡ self.now }
+        ensures notes { result.notes ≡ [] }
+    {
+        let mut pass = self.pass();
+        pass.make_hints(alloc);
+        pass
     }
 }

@@ -1,4 +1,5 @@
 //! Interners that threads share, read from JSON and written as JSON.
+mod hints;
 mod kinds;
 
 use super::checks::{is_given, is_number, is_so};

@@ -245,6 +245,16 @@ pub fn pass_of<K: Key, S: BuildHasher + Drop>(shared: &ThreadedRodeo<K, S>) -> P
     shared.pass()
 }
 
+/// A new pass of the interner that keeps hints. Out of memory it keeps none.
+pub fn hinted_pass_of<K: Key, S: BuildHasher + Drop>(
+    alloc: Global,
+    shared: &ThreadedRodeo<K, S>,
+) -> Pass<K>
+    ensures { result.of ≡ shared.now }
+{
+    shared.pass_with_hints(alloc)
+}
+
 /// How many texts the pass has seen after this call, which is `len_as`.
 pub fn seen_by<K: Key, S: BuildHasher + Drop>(
     shared: &ThreadedRodeo<K, S>,

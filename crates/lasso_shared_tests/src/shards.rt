@@ -4,6 +4,7 @@ ghost use Rattle.std.specs.Prelude.{◌<◌};
 
 mod armed;
 mod copied;
+mod hints;
 mod writers;
 
 use crate::checks::{is_so, runs};

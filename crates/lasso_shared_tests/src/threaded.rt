@@ -3,6 +3,7 @@ ghost use Rattle.std.specs.Prelude.{◌≡◌};
 
 mod callers;
 mod copied;
+mod hints;
 mod looking;
 mod makers;
 mod memory;

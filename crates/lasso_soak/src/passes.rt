@@ -33,7 +33,7 @@ struct Told<K: Key> {
     known: Snapshot<K>,
 }
 
-// Makes random calls of the interner by a pass of its own, as the thread of this number.
+// Makes random calls of the interner by a pass of its own, which keeps hints, as the thread of this number.
 fn by_one<K: Key, R: AllocGlobal + Wait>(
     rt: &R,
     rodeo: &ThreadedRodeo<K, FixedState>,
@@ -42,7 +42,7 @@ fn by_one<K: Key, R: AllocGlobal + Wait>(
 ) -> Told<K>
     ensures { result.known.of ≡ rodeo.now }
 {
-    let mut pass = rodeo.pass();
+    let mut pass = rodeo.pass_with_hints(rt.alloc());
     let seed = work
         .seed
         .wrapping_mul(THREADS as u64)

@@ -47,9 +47,8 @@ impl<K: Key> Snapshot<K> {
     pub(super) fn again(&self) -> Snapshot<K>
         ensures { result ≡ self.now }
     {
-        Snapshot {
-            seen: self.copy_seen(),
-        }
+        let seen = self.seen.again();
+        Snapshot { seen }
     }
 
     // The log that it has seen.

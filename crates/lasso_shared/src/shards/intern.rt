@@ -1,9 +1,9 @@
 //! Interning a text, in phases.
 //!
-//! The text is looked up under the shard's read lock. If it is absent the shard is locked for writing, it is
-//! looked up again, and the shard is compared with the spine's number of it. Then room is made, the bytes of
-//! a text that is copied are stored, and the text is put last. The shard is held to the end: so what was
-//! looked up stays. A text that is static or empty has no bytes to be stored.
+//! The text is looked up by the hints of the pass, and then under the shard's read lock. If it is absent the
+//! shard is locked for writing, it is looked up again, and the shard is compared with the spine's number of it.
+//! Then room is made, the bytes of a text that is copied are stored, and the text is put last. The shard is held
+//! to the end: so what was looked up stays. A text that is static or empty has no bytes to be stored.
 ghost use Rattle.std.specs.Prelude.{◌≡◌};
 ghost use Rattle.lasso_parts.specs.Hashing.{text_hash};
 ghost use Rattle.lasso_log.specs.Replies.{Copied, Static, Intern, Interned};
@@ -66,7 +66,6 @@ impl<K: Key, S: BuildHasher + Drop> Shards<K, S> {
         let (guard, mut shard) = self.lock(number_of(hash)).write(rt);
         let reply = self.intern_held(rt, &mut shard.shard, pass, hash, text);
         guard.unlock(rt, shard);
-        pass.saw(&reply);
         reply
     }
 

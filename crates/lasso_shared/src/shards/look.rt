@@ -1,4 +1,4 @@
-//! Looking a text up: in a shard that is read, and in one that is held.
+//! Looking a text up: by the hints of a pass, in a shard that is read, and in one that is held.
 ghost use Rattle.std.specs.Prelude.{◌≡◌, ◌<◌, List, [], length, Some, IfSome, IfNone};
 ghost use mathlib.Core.List.{IsPrefix};
 ghost use Rattle.lasso_parts.specs.Hashing.{text_hash};
@@ -68,7 +68,8 @@ impl<K: Key, S: BuildHasher + Drop> Shards<K, S> {
         }
     }
 
-    // The same in the history that the pass has then seen. The pass learns the shard's own.
+    // The same in the history that the pass has then seen. The pass learns the shard's own, and keeps a hint
+    // of a present text.
     #[inline(always)]
     pub(super) fn find(
         &self,
@@ -89,12 +90,30 @@ impl<K: Key, S: BuildHasher + Drop> Shards<K, S> {
         pass.learn(&shard.known);
         let known = pass.snapshot();
         match self.find_position(shard, &known, hash, text) {
-            Some(position) => Some(key_at(&known, position)),
+            Some(position) => {
+                pass.keep_hint(hash, position as u64);
+                Some(key_at(&known, position))
+            }
             None => None,
         }
     }
 
-    // The key of the text, where the shard's index has it. Other readers may look up at the same time.
+    // The key of the text, if a hint of the pass tells its position. It takes no lock.
+    #[inline(always)]
+    fn follow(&self, pass: &mut Pass<K>, hash: u64, text: &str) -> Option<K>
+        requires { pass.old.of ≡ self.now.log }
+        ensures same { IsSamePass pass.new pass.old }
+        ensures since { Since pass.old.number pass.old.notes pass.new.notes [] }
+        ensures found { IfSome result (λ k. key_of K.key_at (list_of self.now.log pass.new.notes) text.now ≡ Some k) }
+    {
+        let position = self.log.find_hinted(pass, hash, text)?;
+        pass.prove_legal();
+        let known = pass.snapshot();
+        Some(key_at(&known, position as usize))
+    }
+
+    // The key of the text, if a hint of the pass tells it or the shard's index has it. Other readers may look up at
+    // the same time.
     #[inline(always)]
     pub(super) fn peek<R: Wait>(
         &self,
@@ -112,55 +131,10 @@ impl<K: Key, S: BuildHasher + Drop> Shards<K, S> {
         if let Some(key) = self.follow(pass, hash, text) {
             return Some(key);
         }
-        pass.count_look(self.alloc);
-        if pass.expects_new() {
-            return None;
-        }
         let guard = self.lock(number_of(hash)).read(rt);
-        let found = self.find_and_hint(&guard.get().shard, pass, hash, text);
+        let found = self.find(&guard.get().shard, pass, hash, text);
         guard.unlock();
         found
-    }
-
-    // The key of the text, where a hint of the pass tells its position. It takes no lock.
-    #[inline(always)]
-    fn follow(&self, pass: &mut Pass<K>, hash: u64, text: &str) -> Option<K>
-        requires { pass.old.of ≡ self.now.log }
-        ensures same { IsSamePass pass.new pass.old }
-        ensures since { Since pass.old.number pass.old.notes pass.new.notes [] }
-        ensures found { IfSome result (λ k. key_of K.key_at (list_of self.now.log pass.new.notes) text.now ≡ Some k) }
-    {
-        let position = self.log.hinted(pass, hash, text)?;
-        pass.prove_legal();
-        let known = pass.snapshot();
-        Some(key_at(&known, position as usize))
-    }
-
-    // `find`, after which a hint of the pass tells where a text lies that is there.
-    #[inline(always)]
-    fn find_and_hint(
-        &self,
-        shard: &Shard<K, S>,
-        pass: &mut Pass<K>,
-        hash: u64,
-        text: &str,
-    ) -> Option<K>
-        requires of { pass.old.of ≡ self.now.log }
-        requires hashed { hash ≡ text_hash S.build_hasher S.Hasher.write S.Hasher.finish self.now.hasher text.now }
-        requires held { IsShard (text_hash S.build_hasher S.Hasher.write S.Hasher.finish self.now.hasher) (shard_of hash) self.now.log shard.now.known shard.now.index shard.now.count }
-        ensures same { IsSamePass pass.new pass.old }
-        ensures since { Since pass.old.number pass.old.notes pass.new.notes [] }
-        ensures found { IfSome result (λ k. key_of K.key_at (list_of self.now.log pass.new.notes) text.now ≡ Some k) }
-    {
-        pass.learn(&shard.known);
-        let known = pass.snapshot();
-        match self.find_position(shard, &known, hash, text) {
-            Some(position) => {
-                pass.hint(hash, position as u64);
-                Some(key_at(&known, position))
-            }
-            None => None,
-        }
     }
 
     // The key of the text, where the shard's index has it, without a pass. Other readers may look up at the
@@ -220,8 +194,8 @@ impl<K: Key, S: BuildHasher + Drop> Shards<K, S> {
         None
     }
 
-    /// The text's key, or `None` if it is not in the list. No text of its shard is interned meanwhile. It
-    /// takes no memory.
+    /// The text's key, or `None` if it is not in the list. If no hint of the pass tells it, no text of its
+    /// shard is interned meanwhile. It takes no memory.
     pub fn get<R: Wait>(&self, rt: &R, pass: &mut Pass<K>, text: &str) -> Option<K>
         requires { pass.old.of ≡ self.now.log }
         ensures same { IsSamePass pass.new pass.old }

@@ -9,10 +9,10 @@ use Rattle.lasso_shared.proofs.shards.Shards.follow.Goals as goal
 -- the list is distinct, so the text has no other position than the one that the hint told
 pub returns-clause-found : goal.returns-clause-found
 returns-clause-found g c =
-    let after = c.hinted.new.pass in
+    let after = c.find_hinted.new.pass in
     let t = c.args.text.now in
     let found = c.in_ok-position.ensures in
-    let of : after.of ≡ c.args.self.now.log = c.hinted.ensures.same.1 ∙ c.requires in
+    let of : after.of ≡ c.args.self.now.log = c.find_hinted.ensures.same.1 ∙ c.requires in
     let distinct = (list_good g.K.Key.key_at after.of.opening after.notes c.prove_legal.ensures.opening c.prove_legal.ensures.legal).0 in
     let at : position_of (list_of after.of after.notes) t ≡ Some c.in_ok-position.position = position_of_at (list_of after.of after.notes) t c.in_ok-position.position distinct found.found in
     subst (λ (o : InternerId). key_of g.K.Key.key_at (list_of o after.notes) t ≡ Some c.key_at.result) of (ap (option_and_then g.K.Key.key_at) at ∙ c.key_at.ensures)

@@ -7,7 +7,7 @@ use Rattle.lasso_parts.specs.Texts.{Text}
 use Rattle.lasso_parts.proofs.IndexLaws.{slice_get-append_left}
 use Rattle.lasso_log.specs.Views.{InternerId, list_of}
 use Rattle.lasso_log.proofs.Lengths.{texts_past}
-use Rattle.lasso_log.proofs.log.words.Log.hinted.Goals as goal
+use Rattle.lasso_log.proofs.log.words.Log.find_hinted.Goals as goal
 
 -- a longer list has the same text at the position
 read_past : (texts later : List Text) (text : Text) (n : ℕ) → IsPrefix texts later → slice_get texts n ≡ Some text → slice_get later n ≡ Some text

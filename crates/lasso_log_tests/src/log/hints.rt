@@ -1,0 +1,195 @@
+//! Hints of a pass: which positions they tell, and when they rest.
+ghost use Rattle.std.specs.Prelude.{◌≡◌, ◌∷◌, [], IfOk, codes};
+ghost use Rattle.lasso_log.specs.Views.{InternerId, PassView, list_of};
+
+use crate::checks::is_so;
+use crate::log::given_back::add;
+use crate::log::opened::opens;
+use lasso_log::log::{Log, NewLog, Pass, Spine};
+use lasso_parts::keys::Spur;
+use lasso_parts::util::{LassoError, LassoErrorKind, LassoResult};
+use std::alloc::Global;
+use std::process::Abort;
+use std::sync::Wait;
+use std::test::*;
+
+// The texts of the list, two of its opening and three that are appended.
+const TEXTS: [&str; 5] = ["bc", "", "a", "p", "q"];
+
+// A hash for each text. All choose the same set, and differ in bits that no position here has.
+const HASHES: [u64; 5] = [1 << 48, 2 << 48, 3 << 48, 4 << 48, 5 << 48];
+
+// How many absent texts are asked for at once.
+const MISSES: u32 = 1000;
+
+// How often a test asks for so many before it gives up.
+const TURNS: u32 = 10_000;
+
+// More texts than two rounds have.
+const HITS: u32 = 200_000;
+
+// Appends the last three texts.
+fn add_three<R: Wait>(
+    rt: &R,
+    alloc: Global,
+    log: &Log<Spur>,
+    spine: &mut Spine<Spur>,
+    pass: &mut Pass<Spur>,
+) -> LassoResult<()>
+    requires of { (pass.old.of ≡ log.now) × (spine.old.of ≡ log.now) }
+    requires list { list_of log.now spine.old.notes ≡ codes "bc" ∷ [] ∷ [] }
+    ensures { pass.new.of ≡ log.now }
+{
+    add(rt, alloc, log, spine, pass, "a")?;
+    add(rt, alloc, log, spine, pass, "p")?;
+    add(rt, alloc, log, spine, pass, "q")
+}
+
+// Makes the pass keep hints.
+fn hint(alloc: Global, pass: &mut Pass<Spur>) -> LassoResult<()>
+    ensures { pass.new ≡ pass.old }
+{
+    pass.make_hints(alloc);
+    if pass.has_hints() {
+        Ok(())
+    } else {
+        Err(LassoError::new(LassoErrorKind::FailedAllocation))
+    }
+}
+
+// Keeps the position of a text with that hash. Returns whether the list has the position.
+fn keeps(log: &Log<Spur>, pass: &mut Pass<Spur>, hash: u64, position: u64) -> bool
+    requires { pass.old.of ≡ log.now }
+    ensures { pass.new.of ≡ log.now }
+{
+    if position >= log.len(pass) {
+        return false;
+    }
+    pass.keep_hint(hash, position);
+    true
+}
+
+// Whether a hint tells the text, if it is asked with that hash.
+fn is_told(log: &Log<Spur>, pass: &mut Pass<Spur>, hash: u64, text: &str) -> bool
+    requires { pass.old.of ≡ log.now }
+    ensures { pass.new.of ≡ log.now }
+{
+    log.find_hinted(pass, hash, text).is_some()
+}
+
+// Whether a hint tells the text of the position.
+fn tells(log: &Log<Spur>, pass: &mut Pass<Spur>, position: usize) -> bool
+    requires { pass.old.of ≡ log.now }
+    ensures { pass.new.of ≡ log.now }
+{
+    if position >= 5 {
+        return false;
+    }
+    log.find_hinted(pass, HASHES[position], TEXTS[position]) == Some(position as u64)
+}
+
+// Keeps the position of the text `a`. Returns whether its hint then tells it, and no other text.
+fn tells_one_text(log: &Log<Spur>, pass: &mut Pass<Spur>) -> bool
+    requires { pass.old.of ≡ log.now }
+    ensures { pass.new.of ≡ log.now }
+{
+    let is_absent = !tells(log, pass, 2);
+    let is_kept = keeps(log, pass, HASHES[2], 2) && tells(log, pass, 2);
+    let is_compared = !is_told(log, pass, HASHES[2], "b");
+    let is_of_its_hash = !is_told(log, pass, HASHES[3], "a") && !is_told(log, pass, 7, "a");
+    is_absent && is_kept && is_compared && is_of_its_hash
+}
+
+// Keeps the positions of five texts, whose hints are of one set. Returns whether the last four are told.
+fn tells_the_last_four(log: &Log<Spur>, pass: &mut Pass<Spur>) -> bool
+    requires { pass.old.of ≡ log.now }
+    ensures { pass.new.of ≡ log.now }
+{
+    let mut all = true;
+    for position in 0..5usize {
+        all &= keeps(log, pass, HASHES[position], position as u64);
+    }
+    for position in 1..5usize {
+        all &= tells(log, pass, position);
+    }
+    all && !tells(log, pass, 0)
+}
+
+// Whether each hit is told, however many there are.
+fn tells_each_hit(log: &Log<Spur>, pass: &mut Pass<Spur>) -> bool
+    requires { pass.old.of ≡ log.now }
+    ensures { pass.new.of ≡ log.now }
+{
+    let mut all = true;
+    for _ in 0..HITS {
+        all &= tells(log, pass, 4);
+    }
+    all
+}
+
+// Asks for absent texts.
+fn misses(log: &Log<Spur>, pass: &mut Pass<Spur>)
+    requires { pass.old.of ≡ log.now }
+    ensures { pass.new.of ≡ log.now }
+{
+    for _ in 0..MISSES {
+        let _found = is_told(log, pass, 7, "none");
+    }
+}
+
+// Asks for absent texts until the last text is told, or until it is not told any more. Returns whether it came
+// to that.
+fn comes_to(log: &Log<Spur>, pass: &mut Pass<Spur>, is_told: bool) -> bool
+    requires { pass.old.of ≡ log.now }
+    ensures { pass.new.of ≡ log.now }
+{
+    for _ in 0..TURNS {
+        if tells(log, pass, 4) == is_told {
+            return true;
+        }
+        misses(log, pass);
+    }
+    false
+}
+
+// The hints of five texts, which are asked for, and for absent texts.
+fn tell<R: Abort>(rt: &R, log: &Log<Spur>, pass: &mut Pass<Spur>)
+    requires { pass.old.of ≡ log.now }
+{
+    is_so(rt, tells_one_text(log, pass), "one text");
+    is_so(rt, tells_the_last_four(log, pass), "a set of four");
+    is_so(rt, tells_each_hit(log, pass), "no rest");
+    is_so(rt, comes_to(log, pass, false), "a rest");
+    is_so(rt, comes_to(log, pass, true), "the end of the rest");
+}
+
+// Appends the texts, and asks for them by hints.
+fn append_and_tell<R: Abort + Wait>(
+    rt: &R,
+    alloc: Global,
+    log: &Log<Spur>,
+    spine: &mut Spine<Spur>,
+) -> Result<(), Fail>
+    requires of { spine.old.of ≡ log.now }
+    requires list { list_of log.now spine.old.notes ≡ codes "bc" ∷ [] ∷ [] }
+{
+    let mut pass = log.pass();
+    add_three(rt, alloc, log, spine, &mut pass)?;
+    // without a table nothing is kept
+    let is_asked = keeps(log, &mut pass, HASHES[2], 2);
+    is_so(rt, is_asked && !pass.has_hints(), "no hints");
+    is_so(rt, !tells(log, &mut pass, 2), "nothing is told");
+    hint(alloc, &mut pass)?;
+    tell(rt, log, &mut pass);
+    Ok(())
+}
+
+#[test]
+fn hints_tell_the_texts_that_they_were_kept_of(rt: HostRuntime) -> Result<(), Fail> {
+    let NewLog {
+        log,
+        mut spine,
+        bucket: _,
+    } = opens(rt.alloc())?;
+    append_and_tell(&rt, rt.alloc(), &log, &mut spine)
+}
