@@ -86,7 +86,7 @@ impl<K: Key, S: BuildHasher + Drop> ThreadedRodeo<K, S> {
     /// finds them there again without a lock. So it is for a thread that meets the same texts often. Its calls
     /// return what those of any pass do.
     ///
-    /// The hints take 65,536 bytes, which no limit counts, and which are freed with the pass. Out of memory
+    /// The hints take 131,072 bytes, which no limit counts, and which are freed with the pass. Out of memory
     /// the pass keeps none; `Pass::has_hints` tells. It does not wait.
     ///
     /// ```rust

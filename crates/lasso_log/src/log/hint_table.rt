@@ -6,8 +6,8 @@ use std::alloc::Global;
 // How many hints a set has.
 const WAYS: usize = 4;
 
-// How many sets a table has: its hints take 65,536 bytes.
-const SETS: usize = 4096;
+// How many sets a table has: its hints take 131,072 bytes.
+const SETS: usize = 8192;
 
 // The first bit of a hash that is mixed into a hint. The bits below it choose the set.
 const MIXED_FROM: u32 = 32;
@@ -54,12 +54,12 @@ fn set_of(hash: u64) -> usize {
     hash as usize % SETS
 }
 
-/// A table of positions below 2^32, in sets of four. A text's hash chooses the set, and the latest hint of a set
-/// stands first. A text asks its set in one read of memory.
+/// A table of positions below 2^32, in sets of four. A text's hash chooses the set, so a set is asked in one
+/// read of memory. A new hint takes the third place of its set, and the last hint of the set goes. A hint that
+/// is followed moves up by one place: so those that are followed often stay.
 ///
-/// Asking costs time, which the hits of a text's hint have to save. So texts are counted in rounds. If less
-/// than one text in eight of a round was a hit, hints rest for the next round, which is longer: they are
-/// neither asked nor kept.
+/// Asking costs time, which hits have to save. So texts are counted in rounds. If less than one text in eight
+/// of a round was a hit, hints rest for the next round, which is longer: they are neither asked nor kept.
 #[derive(Drop)]
 pub(super) struct HintTable {
     sets: Vec<[Hint; WAYS]>,
@@ -92,9 +92,11 @@ impl HintTable {
         if !self.is_asked() {
             return None;
         }
-        for hint in self.sets.get(set_of(hash))?.iter() {
-            let position = u64::from(hint.position(hash));
+        let set = self.sets.get_mut(set_of(hash))?;
+        for way in 0..WAYS {
+            let position = u64::from(set[way].position(hash));
             if position < len {
+                move_up(set, way);
                 return Some(position);
             }
         }
@@ -127,7 +129,7 @@ impl HintTable {
         self.hits = self.hits.wrapping_add(1);
     }
 
-    /// Keeps the position of a text with that hash, in place of the oldest hint of its set.
+    /// Keeps the position of a text with that hash.
     #[inline(always)]
     pub(super) fn keep(&mut self, hash: u64, position: u32) {
         if self.rests {
@@ -135,7 +137,15 @@ impl HintTable {
         }
         if let Some(set) = self.sets.get_mut(set_of(hash)) {
             let [first, second, third, _] = *set;
-            *set = [Hint::new(hash, position), first, second, third];
+            *set = [first, second, Hint::new(hash, position), third];
         }
+    }
+}
+
+// Moves a hint of the set up by one place.
+#[inline(always)]
+fn move_up(set: &mut [Hint; WAYS], way: usize) {
+    if way > 0 && way < WAYS {
+        set.swap(way - 1, way);
     }
 }

@@ -10,7 +10,7 @@ use lasso_parts::same::is_same;
 use std::alloc::Global;
 
 impl<K: Key> Pass<K> {
-    /// Makes the pass keep hints, in a table of 65,536 bytes that ends with the pass. Out of memory it keeps
+    /// Makes the pass keep hints, in a table of 131,072 bytes that ends with the pass. Out of memory it keeps
     /// none, and nothing changes.
     pub fn make_hints(&mut self, alloc: Global)
         ensures { self.new ≡ self.old }

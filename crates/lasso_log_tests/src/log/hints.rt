@@ -100,19 +100,31 @@ fn tells_one_text(log: &Log<Spur>, pass: &mut Pass<Spur>) -> bool
     is_absent && is_kept && is_compared && is_of_its_hash
 }
 
-// Keeps the positions of five texts, whose hints are of one set. Returns whether the last four are told.
-fn tells_the_last_four(log: &Log<Spur>, pass: &mut Pass<Spur>) -> bool
+// Keeps the position of the text at a position. Returns whether its hint then tells it, each time.
+fn tells_what_it_keeps(log: &Log<Spur>, pass: &mut Pass<Spur>, position: usize) -> bool
     requires { pass.old.of ≡ log.now }
     ensures { pass.new.of ≡ log.now }
 {
-    let mut all = true;
-    for position in 0..5usize {
-        all &= keeps(log, pass, HASHES[position], position as u64);
+    if position >= 5 || !keeps(log, pass, HASHES[position], position as u64) {
+        return false;
     }
+    let first = tells(log, pass, position);
+    let second = tells(log, pass, position);
+    tells(log, pass, position) && first && second
+}
+
+// Keeps the positions of five texts, whose hints are of one set of four. Returns whether each is told at first,
+// and that of the first text, which is asked for between the others, to the end.
+fn tells_what_is_asked_for(log: &Log<Spur>, pass: &mut Pass<Spur>) -> bool
+    requires { pass.old.of ≡ log.now }
+    ensures { pass.new.of ≡ log.now }
+{
+    let mut all = tells_what_it_keeps(log, pass, 0);
     for position in 1..5usize {
-        all &= tells(log, pass, position);
+        all &= tells_what_it_keeps(log, pass, position);
+        all &= tells(log, pass, 0);
     }
-    all && !tells(log, pass, 0)
+    all
 }
 
 // Whether each hit is told, however many there are.
@@ -157,7 +169,7 @@ fn tell<R: Abort>(rt: &R, log: &Log<Spur>, pass: &mut Pass<Spur>)
     requires { pass.old.of ≡ log.now }
 {
     is_so(rt, tells_one_text(log, pass), "one text");
-    is_so(rt, tells_the_last_four(log, pass), "a set of four");
+    is_so(rt, tells_what_is_asked_for(log, pass), "a set of four");
     is_so(rt, tells_each_hit(log, pass), "no rest");
     is_so(rt, comes_to(log, pass, false), "a rest");
     is_so(rt, comes_to(log, pass, true), "the end of the rest");
