@@ -16,7 +16,7 @@ use logbook::{Seen, Word};
 use std::marker::Model;
 
 /// What its holder has seen of the history of one interner. A contract sees its number, its interner and the
-/// notes that it has seen. It has no bytes but those of its tickets' words.
+/// notes that it has seen. It has no bytes but those of its tickets' words and of its hints.
 pub struct Pass<K: Key> {
     pub(super) seen: Seen<Note, u64, LogRule<K>>,
     // The ticket of its next event.

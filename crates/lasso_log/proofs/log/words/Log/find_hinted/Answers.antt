@@ -15,11 +15,11 @@ read_past texts later text n more at =
     ap (λ (ts : List Text). slice_get ts n) (sym more.1) ∙ (slice_get-append_left texts more.0 n (slice_get_within texts n text at) ∙ at)
 
 -- the text at the position is compared, and the pass has then seen what the hints had
-pub returns-then-eq-clause-found : goal.returns-then-eq-clause-found
-returns-then-eq-clause-found g c =
+pub returns-clause-found : goal.returns-clause-found
+returns-clause-found g c =
     let known = c.known-known.result in
-    let of : c.learn.new.self.of ≡ known.of = c.learn.ensures.same.1 ∙ (sym (ap (λ s. s.of) c.pass.view_is) ∙ (sym c.pass.invariant.6 ∙ ap (λ k. k.of) (sym c.known-known.ensures))) in
+    let of : c.learn.new.self.of ≡ known.of = c.learn.ensures.same.1 ∙ (sym c.pass.invariant.6 ∙ ap (λ k. k.of) (sym (c.known-known.ensures ∙ c.find.ensures.same))) in
     let at : slice_get (list_of known.of known.notes) c.in_ok-position.position ≡ Some c.args.text.now =
-    ap (λ (ts : List Text). slice_get ts c.in_ok-position.position) (sym c.snapshot_texts.ensures) ∙ (c.lend-there.ensures ∙ ap (λ (t : Text). Some t) ((bytes_eq-Decides c.lend-there.result.now c.args.text.now).0 (sym c.if-eq.ensures))) in
+    ap (λ (ts : List Text). slice_get ts c.in_ok-position.position) (sym c.snapshot_texts.ensures) ∙ (c.lend-there.ensures ∙ ap (λ (t : Text). Some t) ((bytes_eq-Decides c.lend-there.result.now c.args.text.now).0 (sym c.if-not-is_same.ensures))) in
     subst (λ (o : InternerId). slice_get (list_of o c.learn.new.self.notes) c.in_ok-position.position ≡ Some c.args.text.now) (sym of)
     (read_past (list_of known.of known.notes) (list_of known.of c.learn.new.self.notes) c.args.text.now c.in_ok-position.position (texts_past known.of.opening known.notes c.learn.new.self.notes c.learn.ensures.known) at)
