@@ -22,5 +22,5 @@ end_after rest bytes line after end cut =
     let many : length rest ≡ length line + length (10 ∷ after) = ap length cut ∙ length-append line (10 ∷ after) in
     let used : length bytes - length after ≡ (length bytes - length rest) + suc (length line) = omega (arith, many, end.0) in
     let is : drop (length bytes - length after) bytes ≡ after =
-        ap (λ n. drop n bytes) used ∙ sym (drop-drop (suc (length line)) (length bytes - length rest) bytes) ∙ ap (λ bs. drop (suc (length line)) bs) (sym end.1 ∙ cut) ∙ after_feed line after in
+    ap (λ n. drop n bytes) used ∙ sym (drop-drop (suc (length line)) (length bytes - length rest) bytes) ∙ ap (λ bs. drop (suc (length line)) bs) (sym end.1 ∙ cut) ∙ after_feed line after in
     (omega (arith, many, end.0), sym is)

@@ -82,18 +82,35 @@ static STRETCHES: [(&[u8], Lines, &[u8]); 8] = [
     (b"\n\nto be", &[(b"", true), (b"", true)], b"to be"),
     (b"to be\r\nor\n", &[(b"to be\r", true), (b"or", true)], b""),
     // the first byte that is not UTF-8 is in the second line: the lines after it are tested one by one
-    (b"a\nb\xff\nc\n\xe2\x82\n", &[(b"a", true), (b"b\xff", false), (b"c", true), (b"\xe2\x82", false)], b""),
+    (
+        b"a\nb\xff\nc\n\xe2\x82\n",
+        &[
+            (b"a", true),
+            (b"b\xff", false),
+            (b"c", true),
+            (b"\xe2\x82", false),
+        ],
+        b"",
+    ),
     // a letter that is cut by a line feed
     (b"\xc3\n\xa4\n", &[(b"\xc3", false), (b"\xa4", false)], b""),
     // a letter of which the last line has the beginning
-    ("ä\nö\n".as_bytes(), &[("ä".as_bytes(), true), ("ö".as_bytes(), true)], b""),
+    (
+        "ä\nö\n".as_bytes(),
+        &[("ä".as_bytes(), true), ("ö".as_bytes(), true)],
+        b"",
+    ),
     (b"\xc3\xa4\n\xc3", &[("ä".as_bytes(), true)], b"\xc3"),
 ];
 
 #[test]
 fn lines_that_a_line_feed_ends(rt: HostRuntime) {
     for (bytes, ended, rest) in &STRETCHES {
-        is_so(&rt, are_ended(&mut Stretch::new(bytes), ended, rest), "ended lines");
+        is_so(
+            &rt,
+            are_ended(&mut Stretch::new(bytes), ended, rest),
+            "ended lines",
+        );
     }
 }
 
@@ -118,6 +135,10 @@ fn all_lines(rt: HostRuntime) {
 #[test]
 fn a_line_by_hand(rt: HostRuntime) -> Result<(), Fail> {
     is_so(&rt, is_line(&Line::untested(b"a"), b"a", true), "a text");
-    is_so(&rt, is_line(&Line::untested(b"\xff"), b"\xff", false), "no text");
+    is_so(
+        &rt,
+        is_line(&Line::untested(b"\xff"), b"\xff", false),
+        "no text",
+    );
     Ok(())
 }

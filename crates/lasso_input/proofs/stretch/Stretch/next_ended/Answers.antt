@@ -31,5 +31,5 @@ returns-clause-line c =
     let line = c.tested.result in
     let after = c.after_newline-self-inside.result.now in
     let here : rest ≡ line ++ 10 ∷ after =
-        cut.bytes_are ∙ ap (λ bs. bs ++ 10 ∷ drop (at + 1) rest) (sym c.tested.ensures) ∙ ap (λ bs. line ++ 10 ∷ bs) (sym c.after_newline-self-inside.ensures.value) in
+    cut.bytes_are ∙ ap (λ bs. bs ++ 10 ∷ drop (at + 1) rest) (sym c.tested.ensures) ∙ ap (λ bs. line ++ 10 ∷ bs) (sym c.after_newline-self-inside.ensures.value) in
     (subst NoFeed (sym c.tested.ensures) cut.no_feed, sym c.self.view_is ∙ here)
