@@ -85,8 +85,8 @@ impl<K: Key, S: BuildHasher, A: Allocator> RodeoReader<K, S, A> {
     /// Texts are looked up in batches, which is faster than one after another if they are out of the
     /// caches.
     ///
-    /// The only error is `FailedAllocation`, if there is no room in `keys` for all of them; `keys` has
-    /// the same items then.
+    /// The only error is `FailedAllocation`, if `keys` has no room for all of them and can't grow. It keeps its
+    /// items then.
     pub fn get_all<B: Allocator>(
         &self,
         texts: &[&str],
@@ -182,8 +182,8 @@ impl<K: Key, S: BuildHasher, A: Allocator> RodeoReader<K, S, A> {
     /// Appends to `texts` the text of each key in order: what `resolve` returns. Each key must stand for a
     /// text of this reader: `contains_keys` is the test.
     ///
-    /// The only error is `FailedAllocation`, if there is no room in `texts` for all of them; `texts` has
-    /// the same items then.
+    /// The only error is `FailedAllocation`, if `texts` has no room for all of them and can't grow. It keeps its
+    /// items then.
     pub fn resolve_all<'a, B: Allocator>(
         &'a self,
         keys: &[K],

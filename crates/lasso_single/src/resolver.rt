@@ -148,8 +148,8 @@ impl<K: Key, A: Allocator> RodeoResolver<K, A> {
     /// Appends to `texts` the text of each key in order: what `resolve` returns. Each key must stand for a
     /// text of this resolver: `contains_keys` is the test.
     ///
-    /// The only error is `FailedAllocation`, if there is no room in `texts` for all of them; `texts` has
-    /// the same items then.
+    /// The only error is `FailedAllocation`, if `texts` has no room for all of them and can't grow. It keeps its
+    /// items then.
     pub fn resolve_all<'a, B: Allocator>(
         &'a self,
         keys: &[K],
