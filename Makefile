@@ -113,7 +113,7 @@ deb: all
 check: crate toolchain
 	@cd crates/$(CRATE) && rt check && if grep -rqF '#[test]' src; then rt test; fi
 
-#: make test                         the gate: make docs, then rt ci, which proves what did not pass on this machine before, and runs every test
+#: make test                         the gate: make docs, then rt ci, which proves all that its kit has not kept, and runs every test
 test: toolchain docs
 	RT_JOBS=$${RT_JOBS-$$(.ci/jobs)} rt ci
 
