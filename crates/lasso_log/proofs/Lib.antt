@@ -19,3 +19,4 @@ pub mod TurnWords
 pub mod NewBuckets
 pub mod Crossing
 pub mod FillCalls
+pub mod Reserved

@@ -33,7 +33,7 @@ moved first first' copied copied' most a b f c e h = subst (λ (p : ℕ). IsThri
 abbrev pub filled_at : List Extent → ℕ → List ℕ → List Extent
 filled_at xs at t = set xs at (with_bytes (region_at xs at) t)
 
-first_set : (xs : List Extent) (at : ℕ) (t : List ℕ) → (region_at (filled_at xs at t) 0).capacity ≡ (region_at xs 0).capacity
+pub first_set : (xs : List Extent) (at : ℕ) (t : List ℕ) → (region_at (filled_at xs at t) 0).capacity ≡ (region_at xs 0).capacity
 first_set [] at t = refl
 first_set (x ∷ xs) zero t = refl
 first_set (x ∷ xs) (suc at) t = refl

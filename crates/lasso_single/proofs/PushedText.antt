@@ -12,6 +12,7 @@ use Rattle.lasso_parts.specs.Texts.{Text}
 use Rattle.lasso_parts.specs.Waste.{IsThrifty}
 use Rattle.lasso_parts.proofs.EntryTexts.{there_pushed, texts_pushed, places_same}
 use Rattle.lasso_parts.proofs.Wasted.{thrifty_store}
+use Rattle.lasso_single.specs.Interner.{InternerView, KeepsOrigin}
 
 -- what a list of texts keeps
 abbrev pub IsKept : Regions → List LentText → List EntryView → Bool → Type 0
@@ -31,3 +32,15 @@ module _ (old new : Regions) (vast : List LentText) (entries grown : List EntryV
 -- the last entry gets another value
 pub last_put : (entries more : List EntryView) (empty entry : EntryView) → more ≡ entries ++ empty ∷ [] → slice_set more (length entries) entry ≡ entries ++ entry ∷ []
 last_put entries more empty entry e = ap (λ (xs : List EntryView). slice_set xs (length entries) entry) e ∙ set-append_seam entries empty [] entry
+
+-- what a list of texts shows of its parts
+abbrev pub shown : Regions → List LentText → List EntryView → Bool → InternerView
+shown a vast entries is_cleared = record { texts = texts_of a.all vast entries; account = account_of a; first = first_of a; copied = copied_of a; most = a.most; is_cleared = is_cleared }
+
+-- the same parts show the same
+pub shown_same : (old new : Regions) (vast longer : List LentText) (entries grown : List EntryView) (is_cleared : Bool) (before : InternerView) → new ≡ old → longer ≡ vast → grown ≡ entries → shown old vast entries is_cleared ≡ before → shown new longer grown is_cleared ≡ before
+shown_same old new vast longer entries grown is_cleared before same_regions same_vast same_entries is =
+    ap (λ (a : Regions). shown a longer grown is_cleared) same_regions ∙ ap (λ (ts : List LentText). shown old ts grown is_cleared) same_vast ∙ ap (λ (xs : List EntryView). shown old vast xs is_cleared) same_entries ∙ is
+
+pub origin_same : (old new : InternerView) → new ≡ old → KeepsOrigin old new
+origin_same old new e = (ap (λ (v : InternerView). v.first) e, ap (λ (v : InternerView). v.is_cleared) e, ap (λ (v : InternerView). v.most) e)

@@ -62,7 +62,6 @@ impl<K: Key> Log<K> {
     /// Takes bytes, at least one, in a bucket of the list, the newest first, without the spine, and returns
     /// the right to fill them. If it returns `None`, no event is added, and nothing is known of the room.
     /// It takes no memory. It waits while another thread takes bytes at the same time.
-    #[tactic(auto, using(crate::proofs::Tickets::since_trans))]
     pub fn reserve_anywhere<R: Wait>(
         &self,
         rt: &R,
@@ -78,24 +77,60 @@ impl<K: Key> Log<K> {
         ensures none { IfNone result (Since pass.old.number pass.old.notes pass.new.notes []) }
         ensures legal { IsLegal K.key_at self.now.opening (seen pass.new) }
     {
-        if let Some(newest) = list.newest() {
-            self.prove_shared_opening(newest);
-            if let Some(range) = newest.try_reserve(rt, self, pass, bytes) {
-                return Some(range);
-            }
+        let Some(newest) = list.newest() else {
+            return self.reserve_older(rt, list, pass, bytes);
+        };
+        if let Some(range) = self.reserve_in(rt, newest, pass, bytes) {
+            return Some(range);
         }
-        let first = list.first();
-        self.prove_shared_opening(first);
-        if let Some(range) = first.try_reserve(rt, self, pass, bytes) {
+        self.reserve_older(rt, list, pass, bytes)
+    }
+
+    // The same, the oldest bucket first.
+    fn reserve_older<R: Wait>(
+        &self,
+        rt: &R,
+        list: &BucketList<K>,
+        pass: &mut Pass<K>,
+        bytes: u64,
+    ) -> Option<Range>
+        requires of { (pass.old.of ≡ self.now) × (list.now ≡ names_with_book self.now) }
+        requires some { bytes ≢ 0 }
+        ensures same { IsSamePass pass.new pass.old }
+        ensures event { IfSome result (λ r. (b : SharedView) × (b.of ≡ self.now) × IsReserved b pass.old.number pass.old.notes pass.new.notes r bytes) }
+        ensures range { IfSome result (λ r. (r.era ≡ era_named self.now.chunks) × (r.len ≡ bytes)) }
+        ensures none { IfNone result (Since pass.old.number pass.old.notes pass.new.notes []) }
+        ensures legal { IsLegal K.key_at self.now.opening (seen pass.new) }
+    {
+        if let Some(range) = self.reserve_in(rt, list.first(), pass, bytes) {
             return Some(range);
         }
         for (_, bucket) in list.later() {
-            self.prove_shared_opening(bucket);
-            if let Some(range) = bucket.try_reserve(rt, self, pass, bytes) {
+            if let Some(range) = self.reserve_in(rt, bucket, pass, bytes) {
                 return Some(range);
             }
         }
         pass.prove_legal();
         None
+    }
+
+    // Takes bytes, at least one, in a bucket of the log's book.
+    fn reserve_in<R: Wait>(
+        &self,
+        rt: &R,
+        bucket: &SharedBucket<K>,
+        pass: &mut Pass<K>,
+        bytes: u64,
+    ) -> Option<Range>
+        requires of { (pass.old.of ≡ self.now) × (names_with_book bucket.now.of ≡ names_with_book self.now) }
+        requires some { bytes ≢ 0 }
+        ensures same { IsSamePass pass.new pass.old }
+        ensures event { IfSome result (λ r. (b : SharedView) × (b.of ≡ self.now) × IsReserved b pass.old.number pass.old.notes pass.new.notes r bytes) }
+        ensures range { IfSome result (λ r. (r.era ≡ era_named self.now.chunks) × (r.len ≡ bytes)) }
+        ensures none { IfNone result (Since pass.old.number pass.old.notes pass.new.notes []) }
+        ensures legal { IsLegal K.key_at self.now.opening (seen pass.new) }
+    {
+        self.prove_shared_opening(bucket);
+        bucket.try_reserve(rt, self, pass, bytes)
     }
 }

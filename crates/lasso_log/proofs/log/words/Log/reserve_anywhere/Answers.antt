@@ -1,19 +1,17 @@
-use Rattle.std.proofs.Common.{ℕ, List, [], ◌∷◌, subst}
-use Rattle.lasso_log.specs.History.{Reserve}
-use Rattle.lasso_log.specs.Notes.{NoteView, Since}
-use Rattle.lasso_log.specs.SharedBuckets.{SharedView, IsNoteOf}
-use Rattle.lasso_log.proofs.Tickets.{since_trans}
+-- The newest bucket had no room: the others are tried after it.
+use Rattle.std.proofs.Common.{◌≡◌, ◌∙◌}
+use Rattle.lasso_log.proofs.Reserved.{none_after, reserved_after}
 use Rattle.lasso_log.proofs.log.words.Log.reserve_anywhere.Goals as goal
 
-pub returns-in-Some-try_reserve-3-clause-event : goal.returns-in-Some-try_reserve-3-clause-event
-returns-in-Some-try_reserve-3-clause-event g c =
-    let p = c.args.pass.now.number in let i = c.loop-bucket.invariant in let b : SharedView = c.in-Some-2.bucket.now in
-    let after : List NoteView = c.try_reserve-in-loop-bucket.new.pass.notes in let own = Reserve b.position c.args.bytes ∷ [] in let e = c.in-Some-try_reserve-3.ensures in (
-      b,
-      c.prove_shared_opening-in-loop-bucket.ensures,
-      record {
-        event = since_trans p c.args.pass.now.notes c.loop-bucket.pass.notes after own i.3 (subst (λ (q : ℕ). Since q c.loop-bucket.pass.notes after own) i.2.0 e.event);
-        note = subst (λ (q : ℕ). IsNoteOf q after (Reserve b.position c.args.bytes) b.site) i.2.0 e.note;
-        range = e.range;
-      },
-    )
+pub returns-clause-same : goal.returns-clause-same
+returns-clause-same g c =
+    let first = c.reserve_in.ensures.same in let then = c.reserve_older-2.ensures.same in
+    (then.0 ∙ first.0, then.1 ∙ first.1)
+
+pub returns-clause-event : goal.returns-clause-event
+returns-clause-event g c =
+    reserved_after c.reserve_older-2.result c.args.self.now c.args.pass.now.number c.reserve_in.new.pass.number c.args.pass.now.notes c.reserve_in.new.pass.notes c.reserve_older-2.new.pass.notes c.args.bytes c.reserve_in.ensures.same.0 c.in_default-reserve_in.ensures.none c.reserve_older-2.ensures.event
+
+pub returns-clause-none : goal.returns-clause-none
+returns-clause-none g c =
+    none_after c.reserve_older-2.result c.args.pass.now.number c.reserve_in.new.pass.number c.args.pass.now.notes c.reserve_in.new.pass.notes c.reserve_older-2.new.pass.notes c.reserve_in.ensures.same.0 c.in_default-reserve_in.ensures.none c.reserve_older-2.ensures.none

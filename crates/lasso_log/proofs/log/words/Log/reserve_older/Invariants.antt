@@ -1,7 +1,7 @@
 use Rattle.std.proofs.Common.{◌≡◌, []}
 use Rattle.lasso_log.specs.Notes.{Since}
 use Rattle.lasso_log.specs.Views.{IsSamePass}
-use Rattle.lasso_log.proofs.log.words.Log.reserve_anywhere.Given as goal
+use Rattle.lasso_log.proofs.log.words.Log.reserve_older.Given as goal
 
 -- no event of its own was added yet, and the walk is over this very list
 abbrev pub invariant-loop-bucket : goal.invariant-loop-bucket
