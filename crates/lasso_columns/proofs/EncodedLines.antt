@@ -3,11 +3,11 @@
 -- The lines of the bytes are those that were cut off, followed by those of the rest. Each line that was
 -- cut off is UTF-8 and was encoded, so there is one new code for each. If nothing is left, these are all
 -- lines. Otherwise encoding ended at the next line.
-use Rattle.std.proofs.Common.{ℕ, ◌≡◌, ◌+◌, ◌-◌, List, [], ◌∷◌, ◌++◌, length, Ok, Some, IsSomeAnd, sym, ap, subst, ◌∙◌, arith, append_assoc}
+use Rattle.std.proofs.Common.{ℕ, ◌≡◌, ◌+◌, ◌-◌, List, [], ◌∷◌, ◌++◌, length, Ok, Some, IsSomeAnd, refl, sym, ap, subst, ◌∙◌, arith, append_assoc, append-nil}
 use Rattle.std.specs.Prelude.{All, slice_get}
 use Rattle.std.specs.Str.{IsUtf8}
 use Rattle.std.proofs.lemmas.List.{length_push}
-use Rattle.std.proofs.lemmas.List.Elements.{All-push}
+use Rattle.std.proofs.lemmas.List.Elements.{All-nil, All-push}
 use Rattle.lasso_parts.specs.Texts.{Text, position_of}
 use Rattle.lasso_single.specs.Intern.{InternsIn}
 use Rattle.lasso_single.specs.Interner.{InternerView}
@@ -24,6 +24,16 @@ pub record LinesSoFar (old : InternerView) (bytes : List ℕ) (before : List ℕ
   pub so_far : Encoded old done before new after
   pub texts : All IsUtf8 done
   pub counted : length done ≡ count
+
+-- no line yet: all bytes are left
+pub lines_begin : (old : InternerView) (bytes before rest : List ℕ) → rest ≡ bytes → LinesSoFar old bytes before 0 rest old before
+lines_begin old bytes before rest is = record {
+  done = [];
+  split = ap lines_of (sym is);
+  so_far = record { list = (refl, refl); codes = ([], sym (append-nil before), refl) };
+  texts = All-nil IsUtf8;
+  counted = refl;
+}
 
 -- one more line
 pub lines_push : (old mid new : InternerView) (bytes before : List ℕ) (count : ℕ) (rest : List ℕ) (codes : List ℕ) (line behind : List ℕ) (key code : ℕ) (after : List ℕ) → LinesSoFar old bytes before count rest mid codes → lines_of rest ≡ line ∷ lines_of behind → IsUtf8 line → InternsIn spur_at mid line (Ok key) new → position_of new.texts line ≡ Some code → after ≡ codes ++ code ∷ [] → LinesSoFar old bytes before (count + 1) behind new after

@@ -10,11 +10,11 @@ ghost use Rattle.lasso_input.specs.Lines.{lines_of};
 
 use crate::faults::LineError;
 use lasso::{Rodeo, Spur};
-use lasso_input::first_line;
-use lasso_encode::encode_text;
+use lasso_encode::encode_next;
+use lasso_input::{Line, Stretch};
+use lasso_single::batch::Batch;
 use std::alloc::Allocator;
 use std::hash::BuildHasher;
-use std::str::from_utf8;
 
 /// Encodes the lines of the bytes, as `encode` does texts. Each line feed ends a line and is no part of it.
 /// Bytes after the last line feed are a line too.
@@ -41,20 +41,24 @@ pub fn encode_lines<S: BuildHasher, A: Allocator + Clone>(
     ensures fault { IfErr result (IsNextFault rodeo.new codes.old.items codes.new.items (lines_of bytes.now)) }
     ensures memory { IfErr result (NextLineMayLackMemory rodeo.new codes.old.items codes.new (lines_of bytes.now)) }
 {
+    let mut batch = Batch::new();
+    let mut lines = Stretch::new(bytes);
     let mut number = 0;
-    let mut rest = bytes;
-    while let Some((line, behind)) = first_line(rest) {
+    lines.look_ahead(rodeo, &mut batch);
+    while let Some(line) = lines.next_line() {
         number += 1;
-        encode_line(rodeo, line, number, codes)?;
-        rest = behind;
+        encode_line(rodeo, &line, &mut batch, number, codes)?;
+        lines.look_ahead(rodeo, &mut batch);
     }
     Ok(())
 }
 
-// Interns the line of this number and appends its code. An error changes nothing.
+// Interns the line of this number, the next text of `batch`, and appends its code. An error changes nothing
+// else.
 fn encode_line<S: BuildHasher, A: Allocator + Clone>(
     rodeo: &mut Rodeo<Spur, S, A>,
-    line: &[u8],
+    line: &Line<'_>,
+    batch: &mut Batch,
     number: usize,
     codes: &mut Vec<u32>,
 ) -> Result<(), LineError>
@@ -63,10 +67,10 @@ fn encode_line<S: BuildHasher, A: Allocator + Clone>(
         × ((code : ℕ) × (position_of rodeo.new.texts line.now ≡ Some code) × (codes.new.items ≡ codes.old.items ++ code ∷ [])))
         (λ error. (rodeo.new ≡ rodeo.old) × (codes.new.items ≡ codes.old.items) × IsFaultOf rodeo.old line.now number error × LineMayLackMemory rodeo.old codes.new line.now error) }
 {
-    let Ok(text) = from_utf8(line) else {
+    let Ok(text) = line.text() else {
         return Err(LineError::NotText(number));
     };
-    match encode_text(rodeo, text, codes) {
+    match encode_next(rodeo, text, batch, codes) {
         Ok(()) => Ok(()),
         Err(error) => Err(LineError::Refused(number, error)),
     }

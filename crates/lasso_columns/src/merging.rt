@@ -7,7 +7,8 @@ ghost use Rattle.lasso_columns.specs.Merging.{MayLackMemoryWithRoom, MayLackMemo
 
 use lasso::index::Texts;
 use lasso::{LassoResult, Rodeo, RodeoReader, Spur};
-use lasso_encode::encode_text;
+use lasso_encode::encode_next;
+use lasso_single::batch::{Batch, TOGETHER, look_ahead};
 use std::alloc::{Allocator, Global};
 use std::hash::BuildHasher;
 
@@ -61,8 +62,30 @@ pub(crate) fn encode_list<S: BuildHasher, A: Allocator + Clone, T: BuildHasher, 
     ensures memory { IfErr result (MayLackMemoryWithRoom into.new codes.new.items from.now) }
 {
     let count = from.len();
+    let mut batch = Batch::new();
     for position in 0..count {
-        encode_text(into, from.text_at(position), codes)?;
+        if batch.is_due() {
+            look_ahead_from(from, position, into, &mut batch);
+        }
+        encode_next(into, from.text_at(position), &mut batch, codes)?;
     }
     Ok(())
+}
+
+// Looks ahead at the texts of the reader from the position on.
+#[inline(never)]
+fn look_ahead_from<S: BuildHasher, A: Allocator, T: BuildHasher, B: Allocator>(
+    from: &RodeoReader<Spur, T, B>,
+    position: usize,
+    into: &Rodeo<Spur, S, A>,
+    batch: &mut Batch,
+)
+    requires { position ≤ length from.now }
+{
+    let mut texts = [""; TOGETHER];
+    let count = TOGETHER.min(from.len() - position);
+    for i in 0..count {
+        texts[i] = from.text_at(position + i);
+    }
+    look_ahead(into, &texts[..count], batch);
 }

@@ -9,6 +9,7 @@ ghost use Rattle.lasso_counts.specs.Adding.{AddsCounts, CountsText, RefusesNew, 
 
 use crate::error::CountError;
 use lasso::{Key, LassoResult, Rodeo, Spur};
+use lasso_single::batch::{Batch, intern_next, look_ahead};
 use std::alloc::Allocator;
 use std::hash::BuildHasher;
 
@@ -45,14 +46,40 @@ pub fn count_text<S: BuildHasher, A: Allocator + Clone>(
     ensures refused { IfErr result (IsRefused rodeo.old text.now) }
     ensures memory { IfErr result (RefusesNew rodeo.old counts.new text.now) }
 {
-    add_text(rodeo, text, counts)?;
+    count_next(rodeo, text, &mut Batch::new(), counts)
+}
+
+/// `count_text` for the next text of a batch: the texts are those of a walk, and the caller keeps the batch
+/// from one to the next (`lasso_single::batch`).
+#[inline(always)]
+pub fn count_next<S: BuildHasher, A: Allocator + Clone>(
+    rodeo: &mut Rodeo<Spur, S, A>,
+    text: &str,
+    batch: &mut Batch,
+    counts: &mut Vec<u64>,
+) -> LassoResult<()>
+    requires lengths { vec_len counts.old ≡ length rodeo.old.texts }
+    requires fits { sum counts.old.items < 2 ^ 64 - 1 }
+    ensures interns { OnOk result ((key : ℕ) × InternsIn {K = ℕ} spur_at rodeo.old text.now (Ok key) rodeo.new) }
+    ensures step { OnOk result (counts.new.items ≡ counted counts.old.items (position_of rodeo.old.texts text.now)) }
+    ensures lengths { vec_len counts.new ≡ length rodeo.new.texts }
+    ensures counts { OnOk result ((texts : List Text) → AreCounts texts rodeo.old.texts counts.old.items → AreCounts (texts ++ text.now ∷ []) rodeo.new.texts counts.new.items) }
+    ensures total { OnOk result (sum counts.new.items ≡ sum counts.old.items + 1) }
+    ensures kept { OnErr result (rodeo.new ≡ rodeo.old) }
+    ensures kept_counts { OnErr result (counts.new.items ≡ counts.old.items) }
+    ensures refused { IfErr result (IsRefused rodeo.old text.now) }
+    ensures memory { IfErr result (RefusesNew rodeo.old counts.new text.now) }
+{
+    add_text(rodeo, text, batch, counts)?;
     Ok(())
 }
 
-// Interns and counts the text. Only a new text needs room for a count.
+// Interns and counts the next text of the batch. Only a new text needs room for a count.
+#[inline(always)]
 fn add_text<S: BuildHasher, A: Allocator + Clone>(
     rodeo: &mut Rodeo<Spur, S, A>,
     text: &str,
+    batch: &mut Batch,
     counts: &mut Vec<u64>,
 ) -> LassoResult<()>
     requires lengths { vec_len counts.old ≡ length rodeo.old.texts }
@@ -60,20 +87,23 @@ fn add_text<S: BuildHasher, A: Allocator + Clone>(
     ensures { CountsText rodeo.old counts.old text.now result rodeo.new counts.new }
 {
     if counts.len() < counts.capacity() {
-        return add_in_room(rodeo, text, counts);
+        return add_in_room(rodeo, text, batch, counts);
     }
     let Some(key) = rodeo.get(text) else {
         counts.reserve(1)?;
-        return add_in_room(rodeo, text, counts);
+        return add_in_room(rodeo, text, batch, counts);
     };
+    batch.skip();
     counts[key.into_usize()] += 1;
     Ok(())
 }
 
-// Interns and counts the text. There must be room for a count.
+// Interns and counts the next text of the batch. There must be room for a count.
+#[inline(always)]
 fn add_in_room<S: BuildHasher, A: Allocator + Clone>(
     rodeo: &mut Rodeo<Spur, S, A>,
     text: &str,
+    batch: &mut Batch,
     counts: &mut Vec<u64>,
 ) -> LassoResult<()>
     requires lengths { vec_len counts.old ≡ length rodeo.old.texts }
@@ -81,7 +111,7 @@ fn add_in_room<S: BuildHasher, A: Allocator + Clone>(
     requires room { vec_len counts.old < vec_capacity counts.old }
     ensures { CountsText rodeo.old counts.old text.now result rodeo.new counts.new }
 {
-    let key = rodeo.try_get_or_intern(text)?;
+    let key = intern_next(rodeo, text, batch)?;
     add_one(counts, key.into_usize());
     Ok(())
 }
@@ -113,8 +143,12 @@ pub fn count_texts<S: BuildHasher, A: Allocator + Clone>(
     ensures refused { IfErr result (λ error. IsSomeAnd (slice_get (map (λ t. t.now) texts.now) error.position) (λ text. IsRefused rodeo.new text error.error)) }
     ensures memory { IfErr result (λ error. IsSomeAnd (slice_get (map (λ t. t.now) texts.now) error.position) (λ text. RefusesNew rodeo.new counts.new text error.error)) }
 {
+    let mut batch = Batch::new();
     for position in 0..texts.len() {
-        if let Err(error) = count_text(rodeo, texts[position], counts) {
+        if batch.is_due() {
+            look_ahead(rodeo, &texts[position..], &mut batch);
+        }
+        if let Err(error) = count_next(rodeo, texts[position], &mut batch, counts) {
             return Err(CountError { position, error });
         }
     }

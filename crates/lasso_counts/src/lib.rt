@@ -15,7 +15,7 @@ mod error;
 mod parts;
 mod ranking;
 
-pub use counting::{count_text, count_texts};
+pub use counting::{count_next, count_text, count_texts};
 pub use error::CountError;
 pub use parts::count_in_parts;
 pub use ranking::{Ranked, by_frequency};

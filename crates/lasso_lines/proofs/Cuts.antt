@@ -1,15 +1,14 @@
 -- The bytes of a stretch, cut at their first line feed.
 --
--- If the search finds a line feed, the bytes are the end of a line, the feed, and the rest. So by the
--- definition of the report, the answer to the line leads from the bytes to the rest, whatever follows. If
--- the search finds none, no line is answered, and all bytes are held.
-use Rattle.std.proofs.Common.{ℕ, ◌≡◌, ◌+◌, ◌<◌, Ok, Err, List, [], ◌∷◌, ◌++◌, length, take, drop, Some, ap, sym, subst, ◌∙◌, refl, arith, append_assoc}
-use Rattle.memchr.specs.Find.{IsFirstByte, is_byte}
+-- If a line feed is found, the bytes are the end of a line, the feed, and the rest. So by the definition of
+-- the report, the answer to the line leads from the bytes to the rest, whatever follows. If none is found, no
+-- line is answered, and all bytes are held.
+use Rattle.std.proofs.Common.{ℕ, ◌≡◌, ◌+◌, ◌<◌, Ok, Err, List, [], ◌∷◌, ◌++◌, length, ap, sym, subst, ◌∙◌, refl, arith, append_assoc}
 use Rattle.lasso_lines.specs.Stretch.{LeadsTo, FailsWith}
 use Rattle.lasso_parts.specs.Held.{Held}
 use Rattle.lasso_parts.specs.declared.util.LassoErrorKind.TheVariants.{FailedAllocation}
 use Rattle.lasso_input.specs.Lines.{lines_of, NoFeed}
-use Rattle.lasso_input.proofs.FirstLines.{Cut, cut_at, no_feed_both, lines_cut}
+use Rattle.lasso_input.proofs.FirstLines.{no_feed_both, lines_cut}
 use Rattle.lasso_lines.specs.Report.{after_line, line_report, EndsFrom}
 use Rattle.lasso_lines.specs.Answer.{LineFails, no_memory}
 use Rattle.lasso_lines.specs.declared.fault.RunFault.{RunFault}
@@ -40,16 +39,12 @@ pub fails_then : (before mid : Held) (first second : ℕ) (bytes rest p q : List
 fails_then before mid first second bytes rest p q fault one two = λ later. one later q (Err fault) (two later)
 
 -- the line that ends at the first line feed
-module _ (held : Held) (number : ℕ) (begun bytes end behind : List ℕ) (at : ℕ) (none : NoFeed begun) (found : IsFirstByte (is_byte 10) bytes (Some at)) (end_is : end ≡ take at bytes) (behind_is : behind ≡ drop (at + 1) bytes) where
-  cut : Cut bytes at
-  cut = cut_at bytes at found
-
+module _ (held : Held) (number : ℕ) (begun bytes end behind : List ℕ) (none : NoFeed begun) (cut : NoFeed end × (bytes ≡ end ++ 10 ∷ behind)) where
   lines_are : (later : List ℕ) → lines_of ((begun ++ bytes) ++ later) ≡ (begun ++ end) ∷ lines_of (behind ++ later)
   lines_are later =
-      let split : bytes ≡ end ++ 10 ∷ behind = cut.bytes_are ∙ ap (λ bs. bs ++ 10 ∷ drop (at + 1) bytes) (sym end_is) ∙ ap (λ bs. end ++ 10 ∷ bs) (sym behind_is) in
-      let whole : begun ++ bytes ≡ (begun ++ end) ++ 10 ∷ behind = ap (λ bs. begun ++ bs) split ∙ sym (append_assoc begun end (10 ∷ behind)) in
+      let whole : begun ++ bytes ≡ (begun ++ end) ++ 10 ∷ behind = ap (λ bs. begun ++ bs) cut.1 ∙ sym (append_assoc begun end (10 ∷ behind)) in
       let joined : (begun ++ bytes) ++ later ≡ (begun ++ end) ++ 10 ∷ (behind ++ later) = ap (λ bs. bs ++ later) whole ∙ append_assoc (begun ++ end) (10 ∷ behind) later in
-      ap lines_of joined ∙ lines_cut (begun ++ end) (behind ++ later) (no_feed_both begun end none (subst NoFeed (sym end_is) cut.no_feed))
+      ap lines_of joined ∙ lines_cut (begun ++ end) (behind ++ later) (no_feed_both begun end none cut.0)
 
   -- its answer is written
   pub leads_line : (after : Held) (reply : List ℕ) → 0 < number → (after_line held number (begun ++ end) ≡ Ok after) × (reply ≡ line_report held (begun ++ end)) → LeadsTo held number (begun ++ bytes) after (number + 1) behind reply

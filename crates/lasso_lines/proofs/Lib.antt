@@ -7,7 +7,6 @@ pub mod Cuts
 pub mod Numbers
 pub mod Settings
 pub mod Buffers
-pub mod Tested
 pub mod Fronts
 pub mod Sorted
 pub mod Chosen

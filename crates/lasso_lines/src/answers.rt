@@ -1,5 +1,5 @@
 //! Writes the report: an answer to each line, and the counts at the end.
-ghost use Rattle.std.specs.Prelude.{◌≡◌, ℕ, ◌+◌, ◌++◌, ◌∷◌, [], IfErr, MatchResult, IsTrue, IsUtf8, decimal};
+ghost use Rattle.std.specs.Prelude.{◌≡◌, ℕ, ◌+◌, ◌++◌, ◌∷◌, [], IfErr, decimal};
 ghost use Rattle.lasso_lines.specs.Stream.{Grows, OnlyGrows, written};
 ghost use Rattle.lasso_lines.specs.Report.{holding, first_bytes, last_report};
 ghost use Rattle.lasso_lines.specs.Answer.{AnswersLine, WritesAll, IsAnswerFault, failed_writes};
@@ -8,25 +8,25 @@ ghost use Rattle.lasso_lines.specs.declared.fault.RunFault.TheVariants.{WriteFai
 use crate::fault::RunFault;
 use crate::stream::ByteWriter;
 use itoa::{Buffer, write_digits};
+use lasso_input::Line;
 use lasso_parts::keys::{Key, Spur};
 use lasso_parts::util::FixedState;
+use lasso_single::batch::{Batch, intern_next};
 use lasso_single::rodeo::Rodeo;
 use std::alloc::Global;
-use std::str::{Utf8Error, from_utf8, from_utf8_unchecked};
 
 pub(crate) type LineRodeo = Rodeo<Spur, FixedState, Global>;
 
-// Interns the line and writes its answer: the position of its text, a space, the line and a line feed.
-// `is_text`: the caller has checked that `line` is UTF-8. `number` is the line's, for the fault. The
-// interner's first bucket must have 4096 bytes.
+// Interns the line and writes its answer: the position of its text, a space, the line and a line feed. It is
+// the next text of `batch`. `number` is the line's, for the fault. The interner's first bucket must have 4096
+// bytes.
 pub(crate) fn answer_line<O: ByteWriter>(
     rodeo: &mut LineRodeo,
-    line: &[u8],
-    is_text: bool,
+    line: &Line<'_>,
+    batch: &mut Batch,
     number: u64,
     writer: &mut O,
 ) -> Result<(), RunFault>
-    requires text { IsTrue is_text → IsUtf8 line.now }
     requires first { rodeo.old.first ≡ first_bytes }
     ensures first { rodeo.new.first ≡ first_bytes }
     ensures failures { O.failures writer.new ≡ O.failures writer.old + failed_writes result }
@@ -35,25 +35,13 @@ pub(crate) fn answer_line<O: ByteWriter>(
         (λ part. AnswersLine (holding rodeo.old.texts rodeo.old.account) number line.now result (holding rodeo.new.texts rodeo.new.account) part) }
     ensures faults { IfErr result IsAnswerFault }
 {
-    let Ok(text) = line_text(line, is_text) else {
+    let Ok(text) = line.text() else {
         return Err(RunFault::NotText(number));
     };
-    match rodeo.try_get_or_intern(text) {
-        Ok(key) => write_answer(writer, key.into_usize(), line),
+    match intern_next(rodeo, text, batch) {
+        Ok(key) => write_answer(writer, key.into_usize(), line.bytes()),
         Err(error) => Err(RunFault::Refused(number, error)),
     }
-}
-
-// The line as a `str`, or an error if it is not UTF-8. Not checked again if `is_text`.
-#[inline]
-fn line_text(line: &[u8], is_text: bool) -> Result<&str, Utf8Error>
-    requires { IsTrue is_text → IsUtf8 line.now }
-    ensures cases { MatchResult result (λ text. (text.now ≡ line.now) × IsUtf8 line.now) (λ _. ¬ (IsUtf8 line.now)) }
-{
-    if is_text {
-        return Ok(unsafe { from_utf8_unchecked(line) });
-    }
-    from_utf8(line)
 }
 
 // Writes the position, a space, the line and a line feed.

@@ -10,8 +10,7 @@ ghost use Rattle.lasso_parts.specs.declared.util.LassoErrorKind.TheVariants.{Fai
 use crate::fault::RunFault;
 use crate::stream::ByteReader;
 use crate::stretches::{hold, next_number};
-use lasso_input::{after_newline, find_newline};
-use std::str::from_utf8;
+use lasso_input::{Line, Stretch};
 use std::sync::Wait;
 
 // Reads to the end of the input and appends its bytes to `input`. Out of memory is reported as line 0.
@@ -62,32 +61,27 @@ pub(crate) fn cut<'a, R: AllocGlobal + Wait>(
     ensures texts { OnOk result (AreTexts (lines_of input.now)) }
     ensures lines { IfOk result (λ lines. map (λ t. t.now) lines.items ≡ lines_of input.now) }
 {
-    let mut lines = Vec::new(rt.alloc());
+    let mut texts = Vec::new(rt.alloc());
+    let mut lines = Stretch::new(input);
     let mut number = 1u64;
-    let mut rest = input;
-    while let Some(at) = find_newline(rest) {
-        push_line(&mut lines, &rest[..at], number)?;
+    while let Some(line) = lines.next_line() {
+        push_line(&mut texts, &line, number)?;
         number = next_number(rt, number);
-        rest = after_newline(rest, at);
     }
-    if rest.is_empty() {
-        return Ok(lines);
-    }
-    push_line(&mut lines, rest, number)?;
-    Ok(lines)
+    Ok(texts)
 }
 
 // Appends the line of this number. Returns `NotText` if it is not UTF-8.
 #[inline]
-fn push_line<'a>(lines: &mut Vec<&'a str>, line: &'a [u8], number: u64) -> Result<(), RunFault>
+fn push_line<'a>(texts: &mut Vec<&'a str>, line: &Line<'a>, number: u64) -> Result<(), RunFault>
     ensures fault { IfErr result (λ fault. ((fault ≡ NotText number) × ¬ (IsUtf8 line.now)) ⊎ (fault ≡ Refused number FailedAllocation)) }
     ensures text { OnOk result (IsUtf8 line.now) }
-    ensures line { OnOk result (map (λ t. t.now) lines.new.items ≡ map (λ t. t.now) lines.old.items ++ line.now ∷ []) }
+    ensures line { OnOk result (map (λ t. t.now) texts.new.items ≡ map (λ t. t.now) texts.old.items ++ line.now ∷ []) }
 {
-    let Ok(text) = from_utf8(line) else {
+    let Ok(text) = line.text() else {
         return Err(RunFault::NotText(number));
     };
-    match lines.push(text) {
+    match texts.push(text) {
         Ok(()) => Ok(()),
         Err(_) => Err(RunFault::no_memory(number)),
     }

@@ -9,7 +9,9 @@ use crate::answers::{LineRodeo, answer_counts, answer_line};
 use crate::fault::RunFault;
 use crate::stream::{ByteReader, ByteWriter};
 use crate::stretches::answer_stretch;
+use lasso_input::Line;
 use lasso_parts::util::{Capacity, MemoryLimits};
+use lasso_single::batch::Batch;
 use lasso_single::rodeo::Rodeo;
 use std::sync::Wait;
 
@@ -68,10 +70,13 @@ fn answer_input<R: AllocGlobal + Wait, I: ByteReader, O: ByteWriter>(
         Err(error) => return Err(RunFault::Refused(0, error)),
     };
     let mut begun = Vec::new(rt.alloc());
+    let mut batch = Batch::new();
     let mut number = 1u64;
     'stretches: for _ in rt.forever() {
         let buffer = reader.buffer();
-        number = answer_stretch(rt, &mut rodeo, &mut begun, buffer, number, writer)?;
+        number = answer_stretch(
+            rt, &mut rodeo, &mut batch, &mut begun, buffer, number, writer,
+        )?;
         let count = buffer.len();
         reader.consume(count);
         ask_for_more(reader, writer)?;
@@ -120,7 +125,13 @@ fn answer_end<O: ByteWriter>(
     if line.is_empty() {
         return answer_counts(rodeo, writer);
     }
-    answer_line(rodeo, line, false, number, writer)?;
+    answer_line(
+        rodeo,
+        &Line::untested(line),
+        &mut Batch::new(),
+        number,
+        writer,
+    )?;
     answer_counts(rodeo, writer)
 }
 

@@ -1,5 +1,5 @@
 //! Writes the answers to the lines of a stretch: the bytes in a reader's buffer at one time.
-ghost use Rattle.std.specs.Prelude.{◌≡◌, ℕ, ◌+◌, ◌-◌, ◌<◌, ◌++◌, [], OnOk, IfOk, IfErr, MatchResult, IsUtf8, length, take};
+ghost use Rattle.std.specs.Prelude.{◌≡◌, ℕ, ◌+◌, ◌<◌, ◌++◌, [], OnOk, IfOk, IfErr, MatchResult, length};
 ghost use Rattle.lasso_lines.specs.Stream.{Grows, OnlyGrows, written};
 ghost use Rattle.lasso_lines.specs.Report.{holding, first_bytes};
 ghost use Rattle.lasso_lines.specs.Answer.{AnswersLine, IsAnswerFault, failed_writes};
@@ -11,8 +11,8 @@ ghost use Rattle.lasso_parts.specs.declared.util.LassoErrorKind.TheVariants.{Fai
 use crate::answers::{LineRodeo, answer_line};
 use crate::fault::RunFault;
 use crate::stream::ByteWriter;
-use lasso_input::{after_newline, find_newline};
-use std::str::from_utf8;
+use lasso_input::{Line, Stretch};
+use lasso_single::batch::Batch;
 use std::sync::Wait;
 
 // Writes the answers to the lines that end in the buffer. The first one has the number `number` and begins
@@ -21,6 +21,7 @@ use std::sync::Wait;
 pub(crate) fn answer_stretch<R: Wait, O: ByteWriter>(
     rt: &R,
     rodeo: &mut LineRodeo,
+    batch: &mut Batch,
     begun: &mut Vec<u8>,
     buffer: &[u8],
     number: u64,
@@ -40,28 +41,30 @@ pub(crate) fn answer_stretch<R: Wait, O: ByteWriter>(
     ensures counted { IfOk result (λ next. 0 < next) }
     ensures faults { IfErr result IsAnswerFault }
 {
+    let mut lines = Stretch::new(buffer);
     if begun.is_empty() {
-        let (next, last) = answer_lines(rt, rodeo, buffer, number, writer)?;
+        let (next, last) = answer_lines(rt, rodeo, batch, lines, number, writer)?;
         hold(begun, last, next)?;
         return Ok(next);
     }
-    let Some(at) = find_newline(buffer) else {
+    let Some(end) = lines.next_ended() else {
         hold(begun, buffer, number)?;
         return Ok(number);
     };
-    answer_held(rodeo, begun, &buffer[..at], number, writer)?;
+    answer_held(rodeo, batch, begun, end.bytes(), number, writer)?;
     let second = next_number(rt, number);
-    let (next, last) = answer_lines(rt, rodeo, after_newline(buffer, at), second, writer)?;
+    let (next, last) = answer_lines(rt, rodeo, batch, lines, second, writer)?;
     hold(begun, last, next)?;
     Ok(next)
 }
 
-// Writes the answers to the lines that end in the stretch. The stretch begins with a line of this number.
-// Returns the number of the line after them, and the bytes that the stretch has of it.
+// Writes the answers to the lines that end in the stretch, which begins with a line of this number. Returns the
+// number of the line after them, and the bytes that the stretch has of it.
 fn answer_lines<'a, R: Wait, O: ByteWriter>(
     rt: &R,
     rodeo: &mut LineRodeo,
-    stretch: &'a [u8],
+    batch: &mut Batch,
+    stretch: Stretch<'a>,
     number: u64,
     writer: &mut O,
 ) -> Result<(u64, &'a [u8]), RunFault>
@@ -72,37 +75,21 @@ fn answer_lines<'a, R: Wait, O: ByteWriter>(
     ensures delivered { OnlyGrows (O.delivered writer.old) (O.delivered writer.new) }
     ensures answers { Grows (written (O.delivered writer.old) (O.pending writer.old)) (written (O.delivered writer.new) (O.pending writer.new))
         (λ part. MatchResult result
-        (λ r. LeadsTo (holding rodeo.old.texts rodeo.old.account) number stretch.now (holding rodeo.new.texts rodeo.new.account) r.0 r.1.now part)
-        (λ fault. FailsWith (holding rodeo.old.texts rodeo.old.account) number stretch.now part fault)) }
+        (λ r. LeadsTo (holding rodeo.old.texts rodeo.old.account) number stretch.entry (holding rodeo.new.texts rodeo.new.account) r.0 r.1.now part)
+        (λ fault. FailsWith (holding rodeo.old.texts rodeo.old.account) number stretch.entry part fault)) }
     ensures no_feed { IfOk result (λ r. NoFeed r.1.now) }
     ensures counted { IfOk result (λ r. 0 < r.0) }
     ensures faults { IfErr result IsAnswerFault }
 {
-    let untested = untested_len(stretch);
+    let mut lines = stretch;
     let mut number = number;
-    let mut rest = stretch;
-    while let Some(at) = find_newline(rest) {
-        let line = &rest[..at];
-        let is_text = untested < rest.len() - at;
-        answer_line(rodeo, line, is_text, number, writer)?;
+    lines.look_ahead(rodeo, batch);
+    while let Some(line) = lines.next_ended() {
+        answer_line(rodeo, &line, batch, number, writer)?;
         number = next_number(rt, number);
-        rest = after_newline(rest, at);
+        lines.look_ahead(rodeo, batch);
     }
-    Ok((number, rest))
-}
-
-// How many bytes at the end are not known to be UTF-8. All bytes before them are. Tests for ASCII first,
-// which is faster.
-fn untested_len(bytes: &[u8]) -> usize
-    ensures { IsUtf8 (take (length bytes.now - result) bytes.now) }
-{
-    if bytes.is_ascii() {
-        return 0;
-    }
-    match from_utf8(bytes) {
-        Ok(_) => 0,
-        Err(error) => bytes.len() - error.valid_up_to(),
-    }
+    Ok((number, lines.rest()))
 }
 
 // The number of the next line. Loops forever at the greatest number, which no run reaches.
@@ -131,6 +118,7 @@ pub(crate) fn hold(begun: &mut Vec<u8>, bytes: &[u8], number: u64) -> Result<(),
 // Writes the answer to the line made of `begun` and `end`, and then empties `begun`.
 fn answer_held<O: ByteWriter>(
     rodeo: &mut LineRodeo,
+    batch: &mut Batch,
     begun: &mut Vec<u8>,
     end: &[u8],
     number: u64,
@@ -146,7 +134,7 @@ fn answer_held<O: ByteWriter>(
     ensures emptied { OnOk result (begun.new.items ≡ []) }
 {
     hold(begun, end, number)?;
-    answer_line(rodeo, begun, false, number, writer)?;
+    answer_line(rodeo, &Line::untested(begun), batch, number, writer)?;
     begun.clear();
     Ok(())
 }

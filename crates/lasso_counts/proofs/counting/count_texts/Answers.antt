@@ -13,7 +13,7 @@ pub loop-position-preserved : goal.loop-position-preserved
 loop-position-preserved g c =
     let told = c.in_default.ensures in
     let at = c.loop-position in
-    let now = c.count_text.new in
+    let now = c.count_next.new in
     let more = texts_more c.args.texts.now at.position _ c.loop-position-test.true in
     let list = extend_push spur_at c.args.rodeo.now at.rodeo now.rodeo _ _ (Ok told.interns.0) accepted at.invariant.list told.interns.1 refl in
     let counts = adds_push _ c.args.rodeo.now.texts at.rodeo.texts now.rodeo.texts c.args.counts.now.items at.counts.items now.counts.items _ at.invariant.counts told.step (list_interned spur_at at.rodeo now.rodeo _ told.interns.0 told.interns.1) in

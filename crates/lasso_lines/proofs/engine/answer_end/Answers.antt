@@ -1,4 +1,4 @@
-use Rattle.std.proofs.Common.{arith}
+use Rattle.std.proofs.Common.{ℕ, ◌<◌, List, length, sym, subst, arith}
 use Rattle.std.proofs.lemmas.Grind.{common_steps}
 use Rattle.std.proofs.lemmas.Result.{err_from_is_err_and}
 use Rattle.lasso_lines.specs.Report.{holding}
@@ -16,13 +16,17 @@ pub returns-in_err-answer_line-clause-answers : goal.returns-in_err-answer_line-
 returns-in_err-answer_line-clause-answers g c =
     let p = err_from_is_err_and c.from_residual.result c.from_residual.ensures.1 in
     let before = holding c.args.rodeo.now.texts c.args.rodeo.now.account in
-    rw (p.1, p.2) (grows_as _ _ _ _ c.in_err-answer_line.ensures.answers (λ part fails. last_fails before c.args.number c.args.line.now part _ (grind (arith, common_steps)) fails))
+    let filled : 0 < length c.args.line.now = grind (arith, common_steps) in
+    let some : 0 < length c.untested.result = subst (λ (l : List ℕ). 0 < length l) (sym c.untested.ensures) filled in
+    rw (p.1, p.2, sym c.untested.ensures) (grows_as _ _ _ _ c.in_err-answer_line.ensures.answers (λ part fails. last_fails before c.args.number c.untested.result part _ some fails))
 
 pub returns-clause-answers : goal.returns-clause-answers
 returns-clause-answers g c =
     let before = holding c.args.rodeo.now.texts c.args.rodeo.now.account in
     let after = holding c.answer_line.new.rodeo.texts c.answer_line.new.rodeo.account in
-    grows_then _ _ _ _ _ _ c.in_ok-answer_line.ensures.answers c.answer_counts-2.ensures.bytes (λ part more answered wrote. last_then before after c.args.number c.args.line.now _ part more (grind (arith, common_steps)) answered wrote)
+    let filled : 0 < length c.args.line.now = grind (arith, common_steps) in
+    let some : 0 < length c.untested.result = subst (λ (l : List ℕ). 0 < length l) (sym c.untested.ensures) filled in
+    rw (sym c.untested.ensures) (grows_then _ _ _ _ _ _ c.in_ok-answer_line.ensures.answers c.answer_counts-2.ensures.bytes (λ part more answered wrote. last_then before after c.args.number c.untested.result _ part more some answered wrote))
 
 pub returns-then-is_empty-clause-failures : goal.returns-then-is_empty-clause-failures
 returns-then-is_empty-clause-failures g c = c.answer_counts.ensures.failures

@@ -32,7 +32,7 @@ returns-in_err-hold-clause-faults g c =
 pub returns-in_err-answer_line-clause-answers : goal.returns-in_err-answer_line-clause-answers
 returns-in_err-answer_line-clause-answers g c =
     let p = err_from_is_err_and c.from_residual-in_err-answer_line.result c.from_residual-in_err-answer_line.ensures.1 in
-    let whole : c.deref.result.now ≡ c.args.begun.now.items ++ c.args.end.now = c.deref.ensures.value ∙ c.in_ok-hold.ensures.held in
+    let whole : c.untested.result ≡ c.args.begun.now.items ++ c.args.end.now = c.untested.ensures ∙ c.deref.ensures.value ∙ c.in_ok-hold.ensures.held in
     rw (p.1, p.2, ← whole) c.in_err-answer_line.ensures.answers
 
 pub returns-in_err-answer_line-clause-first : goal.returns-in_err-answer_line-clause-first
@@ -54,7 +54,7 @@ returns-in_err-answer_line-clause-faults g c =
 -- its answer is written
 pub returns-clause-answers : goal.returns-clause-answers
 returns-clause-answers g c =
-    let whole : c.deref.result.now ≡ c.args.begun.now.items ++ c.args.end.now = c.deref.ensures.value ∙ c.in_ok-hold.ensures.held in
+    let whole : c.untested.result ≡ c.args.begun.now.items ++ c.args.end.now = c.untested.ensures ∙ c.deref.ensures.value ∙ c.in_ok-hold.ensures.held in
     rw (← whole) c.in_ok-answer_line.ensures.answers
 
 pub returns-clause-first : goal.returns-clause-first

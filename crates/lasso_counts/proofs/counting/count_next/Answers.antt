@@ -1,6 +1,6 @@
 use Rattle.std.proofs.Common.{◌∙◌, sym}
 use Rattle.lasso_counts.proofs.Counted.{one_more_counted, one_more_lengths, one_more_total}
-use Rattle.lasso_counts.proofs.counting.count_text.Goals as goal
+use Rattle.lasso_counts.proofs.counting.count_next.Goals as goal
 
 pub returns-clause-lengths : goal.returns-clause-lengths
 returns-clause-lengths g c =
