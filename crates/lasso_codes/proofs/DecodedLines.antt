@@ -165,7 +165,7 @@ module _ (input : List ℕ) (limit : ℕ) (null : Option Text) (rest : List ℕ)
   columns_end none = (way.count, way.lines, subst (λ bs. Reads null way.count input way.lines bs) none way.reads, way.admits, way.part_is)
 
   whole_so_far : IsWhole input limit null part
-  whole_so_far = (way.count, way.lines, rest, way.reads, way.admits, (0, way.part_is ∙ ap fed_lines (sym (append-nil way.lines))))
+  whole_so_far = (way.count, way.lines, rest, way.reads, way.admits, (0, λ some. absurd (omega (arith, some)), way.part_is ∙ ap fed_lines (sym (append-nil way.lines))))
 
   -- there are more columns than `usize` can number
   pub columns_many : 2 ^ 64 - 1 ≤ column → DecodeEnd input limit null part (Err TooManyLines)
@@ -214,8 +214,8 @@ module _ (input : List ℕ) (limit : ℕ) (null : Option Text) (rest : List ℕ)
         subst (λ f. DecodeEnd input limit null part (Err f)) (sym is.1) (way.count, way.lines, rest, way.reads, way.admits, sym way.counted, told.0, no_lines is.0 told.1)
 
   -- not all lines of the column are written
-  some_lines : (read : ReadItems Text) (more : List ℕ) (m : ℕ) → decoded null rest ≡ read → more ≡ fed_lines (take m read.0) → IsWhole input limit null (part ++ more)
-  some_lines read more m is written = (
+  some_lines : (read : ReadItems Text) (more : List ℕ) (m : ℕ) → Admits limit (texts_at rest) → decoded null rest ≡ read → more ≡ fed_lines (take m read.0) → IsWhole input limit null (part ++ more)
+  some_lines read more m texts is written = (
     way.count,
     way.lines,
     rest,
@@ -223,6 +223,7 @@ module _ (input : List ℕ) (limit : ℕ) (null : Option Text) (rest : List ℕ)
     way.admits,
     (
       m,
+      λ some. texts,
       ap (λ bs. bs ++ more) way.part_is ∙ ap (λ bs. fed_lines way.lines ++ bs) (written ∙ ap (λ (r : ReadItems Text). fed_lines (take m r.0)) (sym is))
           ∙ sym (fed_both way.lines (take m (decoded null rest).0)),
     ),
@@ -238,9 +239,9 @@ module _ (input : List ℕ) (limit : ℕ) (null : Option Text) (rest : List ℕ)
   entry_lines error is = refl
 
   pub columns_lines_fail : (read : ReadItems Text) (more : List ℕ) (error : RunError) → Admits limit (texts_at rest) → decoded null rest ≡ read → DecodingError read column more error → DecodeEnd input limit null (part ++ more) (Err error)
-  columns_lines_fail read more (Line error) texts is told = (told.0, some_lines read more told.1.0 is told.1.1)
+  columns_lines_fail read more (Line error) texts is told = (told.0, some_lines read more told.1.0 texts is told.1.1)
   columns_lines_fail read more TooManyLines texts is told = absurd told
-  columns_lines_fail read more ReadFailed texts is told = some_lines read more told.0 is told.1
+  columns_lines_fail read more ReadFailed texts is told = some_lines read more told.0 texts is told.1
   columns_lines_fail read more WriteFailed texts is told = lines_begun read more is told
   columns_lines_fail read more ReaderGone texts is told = lines_begun read more is told
   columns_lines_fail read more (Column number error) texts is told = (
@@ -270,12 +271,12 @@ some_begin lines all m =
 whole_begun : (input : List ℕ) (limit : ℕ) (null : Option Text) (part : List ℕ) → IsWhole input limit null part → IsBegun input null part
 whole_begun input limit null part w =
     let all = (decoded null w.2).0 in
-    (w.0, w.1, w.2, w.3, subst (λ bs. Begins bs (fed_lines (w.1 ++ all))) (sym w.5.1) (some_begin w.1 all w.5.0))
+    (w.0, w.1, w.2, w.3, subst (λ bs. Begins bs (fed_lines (w.1 ++ all))) (sym w.5.2) (some_begin w.1 all w.5.0))
 
 end_begun : (input : List ℕ) (limit : ℕ) (null : Option Text) (part : List ℕ) (result : Result (Unit {0}) RunError) → DecodeEnd input limit null part result → IsBegun input null part
 end_begun input limit null part (Ok x) end = (end.0, end.1, [], end.2, begins_self part (fed_lines (end.1 ++ [])) (end.4 ∙ ap fed_lines (sym (append-nil end.1))))
 end_begun input limit null part (Err (Line error)) end = whole_begun input limit null part end.1
-end_begun input limit null part (Err TooManyLines) end = whole_begun input limit null part (end.0, end.1, end.2, end.3, end.4, (0, end.6 ∙ ap fed_lines (sym (append-nil end.1))))
+end_begun input limit null part (Err TooManyLines) end = whole_begun input limit null part (end.0, end.1, end.2, end.3, end.4, (0, λ some. absurd (omega (arith, some)), end.6 ∙ ap fed_lines (sym (append-nil end.1))))
 end_begun input limit null part (Err ReadFailed) end = whole_begun input limit null part end
 end_begun input limit null part (Err WriteFailed) end = end
 end_begun input limit null part (Err ReaderGone) end = end

@@ -1,7 +1,7 @@
 -- Out of memory is told only of a text that an interner would take.
 --
 -- Interning refuses a text by the limit or for lack of a key. So if it says out of memory, it did neither.
-use Rattle.std.proofs.Common.{ℕ, ◌≡◌, ◌⊎◌, Option, Some, None, Result, Ok, Err, IsOk, length, subst, inl, inr}
+use Rattle.std.proofs.Common.{ℕ, ◌≡◌, ◌⊎◌, Option, Some, None, Err, IsOk, length, subst, inl, inr}
 use Rattle.lasso_parts.specs.Account.{Account, store}
 use Rattle.lasso_parts.specs.Held.{Held}
 use Rattle.lasso_parts.specs.Texts.{Text, position_of}

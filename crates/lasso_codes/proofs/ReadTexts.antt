@@ -121,7 +121,7 @@ module _ (bytes rest : List ℕ) (position distinct : ℕ) (now : InternerView) 
       next_ahead ∙ by_tests (distinct - (position + 1)) now.texts rest left line cut true true (is_utf8-from_IsUtf8 line is.1) is.2 in
       (bad ∙ ap (λ n. Err (Doubled n)) (ap (λ n. n + 1) so_far.counted ∙ sym is.0), admitted limit number is.0 list)
   faulty limit line left (TextRefused number error) list cut is =
-      (position, is.0, small, (now.texts, rest, so_far.read, (line, left, cut, is.1, (now, list, is.2))))
+      (position, is.0, small, (now.texts, rest, so_far.read, (line, left, cut, is.1, (now, list, is.2, is.3))))
   faulty limit line left (NoEntry number) list cut is = absurd is
   faulty limit line left (NotEntry number) list cut is = absurd is
   faulty limit line left (PastTexts number) list cut is = absurd is

@@ -1,5 +1,5 @@
 -- What `decode` writes, and how it ends.
-use Rattle.std.specs.Prelude.{ℕ, zero, suc, ◌≡◌, ◌+◌, Bool, List, [], ◌++◌, take, flat_map, Option, Some, None, Result, Ok, Err, MatchResult, slice_get}
+use Rattle.std.specs.Prelude.{ℕ, zero, suc, ◌≡◌, ◌+◌, ◌<◌, Bool, List, [], ◌++◌, take, flat_map, Option, Some, None, Result, Ok, Err, MatchResult, slice_get}
 use Rattle.lasso_parts.specs.Texts.{Text}
 use Rattle.lasso_parts.specs.declared.util.LassoErrorKind.TheVariants.{FailedAllocation}
 use Rattle.lasso_input.specs.Lines.{lines_of}
@@ -79,11 +79,12 @@ WritesLines read column after part result =
 
 -- ---- how a run ends
 
--- the lines of the first n columns were written, and the first m lines of the next column
+-- the lines of the first n columns were written, and the first m lines of the next column. A new interner with
+-- this limit takes the dictionary of each
 abbrev pub IsWhole : List ℕ → ℕ → Option Text → List ℕ → Type 0
 IsWhole input limit null part =
     (n : ℕ) × (lines : List Text) × (rest : List ℕ) × Reads null n input lines rest × AdmitsEach limit null n input
-    × ((m : ℕ) × (part ≡ fed_lines (lines ++ take m (decoded null rest).0)))
+    × ((m : ℕ) × (0 < m → Admits limit (texts_at rest)) × (part ≡ fed_lines (lines ++ take m (decoded null rest).0)))
 
 -- a beginning of these lines was written
 abbrev pub IsBegun : List ℕ → Option Text → List ℕ → Type 0

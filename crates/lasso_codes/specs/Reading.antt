@@ -125,12 +125,13 @@ AddError old text number (PastTexts at) = ⊥
 AddError old text number (IsNull at) = ⊥
 AddError old text number (NotMerged error) = ⊥
 
--- the text with this number is refused by an interner with this limit that holds the texts before it
+-- the text with this number is refused by an interner with this limit that holds the texts before it. Only a
+-- text that would be taken is out of memory
 abbrev pub IsTextRefused : ℕ → ℕ → List ℕ → ℕ → LassoError → Type 0
 IsTextRefused limit distinct bytes number error =
     (n : ℕ) × (number ≡ n + 1) × (n < distinct) × ((list : List Text) × (rest : List ℕ) × (texts_from n [] bytes ≡ Ok (list, rest))
     × ((line : Text) × (left : List ℕ) × (cut_line rest ≡ Some (line, left)) × IsUtf8 line
-    × ((now : InternerView) × extend spur_at (made_with 4096 limit) list (Ok tt) now × IsRefused now line error)))
+    × ((now : InternerView) × extend spur_at (made_with 4096 limit) list (Ok tt) now × IsRefused now line error × (error ≡ FailedAllocation → IsAdmitted now line))))
 
 -- this number of texts was read, and the bytes after them are left
 abbrev pub TakesTexts : Option (List ℕ) → Option (List ℕ) → ℕ → List Text → Type 0
