@@ -23,11 +23,12 @@ use Rattle.lasso_columns.specs.declared.faults.LineError.TheVariants.{Refused}
 use Rattle.lasso_counts.specs.Counts.{AreCounts, counted_texts, ranked_cmp}
 use Rattle.lasso_codes.specs.Counts.{count_line, CountingError, CountsEnd, IsBegun}
 use Rattle.lasso_codes.specs.Errors.{IsReadError, IsWriteEnd}
+use Rattle.lasso_codes.specs.Limits.{AreTaken}
 use Rattle.lasso_codes.specs.Stages.{Counting}
 use Rattle.lasso_codes.specs.Streams.{WritesAll}
 use Rattle.lasso_codes.specs.declared.error.RunError.{RunError}
 use Rattle.lasso_codes.specs.declared.error.RunError.TheVariants.{Line, TooManyLines, ReadFailed, WriteFailed, ReaderGone, Column}
-use Rattle.lasso_codes.proofs.Taken.{taken_push, taken_all, taken_first, taken_few, taken_next}
+use Rattle.lasso_codes.proofs.Taken.{taken_push, taken_all, taken_first, taken_texts, taken_few, taken_next}
 
 -- one line more
 pub counting_push : (input rest : List ℕ) (number : ℕ) (old now after : InternerView) (counts : List ℕ) (line left counts' : List ℕ) (key : ℕ) → Counting input rest number old now counts → lines_of rest ≡ line ∷ lines_of left → IsUtf8 line → InternsIn spur_at now line (Ok key) after → ((texts : List Text) → AreCounts texts now.texts counts → AreCounts (texts ++ line ∷ []) after.texts counts') → Counting input left (number + 1) old after counts'
@@ -45,31 +46,41 @@ module _ (input rest : List ℕ) (number : ℕ) (old now : InternerView) (counts
       let all : lines_of input ≡ so_far.done = taken_all input rest number so_far.done so_far.taken none in
       (subst (λ (ls : List Text). All IsUtf8 ls) (sym all) so_far.taken.texts, subst (λ (ls : List Text). AreCounts ls now.texts counts) (sym all) so_far.counted)
 
+  pub counting_interned : rest ≡ [] → extend spur_at old (lines_of input) accepted now
+  counting_interned none = subst (λ (ls : List Text). extend spur_at old ls accepted now) (sym (taken_all input rest number so_far.done so_far.taken none)) so_far.list
+
   lines_few : length so_far.done ≤ length (lines_of input)
   lines_few = taken_few input rest number so_far.done so_far.taken
+
+  -- the first lines were interned
+  first_texts : All IsUtf8 (take (length so_far.done) (lines_of input))
+  first_texts = taken_texts input rest number so_far.done so_far.taken
+
+  first_list : (limit : ℕ) → old ≡ made_with 4096 limit → extend spur_at (made_with 4096 limit) (take (length so_far.done) (lines_of input)) accepted now
+  first_list limit made =
+      let list : extend spur_at (made_with 4096 limit) so_far.done accepted now = subst (λ (i : InternerView). extend spur_at i so_far.done accepted now) made so_far.list in
+      subst (λ (ls : List Text). extend spur_at (made_with 4096 limit) ls accepted now) (sym (taken_first input rest number so_far.done so_far.taken)) list
 
   -- there are more lines than `usize` can number
   pub counting_many : (limit : ℕ) → 2 ^ 64 - 1 ≤ number → CountingError limit (lines_of input) TooManyLines
   counting_many limit many = omega (arith, so_far.taken.counted, lines_few, many)
 
-  pub counting_read_fails : (limit : ℕ) (error : RunError) → IsReadError number error → CountingError limit (lines_of input) error
-  counting_read_fails limit (Line error) is = (length so_far.done, inr (inl (is ∙ ap (λ n. Refused n FailedAllocation) (sym so_far.taken.counted), lines_few)))
-  counting_read_fails limit TooManyLines is = absurd is
-  counting_read_fails limit ReadFailed is = tt
-  counting_read_fails limit WriteFailed is = absurd is
-  counting_read_fails limit ReaderGone is = absurd is
-  counting_read_fails limit (Column column error) is = absurd is
+  pub counting_read_fails : (limit : ℕ) (error : RunError) → old ≡ made_with 4096 limit → IsReadError number error → CountingError limit (lines_of input) error
+  counting_read_fails limit (Line error) made is =
+      (length so_far.done, inr (first_texts, (now, first_list limit made, inl (is ∙ ap (λ n. Refused n FailedAllocation) (sym so_far.taken.counted), lines_few))))
+  counting_read_fails limit TooManyLines made is = absurd is
+  counting_read_fails limit ReadFailed made is = tt
+  counting_read_fails limit WriteFailed made is = absurd is
+  counting_read_fails limit ReaderGone made is = absurd is
+  counting_read_fails limit (Column column error) made is = absurd is
 
   -- the next line is refused or not UTF-8
   pub counting_line_fails : (limit : ℕ) (line left : List ℕ) (error : LineError) → old ≡ made_with 4096 limit → lines_of rest ≡ line ∷ lines_of left → IsFaultOf now line number error → CountingError limit (lines_of input) (Line error)
   counting_line_fails limit line left error made cut is =
-      let list : extend spur_at (made_with 4096 limit) so_far.done accepted now = subst (λ (i : InternerView). extend spur_at i so_far.done accepted now) made so_far.list in
-      let first : extend spur_at (made_with 4096 limit) (take (length so_far.done) (lines_of input)) accepted now =
-      subst (λ (ls : List Text). extend spur_at (made_with 4096 limit) ls accepted now) (sym (taken_first input rest number so_far.done so_far.taken)) list in
       let faulty : IsFaultOf now line (length so_far.done + 1) error = subst (λ n. IsFaultOf now line n error) (sym so_far.taken.counted) is in
       let next : IsSomeAnd (slice_get (lines_of input) (length so_far.done)) (λ l. IsFaultOf now l (length so_far.done + 1) error) =
       subst (λ o. IsSomeAnd o (λ l. IsFaultOf now l (length so_far.done + 1) error)) (sym (taken_next input rest number so_far.done line (lines_of left) so_far.taken cut)) faulty in
-      (length so_far.done, inr (inr (now, first, next)))
+      (length so_far.done, inr (first_texts, (now, first_list limit made, inr next)))
 
 -- ---- the report
 
@@ -98,7 +109,7 @@ lines_fail see xs i d part more error small so_far written =
     (written.0, (written.1.0 ++ rest, whole ∙ ap (λ bs. bs ++ rest) (front ∙ grown) ∙ append_assoc (part ++ more) written.1.0 rest))
 
 -- a report is written, or a beginning of it
-pub report_written : (input : List ℕ) (limit top : ℕ) (ranked : List (ℕ × Text)) (part : List ℕ) (result : Result (Unit {0}) RunError) → All IsUtf8 (lines_of input) → IsPermutation (counted_texts (lines_of input)) ranked → IsSorted ranked_cmp ranked → sum_by (λ pair. pair.0) ranked ≡ length (lines_of input) → WritesAll (flat_map count_line (take top ranked)) result part → CountsEnd input limit top part result
+pub report_written : (input : List ℕ) (limit top : ℕ) (ranked : List (ℕ × Text)) (part : List ℕ) (result : Result (Unit {0}) RunError) → AreTaken limit (lines_of input) → IsPermutation (counted_texts (lines_of input)) ranked → IsSorted ranked_cmp ranked → sum_by (λ pair. pair.0) ranked ≡ length (lines_of input) → WritesAll (flat_map count_line (take top ranked)) result part → CountsEnd input limit top part result
 report_written input limit top ranked part (Ok x) texts order sorted total written = (texts, (ranked, order, sorted, total, written))
 report_written input limit top ranked part (Err (Line error)) texts order sorted total written = absurd written.0
 report_written input limit top ranked part (Err TooManyLines) texts order sorted total written = absurd written.0

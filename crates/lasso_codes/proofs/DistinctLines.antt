@@ -23,11 +23,12 @@ use Rattle.lasso_parts.specs.declared.util.LassoErrorKind.TheVariants.{FailedAll
 use Rattle.lasso_counts.proofs.Counted.{list_push}
 use Rattle.lasso_codes.specs.Distinct.{with_feed, distinct_report, passed, PassError, DistinctEnd}
 use Rattle.lasso_codes.specs.Errors.{IsReadError, IsWriteError, IsWriteEnd}
+use Rattle.lasso_codes.specs.Limits.{AreTaken}
 use Rattle.lasso_codes.specs.Stages.{OnTheWay}
 use Rattle.lasso_codes.specs.Streams.{Begins}
 use Rattle.lasso_codes.specs.declared.error.RunError.{RunError}
 use Rattle.lasso_codes.specs.declared.error.RunError.TheVariants.{Line, TooManyLines, ReadFailed, WriteFailed, ReaderGone, Column}
-use Rattle.lasso_codes.proofs.Taken.{taken_push, taken_all, taken_first, taken_few, taken_next}
+use Rattle.lasso_codes.proofs.Taken.{taken_push, taken_all, taken_first, taken_texts, taken_few, taken_next}
 
 -- ---- the report of one line more
 
@@ -85,23 +86,34 @@ module _ (input : List ℕ) (limit : ℕ) (rest : List ℕ) (number : ℕ) (now 
   number_is : length way.done + 1 ≡ number
   number_is = way.taken.counted
 
+  lines_few : length way.done ≤ length (lines_of input)
+  lines_few = taken_few input rest number way.done way.taken
+
+  -- the first lines were taken
+  first_texts : All IsUtf8 (take (length way.done) (lines_of input))
+  first_texts = taken_texts input rest number way.done way.taken
+
+  first_list : extend spur_at (made_with 4096 limit) (take (length way.done) (lines_of input)) accepted now
+  first_list = subst (λ (ls : List Text). extend spur_at (made_with 4096 limit) ls accepted now) (sym (taken_first input rest number way.done way.taken)) way.list
+
+  first_taken : AreTaken limit (take (length way.done) (lines_of input))
+  first_taken = (first_texts, (now, first_list))
+
   -- the input has ended
   pub way_ends : rest ≡ [] → DistinctEnd input limit part (Ok tt)
   way_ends none =
       let all : lines_of input ≡ way.done = taken_all input rest number way.done way.taken none in
-      (subst (λ (ls : List Text). All IsUtf8 ls) (sym all) way.taken.texts, way.part_is ∙ ap distinct_report (sym all))
-
-  lines_few : length way.done ≤ length (lines_of input)
-  lines_few = taken_few input rest number way.done way.taken
+      (subst (λ (ls : List Text). AreTaken limit ls) (sym all) (way.taken.texts, (now, way.list)), way.part_is ∙ ap distinct_report (sym all))
 
   -- there are more lines than `usize` can number
   pub way_many : 2 ^ 64 - 1 ≤ number → DistinctEnd input limit part (Err TooManyLines)
-  way_many many = (length way.done, way_first, omega (arith, number_is, many), lines_few)
+  way_many many = (length way.done, way_first, omega (arith, number_is, many), lines_few, first_taken)
 
   pub way_read_fails : (error : RunError) → IsReadError number error → DistinctEnd input limit part (Err error)
-  way_read_fails (Line error) is = (length way.done, way_first, inr (inl (is ∙ ap (λ n. Refused n FailedAllocation) (sym number_is), lines_few)))
+  way_read_fails (Line error) is =
+      (length way.done, way_first, inr (first_texts, (now, first_list, inl (is ∙ ap (λ n. Refused n FailedAllocation) (sym number_is), lines_few))))
   way_read_fails TooManyLines is = absurd is
-  way_read_fails ReadFailed is = (length way.done, way_first)
+  way_read_fails ReadFailed is = (length way.done, way_first, first_taken)
   way_read_fails WriteFailed is = absurd is
   way_read_fails ReaderGone is = absurd is
   way_read_fails (Column column error) is = absurd is
@@ -127,12 +139,10 @@ module _ (input : List ℕ) (limit : ℕ) (rest : List ℕ) (number : ℕ) (now 
   pub way_pass_fails : (line more left : List ℕ) (error : RunError) → lines_of rest ≡ line ∷ lines_of left → PassError now line number more error → DistinctEnd input limit (part ++ more) (Err error)
   way_pass_fails line more left (Line error) cut is =
       let same : part ++ more ≡ part = ap (λ bs. part ++ bs) is.0 ∙ append-nil part in
-      let so_far : extend spur_at (made_with 4096 limit) (take (length way.done) (lines_of input)) accepted now =
-      subst (λ (ls : List Text). extend spur_at (made_with 4096 limit) ls accepted now) (sym (taken_first input rest number way.done way.taken)) way.list in
       let faulty : IsFaultOf now line (length way.done + 1) error = subst (λ n. IsFaultOf now line n error) (sym number_is) is.1 in
       let next : IsSomeAnd (slice_get (lines_of input) (length way.done)) (λ l. IsFaultOf now l (length way.done + 1) error) =
       subst (λ o. IsSomeAnd o (λ l. IsFaultOf now l (length way.done + 1) error)) (sym (taken_next input rest number way.done line (lines_of left) way.taken cut)) faulty in
-      (length way.done, same ∙ way_first, inr (inr (now, so_far, next)))
+      (length way.done, same ∙ way_first, inr (first_texts, (now, first_list, inr next)))
   way_pass_fails line more left TooManyLines cut is = absurd is
   way_pass_fails line more left ReadFailed cut is = absurd is
   way_pass_fails line more left WriteFailed cut is = passed_begins line more (lines_of left) cut is

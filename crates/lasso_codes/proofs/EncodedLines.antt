@@ -27,12 +27,13 @@ use Rattle.lasso_columns.specs.declared.faults.LineError.TheVariants.{Refused}
 use Rattle.lasso_codes.specs.Columns.{is_null, texts_of, dictionary_of, entry_of, entry_at, column_of, column_bytes}
 use Rattle.lasso_codes.specs.Encode.{IsNumberedAs, IsNumbered, AreNumbered, AreCodable, EncodingError, EncodeEnd}
 use Rattle.lasso_codes.specs.Errors.{IsReadError, IsWriteEnd}
+use Rattle.lasso_codes.specs.Limits.{Admits}
 use Rattle.lasso_codes.specs.Stages.{IsEntryAs, AreEntries, Encoding}
 use Rattle.lasso_codes.specs.Streams.{Begins, WritesAll}
 use Rattle.lasso_codes.specs.declared.error.RunError.{RunError}
 use Rattle.lasso_codes.specs.declared.error.RunError.TheVariants.{Line, TooManyLines, ReadFailed, WriteFailed, ReaderGone, Column}
 use Rattle.lasso_codes.proofs.FewTexts.{few_texts}
-use Rattle.lasso_codes.proofs.Taken.{taken_push, taken_all, taken_first, taken_few, taken_next}
+use Rattle.lasso_codes.proofs.Taken.{taken_push, taken_all, taken_first, taken_texts, taken_few, taken_next}
 
 -- ---- numbers of lines
 
@@ -129,53 +130,64 @@ module _ (input rest : List ℕ) (number : ℕ) (null : Option Text) (old now : 
         subst (λ (ls : List Text). AreNumbered null ls now.texts numbers) (sym all) (list, entries, few),
       )
 
+  pub encoding_interned : rest ≡ [] → extend spur_at old (texts_of null (lines_of input)) accepted now
+  encoding_interned none =
+      subst (λ (ls : List Text). extend spur_at old (texts_of null ls) accepted now) (sym (taken_all input rest number so_far.done so_far.taken none)) so_far.list
+
   lines_few : length so_far.done ≤ length (lines_of input)
   lines_few = taken_few input rest number so_far.done so_far.taken
+
+  -- the first lines were interned
+  first_texts : All IsUtf8 (take (length so_far.done) (lines_of input))
+  first_texts = taken_texts input rest number so_far.done so_far.taken
+
+  first_list : (limit : ℕ) → old ≡ made_with 4096 limit → extend spur_at (made_with 4096 limit) (texts_of null (take (length so_far.done) (lines_of input))) accepted now
+  first_list limit made =
+      let list : extend spur_at (made_with 4096 limit) (texts_of null so_far.done) accepted now = subst (λ (i : InternerView). extend spur_at i (texts_of null so_far.done) accepted now) made so_far.list in
+      subst (λ (ls : List Text). extend spur_at (made_with 4096 limit) (texts_of null ls) accepted now) (sym (taken_first input rest number so_far.done so_far.taken)) list
 
   -- there are more lines than `usize` can number
   pub encoding_many : (limit : ℕ) → 2 ^ 64 - 1 ≤ number → EncodingError limit null (lines_of input) TooManyLines
   encoding_many limit many = omega (arith, so_far.taken.counted, lines_few, many)
 
-  pub encoding_read_fails : (limit : ℕ) (error : RunError) → IsReadError number error → EncodingError limit null (lines_of input) error
-  encoding_read_fails limit (Line error) is = (length so_far.done, inr (inl (is ∙ ap (λ n. Refused n FailedAllocation) (sym so_far.taken.counted), lines_few)))
-  encoding_read_fails limit TooManyLines is = absurd is
-  encoding_read_fails limit ReadFailed is = tt
-  encoding_read_fails limit WriteFailed is = absurd is
-  encoding_read_fails limit ReaderGone is = absurd is
-  encoding_read_fails limit (Column column error) is = absurd is
+  pub encoding_read_fails : (limit : ℕ) (error : RunError) → old ≡ made_with 4096 limit → IsReadError number error → EncodingError limit null (lines_of input) error
+  encoding_read_fails limit (Line error) made is =
+      (length so_far.done, inr (first_texts, (now, first_list limit made, inl (is ∙ ap (λ n. Refused n FailedAllocation) (sym so_far.taken.counted), lines_few))))
+  encoding_read_fails limit TooManyLines made is = absurd is
+  encoding_read_fails limit ReadFailed made is = tt
+  encoding_read_fails limit WriteFailed made is = absurd is
+  encoding_read_fails limit ReaderGone made is = absurd is
+  encoding_read_fails limit (Column column error) made is = absurd is
 
   -- the next line is refused or not UTF-8
   pub encoding_line_fails : (limit : ℕ) (line left : List ℕ) (error : LineError) → old ≡ made_with 4096 limit → lines_of rest ≡ line ∷ lines_of left → IsFaultOf now line number error → EncodingError limit null (lines_of input) (Line error)
   encoding_line_fails limit line left error made cut is =
-      let list : extend spur_at (made_with 4096 limit) (texts_of null so_far.done) accepted now = subst (λ (i : InternerView). extend spur_at i (texts_of null so_far.done) accepted now) made so_far.list in
-      let first : extend spur_at (made_with 4096 limit) (texts_of null (take (length so_far.done) (lines_of input))) accepted now =
-      subst (λ (ls : List Text). extend spur_at (made_with 4096 limit) (texts_of null ls) accepted now) (sym (taken_first input rest number so_far.done so_far.taken)) list in
       let faulty : IsFaultOf now line (length so_far.done + 1) error = subst (λ n. IsFaultOf now line n error) (sym so_far.taken.counted) is in
       let next : IsSomeAnd (slice_get (lines_of input) (length so_far.done)) (λ l. IsFaultOf now l (length so_far.done + 1) error) =
       subst (λ o. IsSomeAnd o (λ l. IsFaultOf now l (length so_far.done + 1) error)) (sym (taken_next input rest number so_far.done line (lines_of left) so_far.taken cut)) faulty in
-      (length so_far.done, inr (inr (now, first, next)))
+      (length so_far.done, inr (first_texts, (now, first_list limit made, inr next)))
 
 -- ---- the column
 
-written_end : (input : List ℕ) (limit : ℕ) (null : Option Text) (binary : Bool) (part : List ℕ) (result : Result (Unit {0}) RunError) → All IsUtf8 (lines_of input) → AreCodable null (lines_of input) → WritesAll (column_bytes binary null (lines_of input)) result part → EncodeEnd input limit null binary part result
-written_end input limit null binary part (Ok x) texts few written = (texts, written, few)
-written_end input limit null binary part (Err (Line error)) texts few written = absurd written.0
-written_end input limit null binary part (Err TooManyLines) texts few written = absurd written.0
-written_end input limit null binary part (Err ReadFailed) texts few written = absurd written.0
-written_end input limit null binary part (Err WriteFailed) texts few written = written.1
-written_end input limit null binary part (Err ReaderGone) texts few written = written.1
-written_end input limit null binary part (Err (Column column error)) texts few written = absurd written.0
+written_end : (input : List ℕ) (limit : ℕ) (null : Option Text) (binary : Bool) (part : List ℕ) (result : Result (Unit {0}) RunError) → All IsUtf8 (lines_of input) → AreCodable null (lines_of input) → Admits limit (texts_of null (lines_of input)) → WritesAll (column_bytes binary null (lines_of input)) result part → EncodeEnd input limit null binary part result
+written_end input limit null binary part (Ok x) texts few admitted written = (texts, written, few, admitted)
+written_end input limit null binary part (Err (Line error)) texts few admitted written = absurd written.0
+written_end input limit null binary part (Err TooManyLines) texts few admitted written = absurd written.0
+written_end input limit null binary part (Err ReadFailed) texts few admitted written = absurd written.0
+written_end input limit null binary part (Err WriteFailed) texts few admitted written = written.1
+written_end input limit null binary part (Err ReaderGone) texts few admitted written = written.1
+written_end input limit null binary part (Err (Column column error)) texts few admitted written = absurd written.0
 
 -- a column is written, or a beginning of it
-pub column_written : (input : List ℕ) (limit : ℕ) (null : Option Text) (binary : Bool) (list : List Text) (numbers : List ℕ) (part : List ℕ) (result : Result (Unit {0}) RunError) → All IsUtf8 (lines_of input) → AreNumbered null (lines_of input) list numbers → length numbers < 2 ^ 64 → WritesAll (column_of binary list (map entry_at numbers)) result part → EncodeEnd input limit null binary part result
-column_written input limit null binary list numbers part result texts are many written =
+pub column_written : (input : List ℕ) (limit : ℕ) (null : Option Text) (binary : Bool) (list : List Text) (numbers : List ℕ) (part : List ℕ) (result : Result (Unit {0}) RunError) → All IsUtf8 (lines_of input) → AreNumbered null (lines_of input) list numbers → Admits limit (texts_of null (lines_of input)) → length numbers < 2 ^ 64 → WritesAll (column_of binary list (map entry_at numbers)) result part → EncodeEnd input limit null binary part result
+column_written input limit null binary list numbers part result texts are admitted many written =
     let lines = lines_of input in
     let dictionary = dictionary_of null lines in
     let whole : column_of binary list (map entry_at numbers) ≡ column_bytes binary null lines =
     ap (λ (ts : List Text). column_of binary ts (map entry_at numbers)) are.0 ∙ ap (column_of binary dictionary) are.1 in
     let few : length dictionary < 2 ^ 32 = subst (λ (ts : List Text). length ts < 2 ^ 32) are.0 are.2 in
     let count : length numbers ≡ length lines = sym (length-map numbers entry_at) ∙ ap length are.1 ∙ length-map lines (entry_of null dictionary) in
-    written_end input limit null binary part result texts (few, subst (λ n. n < 2 ^ 64) count many) (subst (λ bs. WritesAll bs result part) whole written)
+    written_end input limit null binary part result texts (few, subst (λ n. n < 2 ^ 64) count many) admitted (subst (λ bs. WritesAll bs result part) whole written)
 
 -- lines were not encoded, and nothing is written
 pub none_written : (input : List ℕ) (limit : ℕ) (null : Option Text) (binary : Bool) (error : RunError) → EncodingError limit null (lines_of input) error → EncodeEnd input limit null binary [] (Err error)

@@ -3,11 +3,14 @@
 -- The items of all entries are the items so far, and then those of the other entries. One more entry moves
 -- from the others to those so far. At a bad entry, the items so far are all, and its error is the error of
 -- all.
-use Rattle.std.proofs.Common.{ℕ, suc, ◌≡◌, ◌+◌, ◌-◌, ◌<◌, Bool, false, ◌⊎◌, List, [], ◌∷◌, ◌++◌, take, length, Option, Some, None, Result, Ok, Err, sym, ap, subst, ◌∙◌, append_assoc, arith, inl, inr}
+use Rattle.std.proofs.Common.{ℕ, suc, ◌≡◌, ◌+◌, ◌-◌, ◌<◌, Bool, false, ◌⊎◌, List, [], ◌∷◌, ◌++◌, take, length, Option, Some, None, Result, Ok, Err, refl, sym, ap, subst, ◌∙◌, append_assoc, arith, inl, inr}
 use Rattle.std.proofs.Math.Seq.{take-append_seam}
 use Rattle.std.proofs.lemmas.List.{append-nil}
 use Rattle.lasso_parts.specs.Texts.{Text}
-use Rattle.lasso_codes.specs.Reading.{Makes, ReadItems, ReadTexts, TakesEntry, TakesHeader, HeaderError, HasNoHeader, cut_entry, on_entry_line, on_item, items_from, texts_from, head_of, on_texts, on_head, read_column, IsEntryError, IsColumnError}
+use Rattle.lasso_single.specs.Filling.{extend}
+use Rattle.lasso_single.specs.Interner.{InternerView, made_with}
+use Rattle.lasso_encode.specs.Encoding.{spur_at}
+use Rattle.lasso_codes.specs.Reading.{Makes, ReadItems, ReadTexts, TakesEntry, TakesHeader, HeaderError, HasNoHeader, cut_entry, on_entry_line, on_item, items_from, texts_from, read_list, first_texts, texts_before, head_of, head_list, head_before, texts_at, on_texts, on_head, read_column, IsEntryError, IsColumnError}
 use Rattle.lasso_codes.specs.Stages.{IsAhead}
 use Rattle.lasso_codes.specs.Streams.{CutsLine}
 use Rattle.lasso_codes.specs.declared.entries.Entry.{Entry}
@@ -15,10 +18,11 @@ use Rattle.lasso_codes.specs.declared.entries.Entry.TheVariants.{Missing}
 use Rattle.lasso_codes.specs.declared.input.Cut.{Cut}
 use Rattle.lasso_codes.specs.declared.input.Cut.TheVariants.{Part, End}
 use Rattle.lasso_codes.specs.declared.error.ColumnError.{ColumnError}
-use Rattle.lasso_codes.specs.declared.error.ColumnError.TheVariants.{NoHeader, TextRefused}
+use Rattle.lasso_codes.specs.declared.error.ColumnError.TheVariants.{NoHeader, NoText, NotUtf8, Doubled, TextRefused}
 use Rattle.lasso_codes.specs.declared.error.RunError.{RunError}
 use Rattle.lasso_codes.specs.declared.error.RunError.TheVariants.{Column}
 use Rattle.lasso_codes.specs.Errors.{IsReadError}
+use Rattle.lasso_codes.specs.Limits.{Admits}
 use Rattle.lasso_codes.specs.declared.reading.Header.{Header}
 use Rattle.lasso_codes.proofs.Feeds.{no_cut}
 
@@ -80,6 +84,19 @@ header_unread before column error bytes (inr is) e = inr (is.0, is.1 bytes e)
 
 -- ---- columns
 
+module _ (bytes left : List ℕ) (header : Header) (head : head_of bytes ≡ Some (header, left)) where
+  pub texts_read : (list : List Text) (rest : List ℕ) → texts_from header.distinct [] left ≡ Ok (list, rest) → texts_at bytes ≡ list
+  texts_read list rest is = ap head_list head ∙ ap read_list is
+
+  -- its texts were taken by a new interner with the limit
+  pub admitted_at : (limit : ℕ) (made now : InternerView) (rest : List ℕ) → texts_from header.distinct [] left ≡ Ok (now.texts, rest) → made ≡ made_with 4096 limit → extend spur_at made now.texts (Ok tt) now → Admits limit (texts_at bytes)
+  admitted_at limit made now rest is new list =
+      subst (λ (ts : List Text). Admits limit ts) (sym (texts_read now.texts rest is)) (now, subst (λ (i : InternerView). extend spur_at i now.texts (Ok tt) now) new list)
+
+  -- the texts before the error
+  pub before_error : (error : ColumnError) → head_before (head_of bytes) error ≡ texts_before header.distinct left error
+  before_error error = ap (λ (h : Option (Header × List ℕ)). head_before h error) head
+
 module _ {X : Type 0} (make : List Text → Makes X) (bytes left : List ℕ) (header : Header) (head : head_of bytes ≡ Some (header, left)) where
   on_it : (read : ReadTexts) → texts_from header.distinct [] left ≡ read → read_column make bytes ≡ on_texts make header read
   on_it read is = ap (on_head make) head ∙ ap (on_texts make header) is
@@ -92,8 +109,20 @@ module _ {X : Type 0} (make : List Text → Makes X) (bytes left : List ℕ) (he
   pub column_unread : (error : ColumnError) → texts_from header.distinct [] left ≡ Err error → read_column make bytes ≡ ([], Err error)
   column_unread error is = on_it (Err error) is
 
+-- all texts come before an entry
+entry_before : (distinct : ℕ) (bytes : List ℕ) (error : ColumnError) → IsEntryError error → texts_before distinct bytes error ≡ first_texts distinct bytes
+entry_before distinct bytes NoHeader is = absurd is
+entry_before distinct bytes (NoText number) is = absurd is
+entry_before distinct bytes (NotUtf8 number) is = absurd is
+entry_before distinct bytes (Doubled number) is = absurd is
+entry_before distinct bytes error is = refl
+
+head_entry : (head : Option (Header × List ℕ)) (error : ColumnError) → IsEntryError error → head_before head error ≡ head_list head
+head_entry None error is = refl
+head_entry (Some head) error is = entry_before head.0.distinct head.1 error is
+
 -- the error of an entry is that of the column
-pub entry_error : {X : Type 0} (make : List Text → Makes X) (limit : ℕ) (bytes : List ℕ) (error : ColumnError) → IsEntryError error → (read_column make bytes).1 ≡ Err error → IsColumnError make limit bytes error
-entry_error make limit bytes NoHeader is e = absurd is
-entry_error make limit bytes (TextRefused number error) is e = absurd is
-entry_error make limit bytes error is e = e
+pub entry_error : {X : Type 0} (make : List Text → Makes X) (limit : ℕ) (bytes : List ℕ) (error : ColumnError) → IsEntryError error → Admits limit (texts_at bytes) → (read_column make bytes).1 ≡ Err error → IsColumnError make limit bytes error
+entry_error make limit bytes NoHeader is texts e = absurd is
+entry_error make limit bytes (TextRefused number error) is texts e = absurd is
+entry_error make limit bytes error is texts e = (e, subst (λ (ts : List Text). Admits limit ts) (sym (head_entry (head_of bytes) error is)) texts)

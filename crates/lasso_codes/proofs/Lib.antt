@@ -20,3 +20,4 @@ pub mod ReadBack
 pub mod MergedColumns
 pub mod MergedLines
 pub mod Failing
+pub mod Lacking

@@ -24,19 +24,20 @@ use Rattle.lasso_encode.specs.Encoding.{spur_at, IsRefused}
 use Rattle.lasso_columns.specs.declared.faults.LineError.TheVariants.{Refused}
 use Rattle.lasso_codes.specs.Columns.{entry_at, column_of}
 use Rattle.lasso_codes.specs.Errors.{IsReadError, IsWriteEnd}
-use Rattle.lasso_codes.specs.Merge.{code_or_past, recoded, entries_of, read_list, head_list, texts_at, distinct_of, Merges, EntriesError, AddsEntry, AddsEntries, AreMerged, IsNotMerged, IsMergeError, IsMergeBegun, MergingError, MergeEnd}
+use Rattle.lasso_codes.specs.Limits.{Admits}
+use Rattle.lasso_codes.specs.Merge.{code_or_past, recoded, entries_of, distinct_of, Merges, AdmitsColumns, MergesWithin, EntriesError, AddsEntry, AddsEntries, AreMerged, IsNotMerged, IsMergeError, IsMergeBegun, MergingError, MergeEnd}
 use Rattle.lasso_codes.specs.Stages.{IsAhead, EntriesAhead}
-use Rattle.lasso_codes.specs.Reading.{ReadItems, cut_entry, head_of, texts_from, items_from, HasNoHeader, IsTextError, TextsError, IsEntryError}
+use Rattle.lasso_codes.specs.Reading.{ReadItems, cut_entry, head_of, head_before, texts_at, texts_before, texts_from, items_from, HasNoHeader, IsTextError, TextsError, IsEntryError}
 use Rattle.lasso_codes.specs.Streams.{WritesAll}
 use Rattle.lasso_codes.specs.declared.entries.Entry.{Entry}
 use Rattle.lasso_codes.specs.declared.entries.Entry.TheVariants.{Missing, Bad, Null, Code}
 use Rattle.lasso_codes.specs.declared.error.ColumnError.{ColumnError}
-use Rattle.lasso_codes.specs.declared.error.ColumnError.TheVariants.{NoHeader, TextRefused, NoEntry, NotEntry, PastTexts, NotMerged}
+use Rattle.lasso_codes.specs.declared.error.ColumnError.TheVariants.{NoHeader, NoText, NotUtf8, Doubled, TextRefused, NoEntry, NotEntry, PastTexts, IsNull, NotMerged}
 use Rattle.lasso_codes.specs.declared.error.RunError.{RunError}
 use Rattle.lasso_codes.specs.declared.error.RunError.TheVariants.{Line, TooManyLines, ReadFailed, WriteFailed, ReaderGone, Column}
 use Rattle.lasso_codes.specs.declared.reading.Header.{Header}
 use Rattle.lasso_codes.proofs.FewTexts.{few_texts}
-use Rattle.lasso_codes.proofs.Items.{ahead_push, ahead_error, one_fewer, column_read, column_unread, entry_error}
+use Rattle.lasso_codes.proofs.Items.{ahead_push, ahead_error, one_fewer, texts_read, column_read, column_unread, before_error, entry_error}
 
 -- ---- interning texts, and then others
 
@@ -133,6 +134,7 @@ pub record Merging (input rest : List ℕ) (limit column : ℕ) (now : InternerV
   pub count : ℕ
   pub texts : List Text
   pub merges : Merges count input texts (map entry_at numbers) rest
+  pub admits : AdmitsColumns limit count input
   pub counted : count + 1 ≡ column
   pub list : extend spur_at (made_with 4096 limit) texts accepted now
 
@@ -141,16 +143,20 @@ module _ (input rest : List ℕ) (limit column : ℕ) (now : InternerView) (numb
   list_is : now.texts ≡ distinct_of way.texts
   list_is = list_extended (made_with 4096 limit) now way.texts way.list
 
+  -- the limit was kept so far
+  within : MergesWithin limit way.count input way.texts (map entry_at numbers) rest
+  within = (way.merges, way.admits, (now, way.list))
+
   pub merging_few : length now.texts < 2 ^ 32
   merging_few = let few : length now.texts ≤ 4294967295 = few_texts (made_with 4096 limit) now way.texts way.list (omega arith) in omega (arith, few)
 
   -- the input has ended
-  pub merging_ends : rest ≡ [] → AreMerged input now.texts numbers
-  merging_ends none = (way.count, way.texts, subst (λ bs. Merges way.count input way.texts (map entry_at numbers) bs) none way.merges, list_is, merging_few)
+  pub merging_ends : rest ≡ [] → AreMerged input limit now.texts numbers
+  merging_ends none = (way.count, way.texts, subst (λ bs. MergesWithin limit way.count input way.texts (map entry_at numbers) bs) none within, list_is, merging_few)
 
   -- there are more columns than `usize` can number
   pub merging_many : 2 ^ 64 - 1 ≤ column → MergingError input limit TooManyLines
-  merging_many many = let counted = way.counted in (way.count, way.texts, map entry_at numbers, rest, way.merges, omega (arith, counted, many))
+  merging_many many = let counted = way.counted in (way.count, way.texts, map entry_at numbers, rest, within, omega (arith, counted, many))
 
   -- a read failed, or there was no memory
   pub merging_read_fails : (error : RunError) → IsReadError 0 error → MergingError input limit error
@@ -166,19 +172,31 @@ module _ (input rest : List ℕ) (limit column : ℕ) (now : InternerView) (numb
 
   -- the column is bad
   column_fails : (error : ColumnError) → IsMergeError limit way.texts rest error → MergingError input limit (Column column error)
-  column_fails error is = (way.count, way.texts, map entry_at numbers, rest, way.merges, sym way.counted, is)
+  column_fails error is = (way.count, way.texts, map entry_at numbers, rest, within, sym way.counted, is)
 
   pub merging_header_fails : (error : RunError) → IsReadError 0 error ⊎ ((error ≡ Column column NoHeader) × HasNoHeader rest) → MergingError input limit error
   merging_header_fails error (inl is) = merging_read_fails error is
-  merging_header_fails error (inr is) = subst (MergingError input limit) (sym is.0) (column_fails NoHeader is.1)
+  merging_header_fails error (inr is) = subst (MergingError input limit) (sym is.0) (column_fails NoHeader (is.1, λ entry. absurd entry))
 
   module _ (header : Header) (left : List ℕ) (head : head_of rest ≡ Some (header, left)) where
+    unread : (reason : ColumnError) → texts_from header.distinct [] left ≡ Err reason → Admits limit (texts_before header.distinct left reason) → ((entries_of (distinct_of (way.texts ++ texts_at rest)) rest).1 ≡ Err reason) × Admits limit (head_before (head_of rest) reason)
+    unread reason is texts =
+        let make = recoded (distinct_of (way.texts ++ texts_at rest)) in (
+          ap (λ (r : ReadItems (Option ℕ)). r.1) (column_unread make rest left header head reason is),
+          subst (λ (ts : List Text). Admits limit ts) (sym (before_error rest left header head reason)) texts,
+        )
+
     text_fails : (reason : ColumnError) → IsTextError limit header.distinct left reason → IsMergeError limit way.texts rest reason
     text_fails NoHeader is = absurd is
-    text_fails (TextRefused number error) is = ((header, left), head, is)
+    text_fails (TextRefused number error) is = (((header, left), head, is), λ entry. absurd entry)
     text_fails (NotMerged error) is = absurd is
-    text_fails reason is =
-        ap (λ (r : ReadItems (Option ℕ)). r.1) (column_unread (recoded (distinct_of (way.texts ++ texts_at rest))) rest left header head reason is)
+    text_fails (NoText number) is = (unread (NoText number) is.0 is.1, λ entry. absurd entry)
+    text_fails (NotUtf8 number) is = (unread (NotUtf8 number) is.0 is.1, λ entry. absurd entry)
+    text_fails (Doubled number) is = (unread (Doubled number) is.0 is.1, λ entry. absurd entry)
+    text_fails (NoEntry number) is = absurd is
+    text_fails (NotEntry number) is = absurd is
+    text_fails (PastTexts number) is = absurd is
+    text_fails (IsNull number) is = absurd is
 
     pub merging_texts_fail : (error : RunError) → TextsError limit header.distinct column left error → MergingError input limit error
     merging_texts_fail error (inl is) = merging_read_fails error is
@@ -186,15 +204,15 @@ module _ (input rest : List ℕ) (limit column : ℕ) (now : InternerView) (numb
 
     module _ (dictionary : List Text) (body : List ℕ) (read : texts_from header.distinct [] left ≡ Ok (dictionary, body)) where
       texts_are : texts_at rest ≡ dictionary
-      texts_are = ap head_list head ∙ ap read_list read
+      texts_are = texts_read rest left header head dictionary body read
 
       -- a text is refused by the interner of the merged column
-      pub merging_refused : (error : LassoError) (n : ℕ) (after : InternerView) → extend spur_at now (take n dictionary) accepted after → IsSomeAnd (slice_get dictionary n) (λ text. IsRefused after text error) → MergingError input limit (Column column (NotMerged error))
-      merging_refused error n after list refused =
+      pub merging_refused : (error : LassoError) (n : ℕ) (after : InternerView) → Admits limit (texts_at rest) → extend spur_at now (take n dictionary) accepted after → IsSomeAnd (slice_get dictionary n) (λ text. IsRefused after text error) → MergingError input limit (Column column (NotMerged error))
+      merging_refused error n after texts list refused =
           column_fails (NotMerged error)
-          (subst (λ (ts : List Text). IsNotMerged limit way.texts ts error) (sym texts_are) (n, after, extend_both (made_with 4096 limit) now after way.texts (take n dictionary) way.list list, refused))
+          (texts, subst (λ (ts : List Text). IsNotMerged limit way.texts ts error) (sym texts_are) (n, after, extend_both (made_with 4096 limit) now after way.texts (take n dictionary) way.list list, refused))
 
-      module _ (after : InternerView) (list : extend spur_at now dictionary accepted after) where
+      module _ (after : InternerView) (list : extend spur_at now dictionary accepted after) (admitted : Admits limit (texts_at rest)) where
         all : extend spur_at (made_with 4096 limit) (way.texts ++ texts_at rest) accepted after
         all =
             subst (λ (ts : List Text). extend spur_at (made_with 4096 limit) (way.texts ++ ts) accepted after) (sym texts_are)
@@ -223,6 +241,7 @@ module _ (input rest : List ℕ) (limit column : ℕ) (now : InternerView) (numb
             ap (λ (r : ReadItems (Option ℕ)). r.1) entries_are ∙ ended,
             added ∙ ap (λ (r : ReadItems (Option ℕ)). map entry_at numbers ++ r.0) (sym entries_are),
           );
+          admits = (way.admits, (way.texts, map entry_at numbers, rest, way.merges, admitted));
           counted = let before : way.count + 1 ≡ column = way.counted in omega (arith, before);
           list = all;
         }
@@ -230,7 +249,7 @@ module _ (input rest : List ℕ) (limit column : ℕ) (now : InternerView) (numb
         entry_fails : (error : ColumnError) → IsEntryError error → (items_from (recoded after.texts dictionary) header.lines header.binary 1 body).1 ≡ Err error → IsMergeError limit way.texts rest error
         entry_fails (NotMerged error) is e = absurd is
         entry_fails error is e =
-            entry_error (recoded (distinct_of (way.texts ++ texts_at rest))) limit rest error is (ap (λ (r : ReadItems (Option ℕ)). r.1) entries_are ∙ e)
+            (entry_error (recoded (distinct_of (way.texts ++ texts_at rest))) limit rest error is admitted (ap (λ (r : ReadItems (Option ℕ)). r.1) entries_are ∙ e), λ entry. (after, all))
 
         pub merging_entries_fail : (error : RunError) → EntriesError (items_from (recoded after.texts dictionary) header.lines header.binary 1 body) column error → MergingError input limit error
         merging_entries_fail (Line error) is = is
@@ -242,17 +261,17 @@ module _ (input rest : List ℕ) (limit column : ℕ) (now : InternerView) (numb
 
 -- ---- the one column
 
-written_end : (input : List ℕ) (limit : ℕ) (binary : Bool) (n : ℕ) (texts : List Text) (entries : List (Option ℕ)) (part : List ℕ) (result : Result (Unit {0}) RunError) → Merges n input texts entries [] → length (distinct_of texts) < 2 ^ 32 → length entries < 2 ^ 64 → WritesAll (column_of binary (distinct_of texts) entries) result part → MergeEnd input limit binary part result
+written_end : (input : List ℕ) (limit : ℕ) (binary : Bool) (n : ℕ) (texts : List Text) (entries : List (Option ℕ)) (part : List ℕ) (result : Result (Unit {0}) RunError) → MergesWithin limit n input texts entries [] → length (distinct_of texts) < 2 ^ 32 → length entries < 2 ^ 64 → WritesAll (column_of binary (distinct_of texts) entries) result part → MergeEnd input limit binary part result
 written_end input limit binary n texts entries part (Ok x) merges few few' written = (n, texts, entries, merges, (few, few'), written)
 written_end input limit binary n texts entries part (Err (Line error)) merges few few' written = absurd written.0
 written_end input limit binary n texts entries part (Err TooManyLines) merges few few' written = absurd written.0
 written_end input limit binary n texts entries part (Err ReadFailed) merges few few' written = absurd written.0
-written_end input limit binary n texts entries part (Err WriteFailed) merges few few' written = inr (n, texts, entries, merges, written.1)
-written_end input limit binary n texts entries part (Err ReaderGone) merges few few' written = inr (n, texts, entries, merges, written.1)
+written_end input limit binary n texts entries part (Err WriteFailed) merges few few' written = inr (n, texts, entries, merges.0, written.1)
+written_end input limit binary n texts entries part (Err ReaderGone) merges few few' written = inr (n, texts, entries, merges.0, written.1)
 written_end input limit binary n texts entries part (Err (Column column error)) merges few few' written = absurd written.0
 
 -- the column is written, or a beginning of it
-pub merged_written : (input : List ℕ) (limit : ℕ) (binary : Bool) (list : List Text) (numbers part : List ℕ) (result : Result (Unit {0}) RunError) → AreMerged input list numbers → length numbers < 2 ^ 64 → WritesAll (column_of binary list (map entry_at numbers)) result part → MergeEnd input limit binary part result
+pub merged_written : (input : List ℕ) (limit : ℕ) (binary : Bool) (list : List Text) (numbers part : List ℕ) (result : Result (Unit {0}) RunError) → AreMerged input limit list numbers → length numbers < 2 ^ 64 → WritesAll (column_of binary list (map entry_at numbers)) result part → MergeEnd input limit binary part result
 merged_written input limit binary list numbers part result are few written =
     let texts = are.1 in
     let entries = map entry_at numbers in
@@ -273,7 +292,7 @@ pub unmade : (input : List ℕ) (limit : ℕ) (error : RunError) → error ≡ L
 unmade input limit error is = subst (MergingError input limit) (sym is) refl
 
 end_begun : (input : List ℕ) (limit : ℕ) (binary : Bool) (part : List ℕ) (result : Result (Unit {0}) RunError) → MergeEnd input limit binary part result → IsMergeBegun input binary part
-end_begun input limit binary part (Ok x) end = inr (end.0, end.1, end.2, end.3, ([], sym end.5 ∙ sym (append-nil part)))
+end_begun input limit binary part (Ok x) end = inr (end.0, end.1, end.2, end.3.0, ([], sym end.5 ∙ sym (append-nil part)))
 end_begun input limit binary part (Err (Line error)) end = inl end.0
 end_begun input limit binary part (Err TooManyLines) end = inl end.0
 end_begun input limit binary part (Err ReadFailed) end = inl end

@@ -14,8 +14,8 @@ use Rattle.lasso_single.proofs.Distinct.{distinct_none}
 use Rattle.lasso_columns.specs.Parts.{new_texts}
 use Rattle.lasso_counts.proofs.Counted.{distinct_new}
 use Rattle.lasso_codes.specs.Decode.{text_or_past, null_line, line_at, decoded, Reads}
-use Rattle.lasso_codes.specs.Merge.{code_or_past, recoded, entries_of, read_list, head_list, texts_at, distinct_of, Merges, MergingKeepsLines, MergedColumnsDecode, DictionariesAreDistinct}
-use Rattle.lasso_codes.specs.Reading.{ReadItems, ReadTexts, cut_entry, on_item, items_from, head_of, on_texts, on_head, texts_from}
+use Rattle.lasso_codes.specs.Merge.{code_or_past, recoded, entries_of, distinct_of, Merges, MergingKeepsLines, MergedColumnsDecode, DictionariesAreDistinct}
+use Rattle.lasso_codes.specs.Reading.{ReadItems, ReadTexts, cut_entry, on_item, items_from, head_of, on_texts, on_head, texts_from, read_list, head_list, texts_at}
 use Rattle.lasso_codes.specs.declared.entries.Entry.{Entry}
 use Rattle.lasso_codes.specs.declared.entries.Entry.TheVariants.{Missing, Bad, Null, Code}
 use Rattle.lasso_codes.specs.declared.error.ColumnError.{ColumnError}

@@ -15,7 +15,8 @@ use Rattle.lasso.proofs.Calling.{list_interned}
 use Rattle.lasso_encode.specs.Encoding.{spur_at}
 use Rattle.lasso_input.specs.Lines.{NoFeed, is_line_feed}
 use Rattle.lasso_codes.specs.Stages.{Reading}
-use Rattle.lasso_codes.specs.Reading.{ReadTexts, on_text, texts_from, AddsText, AddError, IsTextError, TextsError}
+use Rattle.lasso_codes.specs.Limits.{Admits}
+use Rattle.lasso_codes.specs.Reading.{ReadTexts, on_text, texts_from, read_list, first_texts, AddsText, AddError, IsTextError, TextsError}
 use Rattle.lasso_codes.specs.Streams.{cut_line}
 use Rattle.lasso_codes.specs.declared.error.ColumnError.{ColumnError}
 use Rattle.lasso_codes.specs.declared.error.ColumnError.TheVariants.{NoHeader, NoText, NotUtf8, Doubled, TextRefused, NoEntry, NotEntry, PastTexts, IsNull, NotMerged}
@@ -93,11 +94,19 @@ module _ (bytes rest : List ℕ) (position distinct : ℕ) (now : InternerView) 
         counted = ap length list ∙ length_push now.texts line ∙ ap (λ n. n + 1) so_far.counted;
       }
 
+  -- the texts before the next one
+  before_next : (number : ℕ) → number ≡ position + 1 → first_texts (number - 1) bytes ≡ now.texts
+  before_next number is =
+      let n : number - 1 ≡ position = omega (arith, is) in ap (λ k. first_texts k bytes) n ∙ ap read_list so_far.read
+
+  admitted : (limit number : ℕ) → number ≡ position + 1 → extend spur_at (made_with 4096 limit) now.texts accepted now → Admits limit (first_texts (number - 1) bytes)
+  admitted limit number is list = subst (λ (ts : List Text). Admits limit ts) (sym (before_next number is)) (now, list)
+
   -- the next text is missing
-  pub reading_misses : (limit column : ℕ) → cut_line rest ≡ None → TextsError limit distinct column bytes (Column column (NoText (position + 1)))
-  reading_misses limit column cut =
+  pub reading_misses : (limit column : ℕ) → extend spur_at (made_with 4096 limit) now.texts accepted now → cut_line rest ≡ None → TextsError limit distinct column bytes (Column column (NoText (position + 1)))
+  reading_misses limit column list cut =
       let error : texts_from distinct [] bytes ≡ Err (NoText (length now.texts + 1)) = next_ahead ∙ texts_missing (distinct - (position + 1)) now.texts rest cut in
-      inr (NoText (position + 1), refl, error ∙ ap (λ n. Err (NoText (n + 1))) so_far.counted)
+      inr (NoText (position + 1), refl, (error ∙ ap (λ n. Err (NoText (n + 1))) so_far.counted, admitted limit (position + 1) refl list))
 
   -- the next text is bad
   faulty : (limit : ℕ) (line : Text) (left : List ℕ) (error : ColumnError) → extend spur_at (made_with 4096 limit) now.texts accepted now → cut_line rest ≡ Some (line, left) → AddError now line (position + 1) error → IsTextError limit distinct bytes error
@@ -106,13 +115,13 @@ module _ (bytes rest : List ℕ) (position distinct : ℕ) (now : InternerView) 
   faulty limit line left (NotUtf8 number) list cut is =
       let bad : texts_from distinct [] bytes ≡ Err (NotUtf8 (length now.texts + 1)) =
       next_ahead ∙ by_tests (distinct - (position + 1)) now.texts rest left line cut false (is_some (position_of now.texts line)) (not_utf8 line is.1) refl in
-      bad ∙ ap (λ n. Err (NotUtf8 n)) (ap (λ n. n + 1) so_far.counted ∙ sym is.0)
+      (bad ∙ ap (λ n. Err (NotUtf8 n)) (ap (λ n. n + 1) so_far.counted ∙ sym is.0), admitted limit number is.0 list)
   faulty limit line left (Doubled number) list cut is =
       let bad : texts_from distinct [] bytes ≡ Err (Doubled (length now.texts + 1)) =
       next_ahead ∙ by_tests (distinct - (position + 1)) now.texts rest left line cut true true (is_utf8-from_IsUtf8 line is.1) is.2 in
-      bad ∙ ap (λ n. Err (Doubled n)) (ap (λ n. n + 1) so_far.counted ∙ sym is.0)
+      (bad ∙ ap (λ n. Err (Doubled n)) (ap (λ n. n + 1) so_far.counted ∙ sym is.0), admitted limit number is.0 list)
   faulty limit line left (TextRefused number error) list cut is =
-      (position, is.0, small, (now.texts, rest, so_far.read, (line, left, cut, is.1, (now, list, is.2))))
+      (position, is.0, small, (now.texts, rest, so_far.read, (line, left, cut, is.1, (now, list, is.2, is.3))))
   faulty limit line left (NoEntry number) list cut is = absurd is
   faulty limit line left (NotEntry number) list cut is = absurd is
   faulty limit line left (PastTexts number) list cut is = absurd is

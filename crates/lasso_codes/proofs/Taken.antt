@@ -2,8 +2,8 @@
 --
 -- The lines of the input are those that were read, and then those of the rest. So the first lines are those
 -- that were read, and the next one is the first of the rest. If nothing is left, all lines were read.
-use Rattle.std.proofs.Common.{ℕ, ◌≡◌, ◌+◌, ◌≤◌, List, [], ◌∷◌, ◌++◌, length, take, Some, refl, sym, ap, ◌∙◌, arith, append_assoc}
-use Rattle.std.specs.Prelude.{slice_get}
+use Rattle.std.proofs.Common.{ℕ, ◌≡◌, ◌+◌, ◌≤◌, List, [], ◌∷◌, ◌++◌, length, take, Some, refl, sym, ap, subst, ◌∙◌, arith, append_assoc}
+use Rattle.std.specs.Prelude.{All, slice_get}
 use Rattle.std.specs.Str.{IsUtf8}
 use Rattle.std.proofs.Math.Seq.{take-append_seam}
 use Rattle.std.proofs.lemmas.List.{append-nil, length_push, length-append}
@@ -26,6 +26,10 @@ taken_all input rest number done taken none = taken.split ∙ ap (λ bs. done ++
 
 pub taken_first : (input rest : List ℕ) (number : ℕ) (done : List Text) → Taken input rest number done → take (length done) (lines_of input) ≡ done
 taken_first input rest number done taken = ap (take (length done)) taken.split ∙ take-append_seam done (lines_of rest)
+
+-- they are UTF-8
+pub taken_texts : (input rest : List ℕ) (number : ℕ) (done : List Text) → Taken input rest number done → All IsUtf8 (take (length done) (lines_of input))
+taken_texts input rest number done taken = subst (λ (ls : List Text). All IsUtf8 ls) (sym (taken_first input rest number done taken)) taken.texts
 
 -- they are lines of the input
 pub taken_few : (input rest : List ℕ) (number : ℕ) (done : List Text) → Taken input rest number done → length done ≤ length (lines_of input)

@@ -7,7 +7,7 @@ use Rattle.std.proofs.Common.{ℕ, zero, suc, ◌≡◌, ◌+◌, ◌-◌, ◌^�
 use Rattle.std.specs.Prelude.{All, IsSome, slice_get, IsSomeAnd}
 use Rattle.std.specs.Str.{IsUtf8}
 use Rattle.std.proofs.lemmas.List.{append-nil, take_all, map_push}
-use Rattle.std.proofs.lemmas.List.Elements.{All-push}
+use Rattle.std.proofs.lemmas.List.Elements.{All-push, All-take}
 use Rattle.std.proofs.lemmas.Option.{slice_get_within}
 use Rattle.lasso_parts.proofs.IndexLaws.{slice_get-append_left}
 use Rattle.lasso_parts.specs.Kept.{kept_range}
@@ -62,6 +62,10 @@ texts_utf8 false texts lines are = are.0
 
 pub first_same : (n : ℕ) (texts lines : List Text) → Begin texts lines → n ≤ length texts → take n lines ≡ take n texts
 first_same n texts lines begin few = ap (λ (ls : List Text). take n ls) begin.1 ∙ take_front n texts begin.0 few
+
+pub first_utf8 : (n : ℕ) (texts lines : List Text) (whole : Bool) → AreTextLines whole texts lines → n ≤ length texts → All IsUtf8 (take n lines)
+first_utf8 n texts lines whole are few =
+    subst (λ (ls : List Text). All IsUtf8 ls) (sym (first_same n texts lines (texts_begin whole texts lines are) few)) (All-take IsUtf8 n texts (texts_utf8 whole texts lines are))
 
 pub line_same : (n : ℕ) (texts lines : List Text) (text : Text) → Begin texts lines → slice_get texts n ≡ Some text → slice_get lines n ≡ Some text
 line_same n texts lines text begin at =
@@ -232,7 +236,8 @@ module _ (old now : InternerView) (null : Option Text) (lines texts : List Text)
       refused_at None at holds = absurd holds
       refused_at (Some text) at holds =
           let here : slice_get texts (length numbers) ≡ Some text = ap (λ (ns : List ℕ). slice_get texts (length ns)) is ∙ spread_next null texts codes text at in
-          (length numbers, inr (inr (now, subst (λ (i : InternerView). extend spur_at i (texts_of null (take (length numbers) lines)) accepted now) made first_lines, refused_line now whole texts lines (length numbers) text error are here holds)))
+          let list = subst (λ (i : InternerView). extend spur_at i (texts_of null (take (length numbers) lines)) accepted now) made first_lines in
+          (length numbers, inr (first_utf8 (length numbers) texts lines whole are numbers_few, (now, list, inr (refused_line now whole texts lines (length numbers) text error are here holds))))
 
   -- each text has its code
   module _ (many : length codes ≡ length (texts_of null texts)) where
@@ -246,21 +251,31 @@ module _ (old now : InternerView) (null : Option Text) (lines texts : List Text)
         let bad = bad_line now texts lines stop in
         let list = subst (λ (i : InternerView). extend spur_at i (texts_of null (take (length numbers) lines)) accepted now) made first_lines in
         let here = subst (λ (n : ℕ). IsSomeAnd (slice_get lines n) (λ line. IsFaultOf now line (n + 1) (NotText (n + 1)))) (sym each_numbered) bad in
-        (length numbers, inr (inr (now, list, here)))
+        (length numbers, inr (first_utf8 (length numbers) texts lines whole are numbers_few, (now, list, inr here)))
+
+    -- all texts were interned
+    all_interned : extend spur_at old (texts_of null texts) accepted now
+    all_interned =
+        let every : take (length codes) (texts_of null texts) ≡ texts_of null texts = take_all (length codes) (texts_of null texts) (omega (arith, many)) in
+        subst (λ (ts : List Text). extend spur_at old ts accepted now) every encoded.list
+
+    pub whole_interned : whole ≡ true → extend spur_at old (texts_of null lines) accepted now
+    whole_interned is_complete =
+        let all : AreTextLines true texts lines = subst (λ b. AreTextLines b texts lines) is_complete are in
+        subst (λ (ls : List Text). extend spur_at old (texts_of null ls) accepted now) (sym all.1) all_interned
 
     -- these are all lines
     pub whole_numbered : old.texts ≡ [] → whole ≡ true → All IsUtf8 lines × AreNumbered null lines now.texts numbers
     whole_numbered empty is_complete =
         let all : AreTextLines true texts lines = subst (λ b. AreTextLines b texts lines) is_complete are in
         let every : take (length codes) (texts_of null texts) ≡ texts_of null texts = take_all (length codes) (texts_of null texts) (omega (arith, many)) in
-        let interned : extend spur_at old (texts_of null texts) accepted now = subst (λ (ts : List Text). extend spur_at old ts accepted now) every encoded.list in
         let coded : AreCodes now.texts (texts_of null texts) codes = subst (λ (ts : List Text). AreCodes now.texts ts codes) every encoded.codes_are in
-        let list : now.texts ≡ dictionary_of null texts = list_extended old now (texts_of null texts) interned ∙ ap (λ (ts : List Text). ts ++ new_texts ts (texts_of null texts)) empty in
-        let entries = spread_entries null now.texts texts codes many (codes_small old now (texts_of null texts) codes interned coded) coded in
+        let list : now.texts ≡ dictionary_of null texts = list_extended old now (texts_of null texts) all_interned ∙ ap (λ (ts : List Text). ts ++ new_texts ts (texts_of null texts)) empty in
+        let entries = spread_entries null now.texts texts codes many (codes_small old now (texts_of null texts) codes all_interned coded) coded in
         let numbered : map entry_at numbers ≡ map (entry_of null (dictionary_of null texts)) texts =
         ap (map entry_at) is ∙ entries_are null now.texts texts (spread null texts codes) entries ∙ ap (λ (ts : List Text). map (entry_of null ts) texts) list in
         let none_yet : length old.texts ≤ 4294967295 = subst (λ (ts : List Text). length ts ≤ 4294967295) (sym empty) (omega arith) in
-        let most : length now.texts ≤ 4294967295 = few_texts old now (texts_of null texts) interned none_yet in
+        let most : length now.texts ≤ 4294967295 = few_texts old now (texts_of null texts) all_interned none_yet in
         let few : length now.texts < 2 ^ 32 = omega (arith, most) in
         (subst (λ (ls : List Text). All IsUtf8 ls) (sym all.1) all.0, subst (λ (ls : List Text). AreNumbered null ls now.texts numbers) (sym all.1) (list, numbered, few))
 

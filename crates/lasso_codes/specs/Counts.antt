@@ -1,12 +1,16 @@
 -- What `counts` writes, and how it ends.
-use Rattle.std.specs.Prelude.{ℕ, ◌≡◌, ◌⊎◌, List, [], ◌∷◌, ◌++◌, length, map, All, IsPermutation, IsSorted, flat_map, take, sum_by, decimal, Result, MatchResult}
-use Rattle.std.specs.Str.{IsUtf8}
+use Rattle.std.specs.Prelude.{ℕ, ◌≡◌, ◌⊎◌, List, [], ◌∷◌, ◌++◌, length, map, IsPermutation, IsSorted, flat_map, take, sum_by, decimal, Vec, Result, MatchResult}
 use Rattle.lasso_parts.specs.Texts.{Text}
+use Rattle.lasso_single.specs.Interner.{InternerView}
 use Rattle.lasso_input.specs.Lines.{lines_of}
 use Rattle.lasso_columns.specs.Parts.{new_texts}
+use Rattle.lasso_columns.specs.declared.faults.LineError.{LineError}
+use Rattle.lasso_columns.specs.declared.faults.LineError.TheVariants.{Refused, NotText}
+use Rattle.lasso_counts.specs.Adding.{RefusesNew}
 use Rattle.lasso_counts.specs.Counts.{count_of, ranked_cmp}
 use Rattle.lasso_codes.specs.Distinct.{IsErrorAfter}
 use Rattle.lasso_codes.specs.Errors.{AreTooMany}
+use Rattle.lasso_codes.specs.Limits.{AreTaken}
 use Rattle.lasso_codes.specs.Streams.{Begins}
 use Rattle.lasso_codes.specs.declared.error.RunError.{RunError}
 use Rattle.lasso_codes.specs.declared.error.RunError.TheVariants.{Line, TooManyLines, ReadFailed, WriteFailed, ReaderGone, Column}
@@ -25,6 +29,11 @@ abbrev pub IsCountsReport : List Text → ℕ → List ℕ → Type 0
 IsCountsReport lines top report =
     (ranked : List (ℕ × Text)) × IsPermutation (counted_lines lines) ranked × IsSorted ranked_cmp ranked × (sum_by (λ pair. pair.0) ranked ≡ length lines)
     × (report ≡ flat_map count_line (take top ranked))
+
+-- a refused line is absent, and when memory may run out for it is as `RefusesNew` has it
+abbrev pub RefusesNewLine : {A : Type 0} → InternerView → Vec ℕ A → Text → LineError → Type 0
+RefusesNewLine now counts line (Refused number error) = RefusesNew now counts line error
+RefusesNewLine now counts line (NotText number) = Unit {0}
 
 -- why lines were not counted
 abbrev pub CountingError : ℕ → List Text → RunError → Type 0
@@ -49,7 +58,8 @@ CountsError limit lines top part WriteFailed = IsBegun lines top part
 CountsError limit lines top part ReaderGone = IsBegun lines top part
 CountsError limit lines top part (Column column error) = ⊥
 
--- how a run of `counts` ends: without an error, all lines are UTF-8 and the part is their report
+-- how a run of `counts` ends: without an error, all lines are UTF-8, a new interner with this limit takes them,
+-- and the part is their report
 abbrev pub CountsEnd : List ℕ → ℕ → ℕ → List ℕ → Result (Unit {0}) RunError → Type 0
 CountsEnd input limit top part result =
-    MatchResult result (λ _. All IsUtf8 (lines_of input) × IsCountsReport (lines_of input) top part) (CountsError limit (lines_of input) top part)
+    MatchResult result (λ _. AreTaken limit (lines_of input) × IsCountsReport (lines_of input) top part) (CountsError limit (lines_of input) top part)

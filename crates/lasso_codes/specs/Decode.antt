@@ -1,5 +1,5 @@
 -- What `decode` writes, and how it ends.
-use Rattle.std.specs.Prelude.{ℕ, zero, suc, ◌≡◌, ◌+◌, Bool, List, [], ◌++◌, take, flat_map, Option, Some, None, Result, Ok, Err, MatchResult, slice_get}
+use Rattle.std.specs.Prelude.{ℕ, zero, suc, ◌≡◌, ◌+◌, ◌<◌, Bool, List, [], ◌++◌, take, flat_map, Option, Some, None, Result, Ok, Err, MatchResult, slice_get}
 use Rattle.lasso_parts.specs.Texts.{Text}
 use Rattle.lasso_parts.specs.declared.util.LassoErrorKind.TheVariants.{FailedAllocation}
 use Rattle.lasso_input.specs.Lines.{lines_of}
@@ -7,7 +7,8 @@ use Rattle.lasso_columns.specs.declared.faults.LineError.TheVariants.{Refused}
 use Rattle.lasso_codes.specs.Distinct.{with_feed}
 use Rattle.lasso_codes.specs.Encode.{EncodeEnd}
 use Rattle.lasso_codes.specs.Errors.{AreTooMany}
-use Rattle.lasso_codes.specs.Reading.{Makes, ReadItems, read_column, IsEntryError, IsColumnError}
+use Rattle.lasso_codes.specs.Limits.{Admits}
+use Rattle.lasso_codes.specs.Reading.{Makes, ReadItems, texts_at, read_column, IsEntryError, IsColumnError}
 use Rattle.lasso_codes.specs.Streams.{Begins, WritesAll}
 use Rattle.lasso_codes.specs.declared.entries.Entry.TheVariants.{Missing, Bad, Null, Code}
 use Rattle.lasso_codes.specs.declared.error.ColumnError.{ColumnError}
@@ -45,6 +46,11 @@ Reads null zero bytes lines rest = (lines ≡ []) × (rest ≡ bytes)
 Reads null (suc n) bytes lines rest =
     (before : List Text) × (mid : List ℕ) × Reads null n bytes before mid × ((decoded null mid).1 ≡ Ok rest) × (lines ≡ before ++ (decoded null mid).0)
 
+-- the first n columns of the bytes have dictionaries that a new interner with this limit takes, each one alone
+abbrev pub AdmitsEach : ℕ → Option Text → ℕ → List ℕ → Type 0
+AdmitsEach limit null zero bytes = Unit {0}
+AdmitsEach limit null (suc n) bytes = AdmitsEach limit null n bytes × ((lines : List Text) × (mid : List ℕ) × Reads null n bytes lines mid × Admits limit (texts_at mid))
+
 -- ---- what is written of a column
 
 -- each line with a line feed after it
@@ -73,10 +79,12 @@ WritesLines read column after part result =
 
 -- ---- how a run ends
 
--- the lines of the first n columns were written, and the first m lines of the next column
-abbrev pub IsWhole : List ℕ → Option Text → List ℕ → Type 0
-IsWhole input null part =
-    (n : ℕ) × (lines : List Text) × (rest : List ℕ) × Reads null n input lines rest × ((m : ℕ) × (part ≡ fed_lines (lines ++ take m (decoded null rest).0)))
+-- the lines of the first n columns were written, and the first m lines of the next column. A new interner with
+-- this limit takes the dictionary of each
+abbrev pub IsWhole : List ℕ → ℕ → Option Text → List ℕ → Type 0
+IsWhole input limit null part =
+    (n : ℕ) × (lines : List Text) × (rest : List ℕ) × Reads null n input lines rest × AdmitsEach limit null n input
+    × ((m : ℕ) × (0 < m → Admits limit (texts_at rest)) × (part ≡ fed_lines (lines ++ take m (decoded null rest).0)))
 
 -- a beginning of these lines was written
 abbrev pub IsBegun : List ℕ → Option Text → List ℕ → Type 0
@@ -89,20 +97,22 @@ lines_before null bytes error = (decoded null bytes).0
 
 -- how a run ends with an error after it has written the part
 abbrev pub DecodeError : List ℕ → ℕ → Option Text → List ℕ → RunError → Type 0
-DecodeError input limit null part (Line error) = (error ≡ Refused 0 FailedAllocation) × IsWhole input null part
+DecodeError input limit null part (Line error) = (error ≡ Refused 0 FailedAllocation) × IsWhole input limit null part
 DecodeError input limit null part TooManyLines =
-    (n : ℕ) × (lines : List Text) × (rest : List ℕ) × Reads null n input lines rest × AreTooMany n × (part ≡ fed_lines lines)
-DecodeError input limit null part ReadFailed = IsWhole input null part
+    (n : ℕ) × (lines : List Text) × (rest : List ℕ) × Reads null n input lines rest × AdmitsEach limit null n input × AreTooMany n × (part ≡ fed_lines lines)
+DecodeError input limit null part ReadFailed = IsWhole input limit null part
 DecodeError input limit null part WriteFailed = IsBegun input null part
 DecodeError input limit null part ReaderGone = IsBegun input null part
 DecodeError input limit null part (Column column error) =
-    (n : ℕ) × (lines : List Text) × (rest : List ℕ) × Reads null n input lines rest × (column ≡ n + 1) × IsColumnError (line_at null) limit rest error
-    × (part ≡ fed_lines (lines ++ lines_before null rest error))
+    (n : ℕ) × (lines : List Text) × (rest : List ℕ) × Reads null n input lines rest × AdmitsEach limit null n input × (column ≡ n + 1)
+    × IsColumnError (line_at null) limit rest error × (part ≡ fed_lines (lines ++ lines_before null rest error))
 
--- how a run of `decode` ends: without an error, the input is columns and the part is their lines
+-- how a run of `decode` ends: without an error, the input is columns, a new interner with this limit takes the
+-- dictionary of each, and the part is their lines
 abbrev pub DecodeEnd : List ℕ → ℕ → Option Text → List ℕ → Result (Unit {0}) RunError → Type 0
 DecodeEnd input limit null part result =
-    MatchResult result (λ _. (n : ℕ) × (lines : List Text) × Reads null n input lines [] × (part ≡ fed_lines lines)) (DecodeError input limit null part)
+    MatchResult result (λ _. (n : ℕ) × (lines : List Text) × Reads null n input lines [] × AdmitsEach limit null n input × (part ≡ fed_lines lines))
+    (DecodeError input limit null part)
 
 -- ---- the law
 

@@ -1,5 +1,5 @@
 -- What `distinct` writes, and how it ends.
-use Rattle.std.specs.Prelude.{ℕ, ◌≡◌, ◌+◌, ◌≤◌, ◌⊎◌, List, [], ◌∷◌, ◌++◌, length, All, flat_map, take, Result, Ok, MatchResult, IsSomeAnd, is_some, if◌then◌else◌, slice_get}
+use Rattle.std.specs.Prelude.{ℕ, ◌≡◌, ◌≤◌, ◌⊎◌, List, [], ◌∷◌, ◌++◌, length, All, flat_map, take, Result, Ok, MatchResult, is_some, if◌then◌else◌}
 use Rattle.std.specs.Str.{IsUtf8}
 use Rattle.lasso_parts.specs.Texts.{Text, position_of}
 use Rattle.lasso_parts.specs.declared.util.LassoErrorKind.TheVariants.{FailedAllocation}
@@ -13,6 +13,7 @@ use Rattle.lasso_columns.specs.Parts.{new_texts}
 use Rattle.lasso_columns.specs.declared.faults.LineError.{LineError}
 use Rattle.lasso_columns.specs.declared.faults.LineError.TheVariants.{Refused}
 use Rattle.lasso_codes.specs.Errors.{AreTooMany}
+use Rattle.lasso_codes.specs.Limits.{AreTaken, IsNextError, LacksMemory}
 use Rattle.lasso_codes.specs.Streams.{Begins}
 use Rattle.lasso_codes.specs.declared.error.RunError.{RunError}
 use Rattle.lasso_codes.specs.declared.error.RunError.TheVariants.{Line, TooManyLines, ReadFailed, WriteFailed, ReaderGone, Column}
@@ -29,9 +30,10 @@ distinct_report lines = flat_map with_feed (new_texts [] lines)
 abbrev pub passed : List Text → Text → List ℕ
 passed texts line = if is_some (position_of texts line) then [] else with_feed line
 
--- the line is refused or not UTF-8, and nothing was written; or a write failed
+-- the line is refused or not UTF-8, and nothing was written; or a write failed. Only a line that would be taken
+-- is out of memory
 abbrev pub PassError : InternerView → Text → ℕ → List ℕ → RunError → Type 0
-PassError now line number part (Line error) = (part ≡ []) × IsFaultOf now line number error
+PassError now line number part (Line error) = (part ≡ []) × IsFaultOf now line number error × LacksMemory now line error
 PassError now line number part TooManyLines = ⊥
 PassError now line number part ReadFailed = ⊥
 PassError now line number part WriteFailed = Begins part (passed now.texts line)
@@ -44,27 +46,26 @@ PassesLine before line number part after result = MatchResult result
     (λ _. IsUtf8 line × ((key : ℕ) × InternsIn {K = ℕ} spur_at before line (Ok key) after) × (part ≡ passed before.texts line))
     (PassError before line number part)
 
--- the first n lines were interned with this limit. The next line is refused or not UTF-8, or there was no
--- memory for it; a reader may say so at the end too, where there is no next line. Line 0: out of memory outside
--- of a line, and n is 0
+-- the first n lines are UTF-8 and were interned with this limit, and the next line was not. Line 0: out of
+-- memory outside of a line, and n is 0
 abbrev pub IsErrorAfter : ℕ → List Text → ℕ → LineError → Type 0
 IsErrorAfter limit lines n error =
     ((error ≡ Refused 0 FailedAllocation) × (n ≡ 0))
-    ⊎ (((error ≡ Refused (n + 1) FailedAllocation) × (n ≤ length lines))
-    ⊎ ((now : InternerView) × extend spur_at (made_with 4096 limit) (take n lines) (Ok tt) now × IsSomeAnd (slice_get lines n) (λ line. IsFaultOf now line (n + 1) error)))
+    ⊎ (All IsUtf8 (take n lines) × ((now : InternerView) × extend spur_at (made_with 4096 limit) (take n lines) (Ok tt) now × IsNextError now lines n error))
 
 -- how a run ends with an error after it has written the part. After a failed write the part is a beginning of
 -- the report; after another error it is the report of the lines before it
 abbrev pub DistinctError : ℕ → List Text → List ℕ → RunError → Type 0
 DistinctError limit lines part (Line error) = (n : ℕ) × (part ≡ distinct_report (take n lines)) × IsErrorAfter limit lines n error
-DistinctError limit lines part TooManyLines = (n : ℕ) × (part ≡ distinct_report (take n lines)) × AreTooMany n × (n ≤ length lines)
-DistinctError limit lines part ReadFailed = (n : ℕ) × (part ≡ distinct_report (take n lines))
+DistinctError limit lines part TooManyLines =
+    (n : ℕ) × (part ≡ distinct_report (take n lines)) × AreTooMany n × (n ≤ length lines) × AreTaken limit (take n lines)
+DistinctError limit lines part ReadFailed = (n : ℕ) × (part ≡ distinct_report (take n lines)) × AreTaken limit (take n lines)
 DistinctError limit lines part WriteFailed = Begins part (distinct_report lines)
 DistinctError limit lines part ReaderGone = Begins part (distinct_report lines)
 DistinctError limit lines part (Column column error) = ⊥
 
--- how a run of `distinct` ends that has written the part: without an error, all lines are UTF-8 and the part
--- is their report
+-- how a run of `distinct` ends that has written the part: without an error, all lines are UTF-8, a new interner
+-- with this limit takes them, and the part is their report
 abbrev pub DistinctEnd : List ℕ → ℕ → List ℕ → Result (Unit {0}) RunError → Type 0
 DistinctEnd input limit part result =
-    MatchResult result (λ _. All IsUtf8 (lines_of input) × (part ≡ distinct_report (lines_of input))) (DistinctError limit (lines_of input) part)
+    MatchResult result (λ _. AreTaken limit (lines_of input) × (part ≡ distinct_report (lines_of input))) (DistinctError limit (lines_of input) part)

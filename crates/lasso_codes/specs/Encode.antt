@@ -1,5 +1,5 @@
 -- What `encode` writes, and how it ends.
-use Rattle.std.specs.Prelude.{ℕ, ◌≡◌, ◌+◌, ◌^◌, ◌<◌, ◌≤◌, ◌⊎◌, Bool, true, false, List, [], length, map, All, take, Option, Some, Result, Ok, MatchResult, IsSomeAnd, slice_get}
+use Rattle.std.specs.Prelude.{ℕ, ◌≡◌, ◌^◌, ◌<◌, ◌⊎◌, Bool, true, false, List, [], length, map, All, take, Option, Some, Result, Ok, MatchResult}
 use Rattle.std.specs.Str.{IsUtf8}
 use Rattle.lasso_parts.specs.Texts.{Text, position_of}
 use Rattle.lasso_parts.specs.declared.util.LassoErrorKind.TheVariants.{FailedAllocation}
@@ -7,12 +7,12 @@ use Rattle.lasso_single.specs.Filling.{extend}
 use Rattle.lasso_single.specs.Intern.{InternsIn}
 use Rattle.lasso_single.specs.Interner.{InternerView, made_with}
 use Rattle.lasso_encode.specs.Encoding.{spur_at}
-use Rattle.lasso_columns.specs.Faults.{IsFaultOf}
 use Rattle.lasso_input.specs.Lines.{lines_of}
 use Rattle.lasso_columns.specs.declared.faults.LineError.{LineError}
 use Rattle.lasso_columns.specs.declared.faults.LineError.TheVariants.{Refused}
 use Rattle.lasso_codes.specs.Columns.{is_null, texts_of, dictionary_of, entry_of, entry_at, column_bytes}
 use Rattle.lasso_codes.specs.Errors.{AreTooMany}
+use Rattle.lasso_codes.specs.Limits.{Admits, IsNextError}
 use Rattle.lasso_codes.specs.Streams.{Begins}
 use Rattle.lasso_codes.specs.declared.error.RunError.{RunError}
 use Rattle.lasso_codes.specs.declared.error.RunError.TheVariants.{Line, TooManyLines, ReadFailed, WriteFailed, ReaderGone, Column}
@@ -32,15 +32,13 @@ abbrev pub AreNumbered : Option Text → List Text → List Text → List ℕ �
 AreNumbered null lines list numbers =
     (list ≡ dictionary_of null lines) × (map entry_at numbers ≡ map (entry_of null (dictionary_of null lines)) lines) × (length list < 2 ^ 32)
 
--- the first n lines were encoded with this limit. The next line is refused or not UTF-8, or there was no
--- memory for it; a reader may say so at the end too, where there is no next line. Line 0: out of memory outside
--- of a line, and n is 0
+-- the first n lines are UTF-8 and were encoded with this limit, and the next line was not. Line 0: out of
+-- memory outside of a line, and n is 0
 abbrev pub IsEncodeError : ℕ → Option Text → List Text → ℕ → LineError → Type 0
 IsEncodeError limit null lines n error =
     ((error ≡ Refused 0 FailedAllocation) × (n ≡ 0))
-    ⊎ (((error ≡ Refused (n + 1) FailedAllocation) × (n ≤ length lines))
-    ⊎ ((now : InternerView) × extend spur_at (made_with 4096 limit) (texts_of null (take n lines)) (Ok tt) now
-    × IsSomeAnd (slice_get lines n) (λ line. IsFaultOf now line (n + 1) error)))
+    ⊎ (All IsUtf8 (take n lines)
+    × ((now : InternerView) × extend spur_at (made_with 4096 limit) (texts_of null (take n lines)) (Ok tt) now × IsNextError now lines n error))
 
 -- why lines were not encoded
 abbrev pub EncodingError : ℕ → Option Text → List Text → RunError → Type 0
@@ -65,8 +63,11 @@ EncodeError limit null binary lines part (Column column error) = ⊥
 abbrev pub AreCodable : Option Text → List Text → Type 0
 AreCodable null lines = (length (dictionary_of null lines) < 2 ^ 32) × (length lines < 2 ^ 64)
 
--- how a run of `encode` ends: without an error, all lines are UTF-8 and the part is their column
+-- how a run of `encode` ends: without an error, all lines are UTF-8, a new interner with this limit takes those
+-- that are no nulls, and the part is their column
 abbrev pub EncodeEnd : List ℕ → ℕ → Option Text → Bool → List ℕ → Result (Unit {0}) RunError → Type 0
 EncodeEnd input limit null binary part result =
-    MatchResult result (λ _. All IsUtf8 (lines_of input) × (part ≡ column_bytes binary null (lines_of input)) × AreCodable null (lines_of input))
+    MatchResult result
+    (λ _. All IsUtf8 (lines_of input) × (part ≡ column_bytes binary null (lines_of input)) × AreCodable null (lines_of input)
+    × Admits limit (texts_of null (lines_of input)))
     (EncodeError limit null binary (lines_of input) part)

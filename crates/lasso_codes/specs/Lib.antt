@@ -1,6 +1,7 @@
 pub mod Views
 pub mod Errors
 pub mod Streams
+pub mod Limits
 pub mod Distinct
 pub mod Counts
 pub mod Columns

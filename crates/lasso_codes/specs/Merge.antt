@@ -11,14 +11,14 @@ use Rattle.lasso_columns.specs.declared.faults.LineError.TheVariants.{Refused}
 use Rattle.lasso_codes.specs.Columns.{column_of, entry_at}
 use Rattle.lasso_codes.specs.Decode.{decoded, Reads}
 use Rattle.lasso_codes.specs.Errors.{AreTooMany}
-use Rattle.lasso_codes.specs.Reading.{Makes, ReadItems, ReadTexts, texts_from, head_of, read_column, IsEntryError, IsColumnError}
+use Rattle.lasso_codes.specs.Limits.{Admits}
+use Rattle.lasso_codes.specs.Reading.{Makes, ReadItems, texts_at, read_column, IsEntryError, IsColumnError}
 use Rattle.lasso_codes.specs.Streams.{Begins}
 use Rattle.lasso_codes.specs.declared.entries.Entry.TheVariants.{Missing, Bad, Null, Code}
 use Rattle.lasso_codes.specs.declared.error.ColumnError.{ColumnError}
 use Rattle.lasso_codes.specs.declared.error.ColumnError.TheVariants.{NoEntry, NotEntry, PastTexts, NotMerged}
 use Rattle.lasso_codes.specs.declared.error.RunError.{RunError}
 use Rattle.lasso_codes.specs.declared.error.RunError.TheVariants.{Line, TooManyLines, ReadFailed, WriteFailed, ReaderGone, Column}
-use Rattle.lasso_codes.specs.declared.reading.Header.{Header}
 
 -- ---- the entries of a column in the dictionary of all
 
@@ -40,20 +40,6 @@ recoded list texts (Code code) number = code_or_past list (slice_get texts code)
 abbrev pub entries_of : List Text → List ℕ → ReadItems (Option ℕ)
 entries_of list bytes = read_column (recoded list) bytes
 
--- the texts that were read, or none
-abbrev pub read_list : ReadTexts → List Text
-read_list (Err error) = []
-read_list (Ok read) = read.0
-
--- the texts after a header, or none
-abbrev pub head_list : Option (Header × List ℕ) → List Text
-head_list None = []
-head_list (Some head) = read_list (texts_from head.0.distinct [] head.1)
-
--- the dictionary of the first column of the bytes; empty if it can't be read
-abbrev pub texts_at : List ℕ → List Text
-texts_at bytes = head_list (head_of bytes)
-
 -- ---- columns as one
 
 -- each distinct text once, in the order of first occurrences
@@ -67,6 +53,17 @@ Merges zero bytes texts entries rest = (texts ≡ []) × (entries ≡ []) × (re
 Merges (suc n) bytes texts entries rest =
     (before : List Text) × (first : List (Option ℕ)) × (mid : List ℕ) × Merges n bytes before first mid × (texts ≡ before ++ texts_at mid)
     × ((entries_of (distinct_of texts) mid).1 ≡ Ok rest) × (entries ≡ first ++ (entries_of (distinct_of texts) mid).0)
+
+-- the first n columns of the bytes have dictionaries that a new interner with this limit takes, each one alone
+abbrev pub AdmitsColumns : ℕ → ℕ → List ℕ → Type 0
+AdmitsColumns limit zero bytes = Unit {0}
+AdmitsColumns limit (suc n) bytes =
+    AdmitsColumns limit n bytes × ((texts : List Text) × (entries : List (Option ℕ)) × (mid : List ℕ) × Merges n bytes texts entries mid × Admits limit (texts_at mid))
+
+-- the bytes begin with n columns, as `Merges` says. A new interner with this limit takes the dictionary of each,
+-- and one takes the texts of all
+abbrev pub MergesWithin : ℕ → ℕ → List ℕ → List Text → List (Option ℕ) → List ℕ → Type 0
+MergesWithin limit n bytes texts entries rest = Merges n bytes texts entries rest × AdmitsColumns limit n bytes × Admits limit texts
 
 -- why the entries of the column with this number were not added
 abbrev pub EntriesError : ReadItems (Option ℕ) → ℕ → RunError → Type 0
@@ -96,10 +93,12 @@ abbrev pub IsNotMerged : ℕ → List Text → List Text → LassoError → Type
 IsNotMerged limit before texts error =
     (n : ℕ) × (now : InternerView) × extend spur_at (made_with 4096 limit) (before ++ take n texts) (Ok tt) now × IsSomeAnd (slice_get texts n) (λ text. IsRefused now text error)
 
--- why the first column of the bytes was not merged. `before` are the texts of the columns before it
+-- why the first column of the bytes was not merged. `before` are the texts of the columns before it. Before an
+-- entry that is at fault, a new interner with this limit takes those and the texts of the column
 abbrev pub IsMergeError : ℕ → List Text → List ℕ → ColumnError → Type 0
-IsMergeError limit before bytes (NotMerged error) = IsNotMerged limit before (texts_at bytes) error
-IsMergeError limit before bytes error = IsColumnError (recoded (distinct_of (before ++ texts_at bytes))) limit bytes error
+IsMergeError limit before bytes (NotMerged error) = Admits limit (texts_at bytes) × IsNotMerged limit before (texts_at bytes) error
+IsMergeError limit before bytes error =
+    IsColumnError (recoded (distinct_of (before ++ texts_at bytes))) limit bytes error × (IsEntryError error → Admits limit (before ++ texts_at bytes))
 
 -- nothing was written, or a beginning of the merged column
 abbrev pub IsMergeBegun : List ℕ → Bool → List ℕ → Type 0
@@ -107,20 +106,21 @@ IsMergeBegun input binary part =
     (part ≡ []) ⊎ ((n : ℕ) × (texts : List Text) × (entries : List (Option ℕ)) × Merges n input texts entries [] × Begins part (column_of binary (distinct_of texts) entries))
 
 -- the list is the dictionary of the merged column, and the numbers are those of its entries
-abbrev pub AreMerged : List ℕ → List Text → List ℕ → Type 0
-AreMerged input list numbers =
-    (n : ℕ) × (texts : List Text) × Merges n input texts (map entry_at numbers) [] × (list ≡ distinct_of texts) × (length list < 2 ^ 32)
+abbrev pub AreMerged : List ℕ → ℕ → List Text → List ℕ → Type 0
+AreMerged input limit list numbers =
+    (n : ℕ) × (texts : List Text) × MergesWithin limit n input texts (map entry_at numbers) [] × (list ≡ distinct_of texts) × (length list < 2 ^ 32)
 
 -- why columns were not merged
 abbrev pub MergingError : List ℕ → ℕ → RunError → Type 0
 MergingError input limit (Line error) = error ≡ Refused 0 FailedAllocation
 MergingError input limit TooManyLines =
-    (n : ℕ) × (texts : List Text) × (entries : List (Option ℕ)) × (rest : List ℕ) × Merges n input texts entries rest × AreTooMany n
+    (n : ℕ) × (texts : List Text) × (entries : List (Option ℕ)) × (rest : List ℕ) × MergesWithin limit n input texts entries rest × AreTooMany n
 MergingError input limit ReadFailed = Unit {0}
 MergingError input limit WriteFailed = ⊥
 MergingError input limit ReaderGone = ⊥
 MergingError input limit (Column column error) =
-    (n : ℕ) × (texts : List Text) × (entries : List (Option ℕ)) × (rest : List ℕ) × Merges n input texts entries rest × (column ≡ n + 1) × IsMergeError limit texts rest error
+    (n : ℕ) × (texts : List Text) × (entries : List (Option ℕ)) × (rest : List ℕ) × MergesWithin limit n input texts entries rest × (column ≡ n + 1)
+    × IsMergeError limit texts rest error
 
 -- how a run ends with an error after it has written the part. Nothing was written unless all columns were
 -- merged
@@ -136,11 +136,12 @@ MergeError input limit binary part (Column column error) = (part ≡ []) × Merg
 abbrev pub AreFew : List Text → List (Option ℕ) → Type 0
 AreFew list entries = (length list < 2 ^ 32) × (length entries < 2 ^ 64)
 
--- how a run of `merge` ends: without an error, the input is columns and the part is the merged column
+-- how a run of `merge` ends: without an error, the input is columns, they are merged within this limit, and the
+-- part is the merged column
 abbrev pub MergeEnd : List ℕ → ℕ → Bool → List ℕ → Result (Unit {0}) RunError → Type 0
 MergeEnd input limit binary part result =
     MatchResult result
-    (λ _. (n : ℕ) × (texts : List Text) × (entries : List (Option ℕ)) × Merges n input texts entries [] × AreFew (distinct_of texts) entries
+    (λ _. (n : ℕ) × (texts : List Text) × (entries : List (Option ℕ)) × MergesWithin limit n input texts entries [] × AreFew (distinct_of texts) entries
     × (part ≡ column_of binary (distinct_of texts) entries))
     (MergeError input limit binary part)
 

@@ -1,13 +1,14 @@
 //! Counts the lines.
 ghost use Rattle.std.specs.Prelude.{◌≡◌, ◌+◌, ◌-◌, ◌^◌, ◌<◌, ◌≤◌, ◌++◌, ◌∷◌, [], ℕ, List, Some, Ok, Err, OnOk, IfOk, IfErr, MatchResult, All, IsTrue, IsUtf8, length, drop, map, sum, flat_map, vec_len};
 ghost use Rattle.lasso_parts.specs.Texts.{Text};
+ghost use Rattle.lasso_single.specs.Filling.{extend};
 ghost use Rattle.lasso_single.specs.Intern.{InternsIn};
 ghost use Rattle.lasso_single.specs.Interner.{InternerView, made_with};
 ghost use Rattle.lasso_encode.specs.Encoding.{spur_at};
 ghost use Rattle.lasso_columns.specs.Faults.{IsFaultOf};
 ghost use Rattle.lasso_input.specs.Lines.{lines_of};
 ghost use Rattle.lasso_counts.specs.Counts.{AreCounts, pair_of};
-ghost use Rattle.lasso_codes.specs.Counts.{CountsEnd, CountingError, count_line};
+ghost use Rattle.lasso_codes.specs.Counts.{CountsEnd, CountingError, RefusesNewLine, count_line};
 ghost use Rattle.lasso_codes.specs.Stages.{Counting};
 ghost use Rattle.lasso_codes.specs.Streams.{Writes, WritesAll};
 ghost use Rattle.lasso_codes.specs.Errors.{failed_reads, failed_writes, gone_readers, IsWriteEnd, IsDataError, IsInputError};
@@ -88,6 +89,7 @@ fn count_all<H: AllocGlobal + Threads + Sync, R: Read + Drop>(
     requires no_counts { counts.old.items ≡ [] }
     ensures counted { OnOk result ((bytes : List ℕ) → input.old.left ≡ Some bytes →
         All IsUtf8 (lines_of bytes) × AreCounts (lines_of bytes) rodeo.new.texts counts.new.items) }
+    ensures interned { OnOk result ((bytes : List ℕ) → input.old.left ≡ Some bytes → extend spur_at rodeo.old (lines_of bytes) (Ok tt) rodeo.new) }
     ensures lengths { vec_len counts.new ≡ length rodeo.new.texts }
     ensures error { IfErr result (λ error. (bytes : List ℕ) → input.old.left ≡ Some bytes →
         (limit : ℕ) → rodeo.old ≡ made_with 4096 limit → CountingError limit (lines_of bytes) error) }
@@ -111,6 +113,7 @@ fn count_lines<R: Read + Drop>(
     requires no_counts { counts.old.items ≡ [] }
     ensures counted { OnOk result ((bytes : List ℕ) → input.old.left ≡ Some bytes →
         All IsUtf8 (lines_of bytes) × AreCounts (lines_of bytes) rodeo.new.texts counts.new.items) }
+    ensures interned { OnOk result ((bytes : List ℕ) → input.old.left ≡ Some bytes → extend spur_at rodeo.old (lines_of bytes) (Ok tt) rodeo.new) }
     ensures lengths { vec_len counts.new ≡ length rodeo.new.texts }
     ensures error { IfErr result (λ error. (bytes : List ℕ) → input.old.left ≡ Some bytes →
         (limit : ℕ) → rodeo.old ≡ made_with 4096 limit → CountingError limit (lines_of bytes) error) }
@@ -186,6 +189,7 @@ fn count_line(
     ensures total { OnOk result (sum counts.new.items ≡ sum counts.old.items + 1) }
     ensures lengths { vec_len counts.new ≡ length rodeo.new.texts }
     ensures error { IfErr result (IsFaultOf rodeo.old line.now number) }
+    ensures memory { IfErr result (RefusesNewLine rodeo.old counts.new line.now) }
 {
     let Ok(text) = line_text(line, is_text) else {
         return Err(LineError::NotText(number));
@@ -208,6 +212,7 @@ fn count_whole<H: AllocGlobal + Threads + Sync, R: Read + Drop>(
     requires no_counts { counts.old.items ≡ [] }
     ensures counted { OnOk result ((bytes : List ℕ) → input.old.left ≡ Some bytes →
         All IsUtf8 (lines_of bytes) × AreCounts (lines_of bytes) rodeo.new.texts counts.new.items) }
+    ensures interned { OnOk result ((bytes : List ℕ) → input.old.left ≡ Some bytes → extend spur_at rodeo.old (lines_of bytes) (Ok tt) rodeo.new) }
     ensures lengths { vec_len counts.new ≡ length rodeo.new.texts }
     ensures error { IfErr result (λ error. (bytes : List ℕ) → input.old.left ≡ Some bytes →
         (limit : ℕ) → rodeo.old ≡ made_with 4096 limit → CountingError limit (lines_of bytes) error) }

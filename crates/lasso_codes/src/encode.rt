@@ -1,8 +1,9 @@
 //! Encodes lines as a column.
-ghost use Rattle.std.specs.Prelude.{◌≡◌, ◌+◌, ◌<◌, ◌≤◌, ◌-◌, ◌^◌, ◌++◌, ◌∷◌, [], ℕ, List, Some, Err, OnOk, IfOk, IfErr, MatchResult, All, IsTrue, IsUtf8, drop, length, map};
+ghost use Rattle.std.specs.Prelude.{◌≡◌, ◌+◌, ◌<◌, ◌≤◌, ◌-◌, ◌^◌, ◌++◌, ◌∷◌, [], ℕ, List, Some, Ok, Err, OnOk, OnErr, IfOk, IfErr, MatchResult, All, IsTrue, IsUtf8, drop, length, map, vec_capacity, vec_len};
+ghost use Rattle.lasso_single.specs.Filling.{extend};
 ghost use Rattle.lasso_single.specs.Interner.{InternerView, made_with};
-ghost use Rattle.lasso_encode.specs.Encoding.{IsRefused};
-ghost use Rattle.lasso_columns.specs.Faults.{IsFaultOf};
+ghost use Rattle.lasso_encode.specs.Encoding.{spur_at, IsAdmitted, IsRefused};
+ghost use Rattle.lasso_columns.specs.Faults.{IsFaultOf, LineMayLackMemory};
 ghost use Rattle.lasso_input.specs.Lines.{lines_of};
 ghost use Rattle.lasso_columns.specs.declared.faults.LineError.TheVariants.{Refused};
 ghost use Rattle.lasso_parts.specs.declared.util.LassoErrorKind.TheVariants.{FailedAllocation};
@@ -10,6 +11,7 @@ ghost use Rattle.lasso_codes.specs.Arguments.{word_of};
 ghost use Rattle.lasso_codes.specs.Columns.{is_null, texts_of};
 ghost use Rattle.lasso_codes.specs.Encode.{AreNumbered, EncodeEnd, EncodingError, IsNumbered};
 ghost use Rattle.lasso_codes.specs.Errors.{failed_reads, failed_writes, gone_readers, IsWriteEnd, IsDataError, IsInputError};
+ghost use Rattle.lasso_codes.specs.Limits.{LacksMemory};
 ghost use Rattle.lasso_codes.specs.Stages.{Encoding};
 ghost use Rattle.lasso_codes.specs.Streams.{Writes};
 ghost use Rattle.lasso_codes.specs.Whole.{spread};
@@ -25,8 +27,8 @@ use crate::streams::{Input, Output};
 use crate::whole::{read_whole, text_lines};
 use lasso::{LassoError, LassoErrorKind, LassoResult, MemoryLimits, SpurRodeo};
 use lasso_columns::{LineError, encode_in_parts};
-use lasso_input::find_newline;
 use lasso_encode::intern_code;
+use lasso_input::find_newline;
 use std::alloc::Global;
 use std::io::{Read, Write};
 use std::thread::Threads;
@@ -88,6 +90,8 @@ fn number_lines<H: AllocGlobal + Threads + Sync, R: Read + Drop>(
     requires no_numbers { numbers.old.items ≡ [] }
     ensures numbered { OnOk result ((bytes : List ℕ) → input.old.left ≡ Some bytes →
         All IsUtf8 (lines_of bytes) × AreNumbered (word_of null.entry) (lines_of bytes) rodeo.new.texts numbers.new.items) }
+    ensures interned { OnOk result ((bytes : List ℕ) → input.old.left ≡ Some bytes →
+        extend spur_at rodeo.old (texts_of (word_of null.entry) (lines_of bytes)) (Ok tt) rodeo.new) }
     ensures error { IfErr result (λ error. (bytes : List ℕ) → input.old.left ≡ Some bytes →
         (limit : ℕ) → rodeo.old ≡ made_with 4096 limit → EncodingError limit (word_of null.entry) (lines_of bytes) error) }
     ensures faults { IfErr result IsInputError }
@@ -111,6 +115,8 @@ fn encode_lines<R: Read + Drop>(
     requires no_numbers { numbers.old.items ≡ [] }
     ensures numbered { OnOk result ((bytes : List ℕ) → input.old.left ≡ Some bytes →
         All IsUtf8 (lines_of bytes) × AreNumbered (word_of null.entry) (lines_of bytes) rodeo.new.texts numbers.new.items) }
+    ensures interned { OnOk result ((bytes : List ℕ) → input.old.left ≡ Some bytes →
+        extend spur_at rodeo.old (texts_of (word_of null.entry) (lines_of bytes)) (Ok tt) rodeo.new) }
     ensures error { IfErr result (λ error. (bytes : List ℕ) → input.old.left ≡ Some bytes →
         (limit : ℕ) → rodeo.old ≡ made_with 4096 limit → EncodingError limit (word_of null.entry) (lines_of bytes) error) }
     ensures faults { IfErr result IsInputError }
@@ -181,6 +187,8 @@ fn encode_whole<H: AllocGlobal + Threads + Sync, R: Read + Drop>(
     requires no_numbers { numbers.old.items ≡ [] }
     ensures numbered { OnOk result ((bytes : List ℕ) → input.old.left ≡ Some bytes →
         All IsUtf8 (lines_of bytes) × AreNumbered (word_of null.entry) (lines_of bytes) rodeo.new.texts numbers.new.items) }
+    ensures interned { OnOk result ((bytes : List ℕ) → input.old.left ≡ Some bytes →
+        extend spur_at rodeo.old (texts_of (word_of null.entry) (lines_of bytes)) (Ok tt) rodeo.new) }
     ensures error { IfErr result (λ error. (bytes : List ℕ) → input.old.left ≡ Some bytes →
         (limit : ℕ) → rodeo.old ≡ made_with 4096 limit → EncodingError limit (word_of null.entry) (lines_of bytes) error) }
     ensures faults { IfErr result IsInputError }
@@ -263,6 +271,7 @@ fn encode_line(
     requires { IsTrue is_text → IsUtf8 line.now }
     ensures numbered { OnOk result (IsUtf8 line.now × ((entry : ℕ) × IsNumbered (word_of null.entry) rodeo.old line.now rodeo.new entry × (numbers.new.items ≡ numbers.old.items ++ entry ∷ []))) }
     ensures error { IfErr result (IsFaultOf rodeo.old line.now number) }
+    ensures memory { IfErr result (LineMayLackMemory rodeo.old numbers.old line.now) }
 {
     let entry = entry_of(rodeo, null, line, is_text, number)?;
     append(numbers, entry, number)?;
@@ -280,7 +289,7 @@ fn entry_of(
     requires { IsTrue is_text → IsUtf8 line.now }
     ensures { MatchResult result
         (λ entry. IsUtf8 line.now × IsNumbered (word_of null.entry) rodeo.old line.now rodeo.new entry)
-        (IsFaultOf rodeo.old line.now number) }
+        (λ error. IsFaultOf rodeo.old line.now number error × LacksMemory rodeo.old line.now error) }
 {
     let Ok(text) = line_text(line, is_text) else {
         return Err(LineError::NotText(number));
@@ -298,6 +307,7 @@ fn entry_of(
 pub fn append(numbers: &mut Vec<u32>, entry: u32, number: usize) -> Result<(), LineError>
     ensures items { OnOk result (numbers.new.items ≡ numbers.old.items ++ entry ∷ []) }
     ensures error { IfErr result (λ error. error ≡ Refused number FailedAllocation) }
+    ensures full { OnErr result (vec_capacity numbers.old ≤ vec_len numbers.old) }
 {
     if numbers.push(entry).is_err() {
         let error = LassoError::new(LassoErrorKind::FailedAllocation);
@@ -308,7 +318,9 @@ pub fn append(numbers: &mut Vec<u32>, entry: u32, number: usize) -> Result<(), L
 
 // The entry of the text. Interns the text, unless it is a null.
 fn number_of(rodeo: &mut SpurRodeo, null: Option<&[u8]>, text: &str) -> LassoResult<u32>
-    ensures { MatchResult result (IsNumbered (word_of null.entry) rodeo.old text.now rodeo.new) (IsRefused rodeo.old text.now) }
+    ensures { MatchResult result
+        (IsNumbered (word_of null.entry) rodeo.old text.now rodeo.new)
+        (λ error. IsRefused rodeo.old text.now error × (error ≡ FailedAllocation → IsAdmitted rodeo.old text.now)) }
 {
     if is_null(null, text.as_bytes()) {
         return Ok(NULL);

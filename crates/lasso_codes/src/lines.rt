@@ -1,9 +1,10 @@
 //! Checks lines for UTF-8, and interns them.
-ghost use Rattle.std.specs.Prelude.{◌≡◌, ◌-◌, ℕ, Ok, MatchResult, IsTrue, IsUtf8, is_none, length, take};
+ghost use Rattle.std.specs.Prelude.{◌≡◌, ◌-◌, ℕ, Ok, IfErr, MatchResult, IsTrue, IsUtf8, is_none, length, take};
 ghost use Rattle.lasso_parts.specs.Texts.{position_of};
 ghost use Rattle.lasso_single.specs.Intern.{InternsIn};
 ghost use Rattle.lasso_encode.specs.Encoding.{spur_at};
 ghost use Rattle.lasso_columns.specs.Faults.{IsFaultOf};
+ghost use Rattle.lasso_codes.specs.Limits.{LacksMemory};
 
 use lasso::{Rodeo, Spur};
 use lasso_columns::LineError;
@@ -15,7 +16,8 @@ use std::str::{Utf8Error, from_utf8, from_utf8_unchecked};
 /// it is UTF-8.
 ///
 /// # Errors
-/// The line is not UTF-8, or it is refused. The interner is as it was.
+/// The line is not UTF-8, or it is refused. The interner is as it was. Out of memory occurs only for a line
+/// that the interner lacks and would take.
 pub fn intern_line<S: BuildHasher, A: Allocator + Clone>(
     rodeo: &mut Rodeo<Spur, S, A>,
     line: &[u8],
@@ -23,9 +25,10 @@ pub fn intern_line<S: BuildHasher, A: Allocator + Clone>(
     number: usize,
 ) -> Result<bool, LineError>
     requires { IsTrue is_text → IsUtf8 line.now }
-    ensures { MatchResult result
+    ensures interned { MatchResult result
         (λ is_new. IsUtf8 line.now × ((key : ℕ) × InternsIn {K = ℕ} spur_at rodeo.old line.now (Ok key) rodeo.new) × (is_new ≡ is_none (position_of rodeo.old.texts line.now)))
         (λ error. (rodeo.new ≡ rodeo.old) × IsFaultOf rodeo.old line.now number error) }
+    ensures memory { IfErr result (LacksMemory rodeo.old line.now) }
 {
     let Ok(text) = line_text(line, is_text) else {
         return Err(LineError::NotText(number));

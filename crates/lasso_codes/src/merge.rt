@@ -79,7 +79,7 @@ fn merge_columns<R: Read + Drop>(
 ) -> Result<(), RunError>
     requires made { rodeo.old ≡ made_with 4096 limits }
     requires no_numbers { numbers.old.items ≡ [] }
-    ensures merged { OnOk result ((bytes : List ℕ) → input.old.left ≡ Some bytes → AreMerged bytes rodeo.new.texts numbers.new.items) }
+    ensures merged { OnOk result ((bytes : List ℕ) → input.old.left ≡ Some bytes → AreMerged bytes limits rodeo.new.texts numbers.new.items) }
     ensures error { IfErr result (λ error. (bytes : List ℕ) → input.old.left ≡ Some bytes → MergingError bytes limits error) }
     ensures faults { IfErr result IsInputError }
     ensures reads { input.new.failures ≡ input.old.failures + failed_reads result }

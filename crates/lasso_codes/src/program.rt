@@ -9,7 +9,8 @@ ghost use Rattle.lasso_codes.specs.Errors.{failed_reads, failed_writes, gone_rea
 ghost use Rattle.lasso_codes.specs.Merge.{MergeEnd};
 ghost use Rattle.lasso_codes.specs.Streams.{Writes};
 ghost use Rattle.lasso_codes.specs.declared.arguments.Settings.{Settings};
-ghost use Rattle.lasso_codes.specs.declared.arguments.Command.TheVariants.{Run};
+ghost use Rattle.lasso_codes.specs.declared.arguments.Command.TheVariants.{Help, VerbHelp, Version, Run};
+ghost use Rattle.lasso_codes.specs.declared.arguments.Verb.{Verb};
 ghost use Rattle.lasso_codes.specs.declared.arguments.Verb.TheVariants.{Counts, Decode, Distinct, Encode, Merge};
 
 use crate::arguments::{Command, Request, Verb};
@@ -49,6 +50,9 @@ pub fn run_request<H: AllocGlobal + Threads + Sync, R: Read + Drop, W: Write + D
         Writes output.old.written output.new.written (λ part. EncodeEnd bytes settings.limit (word_of request.now.null) settings.binary part result) }
     ensures merge { (settings : Settings) (bytes : List ℕ) → request.now.command ≡ Run Merge settings → input.old.left ≡ Some bytes →
         Writes output.old.written output.new.written (λ part. MergeEnd bytes settings.limit settings.binary part result) }
+    ensures help { request.now.command ≡ Help → input.new ≡ input.old }
+    ensures verb_help { (verb : Verb) → request.now.command ≡ VerbHelp verb → input.new ≡ input.old }
+    ensures version { request.now.command ≡ Version → input.new ≡ input.old }
     ensures flushed { ¬ (IsWriteEnd result) → output.new.pending ≡ [] }
     ensures reads { ¬ (result ≡ Err RunError.WriteFailed) → input.new.failures ≡ input.old.failures + failed_reads result }
     ensures writes { output.new.failures ≡ output.old.failures + failed_writes result }

@@ -69,6 +69,7 @@ pub fn read_texts<R: Read + Drop>(
 ) -> Result<(), RunError>
     requires { rodeo.old.texts ≡ [] }
     ensures taken { OnOk result (TakesTexts input.old.left input.new.left distinct rodeo.new.texts) }
+    ensures list { OnOk result (extend spur_at rodeo.old rodeo.new.texts (Ok tt) rodeo.new) }
     ensures error { IfErr result (λ error. (bytes : List ℕ) → input.old.left ≡ Some bytes →
         (limit : ℕ) → rodeo.old ≡ made_with 4096 limit → TextsError limit distinct column bytes error) }
     ensures faults { IfErr result IsInputError }

@@ -4,6 +4,7 @@
 //! counts the errors that it gets, in one method, `failed`, and only the methods of this file can call it: the
 //! others see the counts by their contracts, and can't change them.
 ghost use Rattle.std.specs.Prelude.{◌≡◌, ◌+◌, ◌<◌, ◌≤◌, ℕ, List, ◌++◌, Some, IfOk, Err, IfErr, IfSome, OnOk, [], drop, length, vec_len};
+ghost use Rattle.std.specs.Io.{WritesAtMost};
 ghost use Rattle.std.specs.Io.BufRead.{DropsThrough, take_through};
 ghost use Rattle.std.specs.Io.Buffered.{reader_buffer, reader_remaining, writer_buffer, writer_contents};
 ghost use Rattle.std.specs.Io.KnownBytes.{IsAtEnd, Keeps, WriteAppends, append_known, prepend_known};
@@ -154,7 +155,8 @@ impl<R: Read + Drop> Input<R> {
 
 // Reads the next byte. A read that was interrupted is tried again, 2^64 - 1 times at most.
 fn read_byte<R: Read + Drop>(inner: &mut BufReader<R>) -> io::Result<Option<u8>>
-    ensures { IfOk result (TakesByte (reader_remaining R.remaining inner.old) (reader_remaining R.remaining inner.new)) }
+    ensures taken { IfOk result (TakesByte (reader_remaining R.remaining inner.old) (reader_remaining R.remaining inner.new)) }
+    ensures retried { IfErr result (λ error. ¬ (error_kind error ≡ ErrorKind.Interrupted)) }
 {
     let mut byte = [0];
     for _ in 0..u64::MAX {
@@ -165,7 +167,7 @@ fn read_byte<R: Read + Drop>(inner: &mut BufReader<R>) -> io::Result<Option<u8>>
             Err(error) => return Err(error),
         }
     }
-    Err(io::Error::from(ErrorKind::Interrupted))
+    Err(io::Error::from(ErrorKind::TimedOut))
 }
 
 /// A writer with a buffer, which counts its failed writes and flushes, and those of them that found the reader
@@ -217,7 +219,8 @@ impl<W: Write + Drop> Output<W> {
         inner.into_parts()
     }
 
-    /// Writes some of the bytes, which must not be empty, and at least one. Returns their number.
+    /// Writes some of the bytes, which must not be empty, and at least one. Returns their number. A write that
+    /// was interrupted is tried again.
     ///
     /// # Errors
     /// The writer failed, or its reader is gone. None of the bytes was written.
@@ -231,7 +234,7 @@ impl<W: Write + Drop> Output<W> {
         ensures writes { self.new.failures ≡ self.old.failures + failed_writes result }
         ensures gone { self.new.gone ≡ self.old.gone + gone_readers result }
     {
-        match self.inner.write(bytes) {
+        match write_some(&mut self.inner, bytes) {
             Ok(0) => Err(self.failed(&io::Error::from(ErrorKind::WriteZero))),
             Ok(count) => Ok(count),
             Err(error) => Err(self.failed(&error)),
@@ -271,4 +274,21 @@ impl<W: Write + Drop> Output<W> {
         }
         RunError::of_write(error)
     }
+}
+
+// Writes some of the bytes. A write that was interrupted is tried again, 2^64 - 1 times at most.
+#[inline]
+fn write_some<W: Write + Drop>(inner: &mut BufWriter<W>, bytes: &[u8]) -> io::Result<usize>
+    ensures bound { WritesAtMost result bytes.now }
+    ensures bytes { WriteAppends (writer_contents W.contents inner.old) (writer_contents W.contents inner.new) result bytes.now }
+    ensures retried { IfErr result (λ error. ¬ (error_kind error ≡ ErrorKind.Interrupted)) }
+{
+    for _ in 0..u64::MAX {
+        match inner.write(bytes) {
+            Ok(count) => return Ok(count),
+            Err(error) if error.kind() == ErrorKind::Interrupted => {}
+            Err(error) => return Err(error),
+        }
+    }
+    Err(io::Error::from(ErrorKind::TimedOut))
 }

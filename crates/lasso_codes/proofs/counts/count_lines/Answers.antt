@@ -5,7 +5,7 @@ use Rattle.lasso_columns.specs.Faults.{IsFaultOf}
 use Rattle.lasso_input.specs.Lines.{lines_of}
 use Rattle.lasso_codes.specs.Stages.{Counting}
 use Rattle.lasso_codes.proofs.Feeds.{no_line, one_line}
-use Rattle.lasso_codes.proofs.CountedLines.{counting_push, counting_ends, counting_many, counting_read_fails, counting_line_fails}
+use Rattle.lasso_codes.proofs.CountedLines.{counting_push, counting_ends, counting_interned, counting_many, counting_read_fails, counting_line_fails}
 use Rattle.lasso_codes.proofs.Stretches.{left_after}
 use Rattle.lasso_codes.proofs.counts.count_lines.Goals as goal
 
@@ -30,7 +30,7 @@ returns-in_err-next_line-clause-error g c =
     let left = drop c.in_ok-next.used c.buffered.result.now ++ hand.0 in
     let so_far = subst (λ bs. Counting bytes bs at.number c.args.rodeo.now at.rodeo at.counts.items) hand.1 ahead.2 in
     let then = c.in_ok-next.ensures.counted bytes hand.0 c.args.rodeo.now so_far in
-    counting_read_fails bytes left c.in_ok-next.next c.args.rodeo.now c.count_stretch.new.rodeo c.count_stretch.new.counts.items then limit c.in_err-next_line.field-0.0 c.in_err-next_line.ensures.errors)
+    counting_read_fails bytes left c.in_ok-next.next c.args.rodeo.now c.count_stretch.new.rodeo c.count_stretch.new.counts.items then limit c.in_err-next_line.field-0.0 made c.in_err-next_line.ensures.errors)
 
 pub returns-then-not-branch-clause-counted : goal.returns-then-not-branch-clause-counted
 returns-then-not-branch-clause-counted g c = λ bytes e.
@@ -43,6 +43,18 @@ returns-then-not-branch-clause-counted g c = λ bytes e.
     let then = c.in_ok-next.ensures.counted bytes hand.0 c.args.rodeo.now so_far in
     let known = left_after _ _ _ shown hand.0 ahead.0 c.in_ok-next.used c.buffered.ensures.value c.consume.ensures.left ahead.1 hand.1 in
     counting_ends bytes left c.in_ok-next.next c.args.rodeo.now c.count_stretch.new.rodeo c.count_stretch.new.counts.items then (no_line _ _ c.in_ok-next_line.field-0 _ c.in_ok-next_line.ensures.taken c.if-not-branch.true left known)
+
+pub returns-then-not-branch-clause-interned : goal.returns-then-not-branch-clause-interned
+returns-then-not-branch-clause-interned g c = λ bytes e.
+    let at = c.loop-number in
+    let ahead = at.invariant.ahead bytes e in
+    let hand = c.buffered.ensures.first ahead.0 ahead.1 in
+    let shown = c.buffered.result.now in
+    let left = drop c.in_ok-next.used shown ++ hand.0 in
+    let so_far = subst (λ bs. Counting bytes bs at.number c.args.rodeo.now at.rodeo at.counts.items) hand.1 ahead.2 in
+    let then = c.in_ok-next.ensures.counted bytes hand.0 c.args.rodeo.now so_far in
+    let known = left_after _ _ _ shown hand.0 ahead.0 c.in_ok-next.used c.buffered.ensures.value c.consume.ensures.left ahead.1 hand.1 in
+    counting_interned bytes left c.in_ok-next.next c.args.rodeo.now c.count_stretch.new.rodeo c.count_stretch.new.counts.items then (no_line _ _ c.in_ok-next_line.field-0 _ c.in_ok-next_line.ensures.taken c.if-not-branch.true left known)
 
 pub returns-in-Err-clause-error : goal.returns-in-Err-clause-error
 returns-in-Err-clause-error g c = λ bytes e limit made.

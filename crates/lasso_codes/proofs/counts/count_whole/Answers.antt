@@ -9,7 +9,7 @@ use Rattle.lasso_counts.proofs.Rest.{within}
 use Rattle.lasso_codes.specs.Counts.{CountingError}
 use Rattle.lasso_codes.specs.Whole.{AreTextLines}
 use Rattle.lasso_codes.specs.declared.error.RunError.TheVariants.{Line}
-use Rattle.lasso_codes.proofs.WholeCounts.{not_text, text_refused, whole_counted}
+use Rattle.lasso_codes.proofs.WholeCounts.{not_text, text_refused, whole_counted, whole_interned}
 use Rattle.lasso_codes.proofs.counts.count_whole.Goals as goal
 
 pub returns-in-Ok-clause-counted : goal.returns-in-Ok-clause-counted
@@ -21,6 +21,14 @@ returns-in-Ok-clause-counted g c = λ bytes e.
     let are = subst (λ bs. AreTextLines whole texts (lines_of bs)) bytes_is (subst (λ ts. AreTextLines whole (map (λ (t : Bor Text). t.now) ts) (lines_of c.deref.result.now)) (sym c.deref-2.ensures.value) c.in_ok-lines.ensures.lines) in
     let counted = all_are c.args.rodeo.now new.rodeo texts c.args.counts.now.items new.counts.items c.requires.no_texts c.requires.no_counts c.in-Ok.ensures.list c.in-Ok.ensures.counts in
     whole_counted texts (lines_of bytes) new.rodeo.texts new.counts.items whole c.if-lines.true are counted
+
+pub returns-in-Ok-clause-interned : goal.returns-in-Ok-clause-interned
+returns-in-Ok-clause-interned g c = λ bytes e.
+    let texts = map (λ (t : Bor Text). t.now) c.deref-2.result.now in
+    let whole = c.in_ok-lines.lines.is_complete in
+    let bytes_is = c.deref.ensures.value ∙ c.in_ok-whole.ensures.bytes bytes e in
+    let are = subst (λ bs. AreTextLines whole texts (lines_of bs)) bytes_is (subst (λ ts. AreTextLines whole (map (λ (t : Bor Text). t.now) ts) (lines_of c.deref.result.now)) (sym c.deref-2.ensures.value) c.in_ok-lines.ensures.lines) in
+    whole_interned c.args.rodeo.now c.count_in_parts.new.rodeo texts (lines_of bytes) whole c.if-lines.true are c.in-Ok.ensures.list
 
 pub returns-in-Ok-2-clause-error : goal.returns-in-Ok-2-clause-error
 returns-in-Ok-2-clause-error g c = λ bytes e limit made.

@@ -2,7 +2,10 @@ use Rattle.std.proofs.Common.{◌≡◌, ◌∙◌, ap, sym, subst, map, take, l
 use Rattle.std.specs.Prelude.{flat_map}
 use Rattle.std.proofs.lemmas.Grind.{common_steps}
 use Rattle.std.proofs.lemmas.Result.{err_from_is_err_and}
-use Rattle.lasso_single.specs.Interner.{made_with}
+use Rattle.lasso_single.specs.Filling.{extend}
+use Rattle.lasso_single.specs.Interner.{InternerView, made_with}
+use Rattle.lasso_single.proofs.Filled.{accepted}
+use Rattle.lasso_encode.specs.Encoding.{spur_at}
 use Rattle.lasso_input.specs.Lines.{lines_of}
 use Rattle.lasso_counts.specs.Counts.{AreCounts, pair_of}
 use Rattle.lasso_codes.specs.Counts.{CountsEnd, count_line}
@@ -32,9 +35,11 @@ returns-clause-report g c = λ bytes e.
     let total = c.in-Ok.ensures.total ∙ ap sum c.deref.ensures.value ∙ counted.1.total in
     let most_is : c.min-most.result ≡ min (length items) c.args.settings.top = grind (arith, common_steps, c.min-most.ensures, c.len.ensures, c.in-Ok.ranked.ok.0) in
     let slice_is = first_ranked pair_of items c.deref-2.result.now c.args.settings.top c.min-most.result most_is c.deref-2.ensures.value in
+    let made = c.in_ok-rodeo.ensures.made ∙ ap (λ n. made_with 4096 n) c.new.ensures in
+    let list = subst (λ (i : InternerView). extend spur_at i (lines_of bytes) accepted c.count_all.new.rodeo) made (c.in_ok-count_all.ensures.interned bytes e) in
     let result = c.write_ranked.result in
     writes_as _ _ (WritesAll (flat_map count_line (map pair_of (take c.min-most.result c.deref-2.result.now))) result) (λ part. CountsEnd bytes c.args.settings.limit c.args.settings.top part result) c.write_ranked.ensures.written (λ part w.
-    report_written bytes c.args.settings.limit c.args.settings.top (map pair_of items) part result counted.0 (c.in-Ok.ensures.counted (lines_of bytes) counts_are) c.in-Ok.ensures.order total (subst (λ ps. WritesAll (flat_map count_line ps) result part) slice_is w))
+    report_written bytes c.args.settings.limit c.args.settings.top (map pair_of items) part result (counted.0, (c.count_all.new.rodeo, list)) (c.in-Ok.ensures.counted (lines_of bytes) counts_are) c.in-Ok.ensures.order total (subst (λ ps. WritesAll (flat_map count_line ps) result part) slice_is w))
 
 pub returns-clause-reads : goal.returns-clause-reads
 returns-clause-reads g c =

@@ -8,7 +8,7 @@ use Rattle.lasso_codes.proofs.decode.write_decoded.Given as goal
 abbrev pub invariant-loop-column : goal.invariant-loop-column
 invariant-loop-column g l = record {
   ahead : (bytes : List ℕ) → l.fn.input.left ≡ Some bytes → (rest : List ℕ) × (l.input.left ≡ Some rest)
-      × Writes l.fn.output.written l.output.written (ColumnsAhead bytes (word_of l.fn.null) rest l.column);
+      × Writes l.fn.output.written l.output.written (ColumnsAhead bytes l.fn.limits (word_of l.fn.null) rest l.column);
   reads : l.input.failures ≡ l.fn.input.failures;
   writes : l.output.failures ≡ l.fn.output.failures;
   gone : l.output.gone ≡ l.fn.output.gone;

@@ -6,7 +6,7 @@ use Rattle.lasso_input.specs.Lines.{lines_of}
 use Rattle.lasso_codes.specs.Arguments.{word_of}
 use Rattle.lasso_codes.specs.Stages.{Encoding}
 use Rattle.lasso_codes.proofs.Feeds.{no_line, one_line}
-use Rattle.lasso_codes.proofs.EncodedLines.{encoding_push, encoding_ends, encoding_many, encoding_read_fails, encoding_line_fails}
+use Rattle.lasso_codes.proofs.EncodedLines.{encoding_push, encoding_ends, encoding_interned, encoding_many, encoding_read_fails, encoding_line_fails}
 use Rattle.lasso_codes.proofs.Stretches.{left_after}
 use Rattle.lasso_codes.proofs.encode.encode_lines.Goals as goal
 
@@ -33,7 +33,7 @@ returns-in_err-next_line-clause-error g c =
     let left = drop c.in_ok-next.used c.buffered.result.now ++ hand.0 in
     let so_far = subst (λ bs. Encoding bytes bs at.number null c.args.rodeo.now at.rodeo at.numbers.items) hand.1 ahead.2 in
     let then = c.in_ok-next.ensures.numbered bytes hand.0 c.args.rodeo.now so_far in
-    encoding_read_fails bytes left c.in_ok-next.next null c.args.rodeo.now c.encode_stretch.new.rodeo c.encode_stretch.new.numbers.items then limit c.in_err-next_line.field-0.0 c.in_err-next_line.ensures.errors)
+    encoding_read_fails bytes left c.in_ok-next.next null c.args.rodeo.now c.encode_stretch.new.rodeo c.encode_stretch.new.numbers.items then limit c.in_err-next_line.field-0.0 made c.in_err-next_line.ensures.errors)
 
 pub returns-then-not-branch-clause-numbered : goal.returns-then-not-branch-clause-numbered
 returns-then-not-branch-clause-numbered g c = λ bytes e.
@@ -47,6 +47,19 @@ returns-then-not-branch-clause-numbered g c = λ bytes e.
     let then = c.in_ok-next.ensures.numbered bytes hand.0 c.args.rodeo.now so_far in
     let known = left_after _ _ _ shown hand.0 ahead.0 c.in_ok-next.used c.buffered.ensures.value c.consume.ensures.left ahead.1 hand.1 in
     encoding_ends bytes left c.in_ok-next.next null c.args.rodeo.now c.encode_stretch.new.rodeo c.encode_stretch.new.numbers.items then c.requires.no_texts (no_line _ _ c.in_ok-next_line.field-0 _ c.in_ok-next_line.ensures.taken c.if-not-branch.true left known)
+
+pub returns-then-not-branch-clause-interned : goal.returns-then-not-branch-clause-interned
+returns-then-not-branch-clause-interned g c = λ bytes e.
+    let at = c.loop-number in
+    let null = word_of c.args.null in
+    let ahead = at.invariant.ahead bytes e in
+    let hand = c.buffered.ensures.first ahead.0 ahead.1 in
+    let shown = c.buffered.result.now in
+    let left = drop c.in_ok-next.used shown ++ hand.0 in
+    let so_far = subst (λ bs. Encoding bytes bs at.number null c.args.rodeo.now at.rodeo at.numbers.items) hand.1 ahead.2 in
+    let then = c.in_ok-next.ensures.numbered bytes hand.0 c.args.rodeo.now so_far in
+    let known = left_after _ _ _ shown hand.0 ahead.0 c.in_ok-next.used c.buffered.ensures.value c.consume.ensures.left ahead.1 hand.1 in
+    encoding_interned bytes left c.in_ok-next.next null c.args.rodeo.now c.encode_stretch.new.rodeo c.encode_stretch.new.numbers.items then (no_line _ _ c.in_ok-next_line.field-0 _ c.in_ok-next_line.ensures.taken c.if-not-branch.true left known)
 
 pub returns-in-Err-clause-error : goal.returns-in-Err-clause-error
 returns-in-Err-clause-error g c = λ bytes e limit made.

@@ -1,8 +1,12 @@
 use Rattle.std.proofs.Common.{ℕ, ◌^◌, ◌<◌, ◌∙◌, List, length, ap, sym, subst, arith}
 use Rattle.std.proofs.lemmas.Result.{err_from_is_err_and}
-use Rattle.lasso_single.specs.Interner.{made_with}
+use Rattle.lasso_single.specs.Filling.{extend}
+use Rattle.lasso_single.specs.Interner.{InternerView, made_with}
+use Rattle.lasso_single.proofs.Filled.{accepted}
+use Rattle.lasso_encode.specs.Encoding.{spur_at}
 use Rattle.lasso_input.specs.Lines.{lines_of}
 use Rattle.lasso_codes.specs.Arguments.{word_of}
+use Rattle.lasso_codes.specs.Columns.{texts_of}
 use Rattle.lasso_codes.specs.Encode.{AreNumbered, EncodeEnd}
 use Rattle.lasso_codes.proofs.Failing.{written_no_read}
 use Rattle.lasso_codes.proofs.Written.{writes_none, writes_as}
@@ -33,9 +37,11 @@ returns-clause-report g c = λ bytes e.
     let are = subst (λ ns. AreNumbered null (lines_of bytes) list ns) (sym c.deref.ensures.value) numbered.1 in
     let few : length held.items < 2 ^ 64 = omega (arith, held.ok.0, held.ok.1, held.small) in
     let many = subst (λ (ns : List ℕ). length ns < 2 ^ 64) (sym c.deref.ensures.value) few in
+    let made = c.in_ok-rodeo.ensures.made ∙ ap (λ n. made_with 4096 n) c.new.ensures in
+    let interned = subst (λ (i : InternerView). extend spur_at i (texts_of null (lines_of bytes)) accepted c.number_lines.new.rodeo) made (c.in_ok-number_lines.ensures.interned bytes e) in
     let result = c.write_column.result in
     writes_as _ _ _ (λ part. EncodeEnd bytes c.args.settings.limit null c.args.settings.binary part result) c.write_column.ensures.written (λ part w.
-    column_written bytes c.args.settings.limit null c.args.settings.binary list numbers part result numbered.0 are many w)
+    column_written bytes c.args.settings.limit null c.args.settings.binary list numbers part result numbered.0 are (c.number_lines.new.rodeo, interned) many w)
 
 pub returns-clause-reads : goal.returns-clause-reads
 returns-clause-reads g c =

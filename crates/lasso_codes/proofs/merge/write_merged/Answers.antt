@@ -23,7 +23,7 @@ returns-clause-report g c = λ bytes e.
     let held = c.merge_columns.new.numbers in
     let numbers = c.deref.result.now in
     let list = c.merge_columns.new.rodeo.texts in
-    let are = subst (λ ns. AreMerged bytes list ns) (sym c.deref.ensures.value) (c.in_ok-merge_columns.ensures.merged bytes e) in
+    let are = subst (λ ns. AreMerged bytes c.args.limits list ns) (sym c.deref.ensures.value) (c.in_ok-merge_columns.ensures.merged bytes e) in
     let few : length held.items < 2 ^ 64 = omega (arith, held.ok.0, held.ok.1, held.small) in
     let result = c.write_column.result in
     writes_as _ _ _ (λ part. MergeEnd bytes c.args.limits c.args.binary part result) c.write_column.ensures.written (λ part w.

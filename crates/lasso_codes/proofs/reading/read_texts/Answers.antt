@@ -37,6 +37,9 @@ returns-then-next-distinct-clause-taken g c = λ bytes e.
     let known = left_after _ _ _ shown hand.0 ahead.0 c.in_ok-next.used c.buffered.ensures.value c.consume.ensures.left ahead.1 hand.1 in
     (left, known, subst (λ n. texts_from n [] bytes ≡ Ok (c.add_texts.new.rodeo.texts, left)) c.if-next-distinct.true then.read)
 
+pub returns-then-next-distinct-clause-list : goal.returns-then-next-distinct-clause-list
+returns-then-next-distinct-clause-list g c = c.in_ok-next.ensures.list c.args.rodeo.now c.loop-count.invariant.list
+
 pub returns-in-Err-clause-error : goal.returns-in-Err-clause-error
 returns-in-Err-clause-error g c = λ bytes e limit made.
     let at = c.loop-count in
@@ -59,6 +62,7 @@ returns-in-Err-clause-error g c = λ bytes e limit made.
 pub returns-in-Part : goal.returns-in-Part
 returns-in-Part g c = record {
   taken = tt;
+  list = tt;
   faults = tt;
   reads = omega (arith, c.in_ok-next_whole_line.ensures.reads, c.consume.ensures.reads, c.loop-count.invariant.reads);
   error = λ bytes e limit made.
@@ -73,7 +77,9 @@ returns-in-Part g c = record {
       let known = left_after _ _ _ shown hand.0 ahead.0 c.in_ok-next.used c.buffered.ensures.value c.consume.ensures.left ahead.1 hand.1 in
       let small : next < c.args.distinct = omega (arith, c.in_ok-next.ensures.more, c.if-next-distinct.false) in
       let none = no_cut _ _ c.in_ok-next_whole_line.field-0 c.next_whole_line.new.line.items c.in_ok-next_whole_line.ensures.taken c.in-Part.is left known in
-      reading_misses bytes left next c.args.distinct c.add_texts.new.rodeo small then limit c.args.column none.1;
+      let now = c.add_texts.new.rodeo in
+      let list = subst (λ (i : InternerView). extend spur_at i now.texts accepted now) made (c.in_ok-next.ensures.list c.args.rodeo.now at.invariant.list) in
+      reading_misses bytes left next c.args.distinct now small then limit c.args.column list none.1;
 }
 
 pub loop-count-preserved : goal.loop-count-preserved
