@@ -10,6 +10,7 @@ from __future__ import annotations
 import random
 import sys
 import time
+from array import array
 from collections.abc import Callable, Iterator
 from typing import Any
 
@@ -39,19 +40,13 @@ def batches_of(column: pandas.Series, batch: int) -> Iterator[pandas.Series]:
         yield column.iloc[start:start + batch]
 
 
-def codes_of(interner: Interner, batch: pandas.Series) -> numpy.ndarray:
-    """The codes of a batch, -1 for a row without a text, as pandas has it."""
-    codes = numpy.full(len(batch), -1, dtype=numpy.int32)
-    present = batch.notna().to_numpy()
-    codes[present] = numpy.frombuffer(interner.encode(batch.to_numpy()[present]), dtype=numpy.int32)
-    return codes
-
-
 def to_categorical(batches: Iterator[pandas.Series]) -> pandas.Categorical:
     """The column that the batches make, whose categories are its texts in the order in which they come first."""
     with Interner() as interner:
-        codes = [codes_of(interner, batch) for batch in batches]
-        return pandas.Categorical.from_codes(numpy.concatenate(codes), categories=interner.texts())
+        codes = array("I")
+        for batch in batches:
+            codes += interner.encode(batch)
+        return interner.to_categorical(codes)
 
 
 class Arrow:
