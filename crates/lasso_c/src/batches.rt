@@ -165,7 +165,8 @@ pub(crate) fn code_in(dictionary: &mut Dictionary, text: &str, at: usize) -> Res
     code_next(dictionary, text, at, &mut Batch::new())
 }
 
-// `code_in` for the next text of a batch.
+// `code_in` for the next text of a batch. In line, so that a single text has no batch.
+#[inline(always)]
 fn code_next(
     dictionary: &mut Dictionary,
     text: &str,
