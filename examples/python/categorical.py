@@ -67,9 +67,10 @@ class Arrow:
         return len(self.starts) - 1
 
 
-def encode_arrow(column: Arrow) -> numpy.ndarray:
+def encode(column: pandas.Series | Arrow) -> numpy.ndarray:
+    """The codes of a column, -1 for a row without a text, as pandas has it."""
     with Interner() as interner:
-        return numpy.frombuffer(interner.encode(column), dtype=numpy.uint32)
+        return numpy.frombuffer(interner.encode(column), dtype=numpy.int32)
 
 
 def timed(call: Callable[..., Any], *words: Any) -> tuple[float, Any]:
@@ -93,10 +94,11 @@ def main() -> None:
         rounds = {
             "lasso, batch by batch to a Categorical": timed(to_categorical, batches_of(column, batch)),
             "pandas.factorize, in one call": timed(pandas.factorize, column),
-            "lasso, Arrow's buffers in one call": timed(encode_arrow, arrow),
+            "lasso, codes in one call": timed(encode, column),
+            "lasso, Arrow's buffers in one call": timed(encode, arrow),
         }
-        (_, ours), (_, (codes, uniques)), (_, encoded) = rounds.values()
-        if not is_same(ours, codes, uniques) or not (encoded == codes[column.notna()]).all():
+        (_, ours), (_, (codes, uniques)), (_, encoded), (_, by_arrow) = rounds.values()
+        if not is_same(ours, codes, uniques) or not (encoded == codes).all() or not (by_arrow == codes[column.notna()]).all():
             sys.exit("categorical.py: the codes or the texts are not those of pandas")
         for name, (took, _) in rounds.items():
             times.setdefault(name, []).append(took)
