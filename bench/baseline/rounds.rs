@@ -1,10 +1,15 @@
 //! One round of single calls of a pool of texts, over the same texts in the same order as in `lasso_bench round`. The programs
-//! that time calls share this file.
+//! that time calls share this file, and each uses a part of it.
+#![allow(dead_code)]
+
 use crate::opaque::black_box;
 use std::time::Instant;
 
 /// How many texts there are.
 pub const COUNTS: [u32; 4] = [10_000, 90_000, 100_000, 1_000_000];
+
+/// How many texts there are, and the bytes of each.
+pub const SIZES: [(u32, usize); 3] = [(100_000, 7), (100_000, 35), (10_000, 7)];
 
 const STRIDE: u32 = 7919;
 
@@ -25,6 +30,11 @@ pub trait Texts {
 /// The text of this number.
 pub fn numbered(number: u32) -> String {
     format!("text {number}")
+}
+
+// The text of this number, of that number of bytes, at least seven.
+fn sized(number: u32, bytes: usize) -> String {
+    format!("{:-<bytes$}", format!("{number:07}"))
 }
 
 // The number at a position of an order that jumps.
@@ -79,4 +89,27 @@ pub fn round<T: Texts>(count: u32) {
     time(count, "absent", absent.len(), || count_absent(black_box(&pool), black_box(&absent)));
     let keys: Vec<u32> = again.iter().filter_map(|text| pool.get(text)).collect();
     time(count, "try_resolve", last_bytes, || resolve_all(black_box(&pool), black_box(&keys)));
+}
+
+#[inline(never)]
+fn get_all<T: Texts>(pool: &T, texts: &[String]) -> usize {
+    texts.iter().filter_map(|text| pool.get(text)).map(|key| key as usize).fold(0, usize::wrapping_add)
+}
+
+/// Prints for each count and size of texts, and for each call, the count, the bytes of a text, the call, and the nanoseconds that
+/// it takes. Present texts come in an order that jumps.
+pub fn round_of_sizes<T: Texts>() {
+    for (count, bytes) in SIZES {
+        let texts: Vec<String> = (0..count).map(|number| sized(number, bytes)).collect();
+        let again: Vec<String> = (0..count).map(|position| sized(jumped(position, count), bytes)).collect();
+        let positions = (0..count as usize).sum();
+        let last_bytes = again.iter().map(|text| usize::from(*text.as_bytes().last().unwrap())).sum();
+        let mut pool = T::new();
+        let time = |call: &str, wanted, work: &mut dyn FnMut() -> usize| time(count, &format!("{bytes} {call}"), wanted, work);
+        time("new", positions, &mut || intern_all(black_box(&mut pool), black_box(&texts)));
+        time("present", positions, &mut || intern_all(black_box(&mut pool), black_box(&again)));
+        time("get", positions, &mut || get_all(black_box(&pool), black_box(&again)));
+        let keys: Vec<u32> = again.iter().filter_map(|text| pool.get(text)).collect();
+        time("resolve", last_bytes, &mut || resolve_all(black_box(&pool), black_box(&keys)));
+    }
 }

@@ -124,6 +124,9 @@ static int check_makers(void)
 
     CHECK(lasso_new_keyed(&keyed, LASSO_NO_LIMIT, 7, UINT64_MAX) == LASSO_DONE && fill(&keyed, 0, 5000) == 0);
     CHECK(lasso_text(&keyed, 4999, &text) == LASSO_DONE && is_text(&text, 4999));
+    CHECK(lasso_new_sized_keyed(&keyed, 5000, 250000, 250000, 7, UINT64_MAX) == LASSO_DONE && lasso_len(&keyed) == 0);
+    CHECK(lasso_capacity(&keyed) == capacity && fill(&keyed, 0, 5000) == 0 && lasso_memory(&keyed) == 250000);
+    CHECK(lasso_new_sized_keyed(&keyed, SIZE_MAX, 1, 1, 7, 7) == LASSO_NO_MEMORY && lasso_len(&keyed) == 5000);
 
     text = NO_TEXT;
     CHECK(lasso_clone(&keyed, &clone) == LASSO_DONE && lasso_len(&clone) == 5000 && lasso_len(&keyed) == 5000);

@@ -10,6 +10,7 @@ from __future__ import annotations
 import random
 import sys
 import time
+from array import array
 from collections.abc import Callable, Iterator
 from typing import Any
 
@@ -39,19 +40,13 @@ def batches_of(column: pandas.Series, batch: int) -> Iterator[pandas.Series]:
         yield column.iloc[start:start + batch]
 
 
-def codes_of(interner: Interner, batch: pandas.Series) -> numpy.ndarray:
-    """The codes of a batch, -1 for a row without a text, as pandas has it."""
-    codes = numpy.full(len(batch), -1, dtype=numpy.int32)
-    present = batch.notna().to_numpy()
-    codes[present] = numpy.frombuffer(interner.encode(batch.to_numpy()[present]), dtype=numpy.int32)
-    return codes
-
-
 def to_categorical(batches: Iterator[pandas.Series]) -> pandas.Categorical:
     """The column that the batches make, whose categories are its texts in the order in which they come first."""
     with Interner() as interner:
-        codes = [codes_of(interner, batch) for batch in batches]
-        return pandas.Categorical.from_codes(numpy.concatenate(codes), categories=interner.texts())
+        codes = array("I")
+        for batch in batches:
+            codes += interner.encode(batch)
+        return interner.to_categorical(codes)
 
 
 class Arrow:
@@ -72,9 +67,10 @@ class Arrow:
         return len(self.starts) - 1
 
 
-def encode_arrow(column: Arrow) -> numpy.ndarray:
+def encode(column: pandas.Series | Arrow) -> numpy.ndarray:
+    """The codes of a column, -1 for a row without a text, as pandas has it."""
     with Interner() as interner:
-        return numpy.frombuffer(interner.encode(column), dtype=numpy.uint32)
+        return numpy.frombuffer(interner.encode(column), dtype=numpy.int32)
 
 
 def timed(call: Callable[..., Any], *words: Any) -> tuple[float, Any]:
@@ -98,10 +94,11 @@ def main() -> None:
         rounds = {
             "lasso, batch by batch to a Categorical": timed(to_categorical, batches_of(column, batch)),
             "pandas.factorize, in one call": timed(pandas.factorize, column),
-            "lasso, Arrow's buffers in one call": timed(encode_arrow, arrow),
+            "lasso, codes in one call": timed(encode, column),
+            "lasso, Arrow's buffers in one call": timed(encode, arrow),
         }
-        (_, ours), (_, (codes, uniques)), (_, encoded) = rounds.values()
-        if not is_same(ours, codes, uniques) or not (encoded == codes[column.notna()]).all():
+        (_, ours), (_, (codes, uniques)), (_, encoded), (_, by_arrow) = rounds.values()
+        if not is_same(ours, codes, uniques) or not (encoded == codes).all() or not (by_arrow == codes[column.notna()]).all():
             sys.exit("categorical.py: the codes or the texts are not those of pandas")
         for name, (took, _) in rounds.items():
             times.setdefault(name, []).append(took)

@@ -13,6 +13,7 @@ has it, or else the installed one, which the system's loader finds.
 from __future__ import annotations
 
 import ctypes
+import importlib
 import operator
 import os
 import sys
@@ -88,13 +89,22 @@ class _Report(ctypes.Structure):
     _fields_ = [("texts", c_size_t), ("bytes", c_size_t), ("at", c_size_t)]
 
 
+class _Text(ctypes.Structure):
+    """A text that the library lends: where its bytes are, and how many they are. It begins as LASSO_NO_TEXT, which is no null pointer."""
+
+    _fields_ = [("bytes", ctypes.c_void_p), ("length", c_size_t)]
+
+
 # The statuses of lasso.h that a call of this module can meet.
-_DONE, _OFFSETS_SHORT, _BYTES_SHORT, _NO_INTERNER, _NO_SUCH_TEXT = 0, 7, 8, 12, 13
+_DONE, _NO_INTERNER, _NO_SUCH_TEXT = 0, 12, 13
 _ERRORS: dict[int, type[LassoError]] = {
     1: WrongLayout, 2: WrongLayout, 3: NotUtf8, 9: OutOfMemory, 10: LimitReached, 11: CodesExhausted, 12: InternerClosed,
 }
 _NO_LIMIT, _ABSENT = c_size_t(-1).value, NULL
+# Texts of more bytes cross with offsets of 64 bits.
 _MOST_BYTES = 2**31 - 1
+# How many rows cross together: few enough that their texts stay in the processor's caches between the passes over them.
+_ROWS = 2048
 
 def _array(kind: Any) -> list[Any]:
     """The two parameters by which an array crosses: a pointer to its first element, and how many there are."""
@@ -126,8 +136,10 @@ def _load() -> ctypes.CDLL:
         ("intern_batch_nulls_large", status, [*_BYTES, *_LARGE_OFFSETS, *_BYTES, c_uint32, *_CODES, POINTER(_Report)]),
         ("get", status, [*_BYTES, POINTER(c_uint32)]),
         ("get_batch", status, [*_BYTES, *_OFFSETS, c_uint32, *_CODES, POINTER(_Report)]),
-        ("resolve", status, [c_uint32, *_BYTES, POINTER(c_size_t)]),
-        ("dictionary", status, [c_size_t, *_BYTES, *_OFFSETS, POINTER(_Report)]),
+        ("get_batch_large", status, [*_BYTES, *_LARGE_OFFSETS, c_uint32, *_CODES, POINTER(_Report)]),
+        ("text", status, [c_uint32, POINTER(_Text)]),
+        ("texts", c_size_t, [c_size_t, *_array(_Text)]),
+        ("clone", status, [handle]),
         ("len", c_size_t, []),
         ("memory", c_size_t, []),
         ("limit", c_size_t, []),
@@ -143,6 +155,13 @@ def _load() -> ctypes.CDLL:
 
 
 _library = _load()
+
+_INTERN_BATCH = {c_int32: _library.lasso_intern_batch_nulls, c_int64: _library.lasso_intern_batch_nulls_large}
+_GET_BATCH = {c_int32: _library.lasso_get_batch, c_int64: _library.lasso_get_batch_large}
+
+# Where a text without bytes is: an address that is no null pointer, for as long as the module is loaded.
+_EMPTY = (c_uint8 * 1)()
+_NO_BYTES = ctypes.addressof(_EMPTY)
 
 
 def _sized(kind: Any, data: Any, length: int) -> tuple[Any, int]:
@@ -179,43 +198,66 @@ def _view(kind: Any, buffer: Any, length: int, start: int = 0) -> tuple[Any, int
     return _sized(kind, (kind * length).from_buffer(view, skipped), length)
 
 
-def _offsets(sizes: Iterable[int], count: int) -> Any:
+def _count(starts: tuple[Any, int]) -> int:
+    """How many texts have these offsets."""
+    return starts[1] - 1
+
+
+def _offsets(kind: Any, sizes: Iterable[int], count: int) -> Any:
     """Where texts of these sizes begin and the last one ends. numpy does it if the program has loaded it, since that is faster."""
     numpy = sys.modules.get("numpy")
     if numpy is None:
-        return array("i", list(accumulate(sizes, initial=0)))
-    starts = numpy.zeros(count + 1, dtype=numpy.int32)
-    numpy.cumsum(numpy.fromiter(sizes, dtype=numpy.int32, count=count), out=starts[1:])
+        return array("i" if kind is c_int32 else "q", list(accumulate(sizes, initial=0)))
+    starts = numpy.zeros(count + 1, dtype=kind)
+    numpy.cumsum(numpy.fromiter(sizes, dtype=kind, count=count), out=starts[1:])
     return starts
 
 
-def _items(texts: Iterable[Any]) -> list[Any]:
-    """The items of an iterable, a numpy array among them."""
+def _parts(texts: Any) -> Iterator[list[Any]]:
+    """The items of an iterable, an array of numpy or a column of pandas among them, in new lists of at most ``_ROWS``. Without items it is one
+    empty list."""
     if isinstance(texts, (str, bytes)):
         raise TypeError("one text, where many are wanted: give a list of texts")
-    items: list[Any] = texts.tolist() if hasattr(texts, "tolist") else list(texts)
-    return items
+    if hasattr(texts, "to_numpy"):
+        texts = texts.to_numpy()
+    if not isinstance(texts, list) and getattr(texts, "ndim", 0) != 1:
+        texts = list(texts)
+    for start in range(0, max(len(texts), 1), _ROWS):
+        part = texts[start : start + _ROWS]
+        yield part if isinstance(part, list) else part.tolist()
 
 
-def _layout(items: list[str]) -> tuple[tuple[Any, int], tuple[Any, int], int]:
-    """Texts as they cross: their bytes, their offsets, and how many there are. An item that is no str raises TypeError."""
+def _layout(items: list[str]) -> tuple[Any, tuple[Any, int], tuple[Any, int]]:
+    """Texts as they cross: the type of their offsets, their bytes in one buffer, and their offsets. An item that is no str raises TypeError."""
     whole = "".join(items)
     if whole.isascii():
         data, sizes = whole.encode("ascii"), map(len, items)
     else:
         encoded = [_encoded(text) for text in items]
         data, sizes = b"".join(encoded), map(len, encoded)
-    if len(data) > _MOST_BYTES:
-        raise ValueError(f"texts of {len(data)} bytes: give fewer at a time, of at most {_MOST_BYTES} bytes")
-    return _bytes(data), _view(c_int32, _offsets(sizes, len(items)), len(items) + 1), len(items)
+    kind = c_int32 if len(data) <= _MOST_BYTES else c_int64
+    return kind, _bytes(data), _view(kind, _offsets(kind, sizes, len(items)), len(items) + 1)
 
 
-def _bitmap(rows: list[Any]) -> bytes:
-    """A bit for each row, from the least of the first byte on: 1 if it is present."""
-    bits = bytearray((len(rows) + 7) // 8)
-    for at, row in enumerate(rows):
-        if row is not None:
-            bits[at // 8] |= 1 << at % 8
+def _rows(items: list[Any]) -> tuple[Any, tuple[Any, int], tuple[Any, int], bytes]:
+    """Texts and nulls as they cross: what ``_layout`` gives, and their bitmap, which is empty if all are texts. In the list nulls become empty
+    texts."""
+    try:
+        return *_layout(items), b""
+    except TypeError:
+        nulls = [at for at, item in enumerate(items) if item is None]
+        if not nulls:
+            raise
+    for at in nulls:
+        items[at] = ""
+    return *_layout(items), _bitmap(len(items), nulls)
+
+
+def _bitmap(count: int, nulls: list[int]) -> bytes:
+    """A bit for each row, from the least of the first byte on: 0 for the nulls at these positions, and 1 for all others."""
+    bits = bytearray(b"\xff") * ((count + 7) // 8)
+    for at in nulls:
+        bits[at // 8] ^= 1 << at % 8
     return bytes(bits)
 
 
@@ -285,42 +327,41 @@ class Interner:
         """The codes of many texts, which are appended if they are absent: an array of type ``I``, which numpy takes as it is. A null has the
         code NULL, and no text is appended for it.
 
-        ``texts`` is an iterable of str and None, as a list or a numpy array, or an Arrow array of strings. The texts before a refused one stay,
+        ``texts`` is an iterable of str and None, as a list, a numpy array or a column of pandas, or an Arrow array of strings. The texts before a refused one stay,
         and the error, one of those of ``intern`` or WrongLayout, has its ``position``. Nothing is interned if an item is neither str nor None
-        or the array is no array of strings, which raises TypeError, or if the texts of an iterable have more than 2^31 - 1 bytes or a
-        buffer is too short, which raises ValueError.
+        or the array is no array of strings, which raises TypeError, or if a buffer is too short, which raises ValueError.
         """
         if hasattr(texts, "buffers"):
             return self._encode_arrow(texts)
-        items, present = _items(texts), b""
-        try:
-            layout = _layout(items)
-        except TypeError:
-            if None not in items:
-                raise
-            layout, present = _layout(["" if item is None else item for item in items]), _bitmap(items)
-        return self._encode(_library.lasso_intern_batch_nulls, *layout, present)
+        parts = [_rows(items) for items in _parts(texts)]
+        codes, start = array("I", bytes(4 * sum(_count(starts) for _, _, starts, _ in parts))), 0
+        for kind, data, starts, present in parts:
+            start += self._encode(_INTERN_BATCH[kind], data, starts, present, codes, start)
+        return codes
 
     def _encode_arrow(self, texts: Any) -> array[int]:
-        calls = {"": (c_int32, _library.lasso_intern_batch_nulls), "large_": (c_int64, _library.lasso_intern_batch_nulls_large)}
+        kinds = {"": c_int32, "large_": c_int64}
         name = str(getattr(texts, "type", "string"))
         width = name.removesuffix("string").removesuffix("utf8")
-        if width == name or width not in calls:
+        if width == name or width not in kinds:
             raise TypeError(f"an Arrow array of {name}, where string or large_string is wanted")
         validity, starts, data = texts.buffers()
         count = len(texts)
+        codes = array("I", bytes(4 * count))
         if count == 0:
-            return array("I")
-        kind, call = calls[width]
+            return codes
+        kind = kinds[width]
         size = 0 if data is None else memoryview(data).nbytes
         present = b"" if validity is None else _bits(memoryview(validity), texts.offset, count)
-        return self._encode(call, _view(c_uint8, data, size), _view(kind, starts, count + 1, texts.offset), count, present)
-
-    def _encode(self, call: Any, data: tuple[Any, int], starts: tuple[Any, int], count: int, present: bytes) -> array[int]:
-        codes, report = array("I", bytes(4 * count)), _Report()
-        status = call(byref(self._handle), *data, *starts, *_bytes(present), NULL, *_view(c_uint32, codes, count), byref(report))
-        _expect_done(status, None if status == _NO_INTERNER else report.texts)
+        self._encode(_INTERN_BATCH[kind], _view(c_uint8, data, size), _view(kind, starts, count + 1, texts.offset), present, codes, 0)
         return codes
+
+    def _encode(self, call: Any, data: tuple[Any, int], starts: tuple[Any, int], present: bytes, codes: array[int], first: int) -> int:
+        """Interns a part of the rows, writes their codes from that position on, and returns how many they are."""
+        count, report = _count(starts), _Report()
+        status = call(byref(self._handle), *data, *starts, *_bytes(present), NULL, *_view(c_uint32, codes, count, first), byref(report))
+        _expect_done(status, None if status == _NO_INTERNER else first + report.texts)
+        return count
 
     def get(self, text: str) -> int | None:
         """The code of a text, or None if it is absent. Raises NotUtf8."""
@@ -333,12 +374,13 @@ class Interner:
 
     def get_many(self, texts: Iterable[str]) -> list[int | None]:
         """The code of each text, or None for an absent one. None is appended. An error names the ``position`` of a refused text."""
-        data, starts, count = _layout(_items(texts))
-        codes, report = array("I", bytes(4 * count)), _Report()
-        status = _library.lasso_get_batch(
-            byref(self._handle), *data, *starts, _ABSENT, *_view(c_uint32, codes, count), byref(report))
-        _expect_done(status, None if status == _NO_INTERNER else report.at)
-        return [None if code == _ABSENT else code for code in codes]
+        found: list[int | None] = []
+        for kind, data, starts in [_layout(items) for items in _parts(texts)]:
+            codes, report = array("I", bytes(4 * _count(starts))), _Report()
+            status = _GET_BATCH[kind](byref(self._handle), *data, *starts, _ABSENT, *_view(c_uint32, codes, len(codes)), byref(report))
+            _expect_done(status, None if status == _NO_INTERNER else len(found) + report.at)
+            found += [None if code == _ABSENT else code for code in codes]
+        return found
 
     def __contains__(self, text: str) -> bool:
         return self.get(text) is not None
@@ -348,12 +390,9 @@ class Interner:
         code = operator.index(code)
         if not 0 <= code < len(self):
             raise IndexError(code)
-        text, whole = (c_uint8 * 256)(), c_size_t()
-        _expect_done(_library.lasso_resolve(byref(self._handle), code, text, len(text), byref(whole)))
-        if whole.value > len(text):
-            text = (c_uint8 * whole.value)()
-            _expect_done(_library.lasso_resolve(byref(self._handle), code, text, len(text), byref(whole)))
-        return bytes(text[: whole.value]).decode()
+        text = _Text(_NO_BYTES, 0)
+        _expect_done(_library.lasso_text(byref(self._handle), code, byref(text)))
+        return ctypes.string_at(text.bytes, text.length).decode()
 
     def __len__(self) -> int:
         return int(_library.lasso_len(byref(self._handle)))
@@ -364,19 +403,32 @@ class Interner:
     def texts(self, start: int = 0) -> list[str]:
         """The texts from a code on, in the order of their codes: what a reader lacks that has those before.
 
-        Raises ValueError for a code below 0, and LassoError if the texts have more than 2^31 - 1 bytes.
+        Raises ValueError for a code below 0.
         """
         if start < 0:
             raise ValueError(f"a code of {start}")
-        handle, report, none, one = byref(self._handle), _Report(), (c_uint8 * 1)(), (c_int32 * 1)()
-        status = _library.lasso_dictionary(handle, start, none, 0, one, 1, byref(report))
-        if status not in (_OFFSETS_SHORT, _BYTES_SHORT):
-            _expect_done(status)
-            return []
-        data, offsets = (c_uint8 * (report.bytes + 1))(), (c_int32 * (report.texts + 1))()
-        _expect_done(_library.lasso_dictionary(handle, start, data, report.bytes, offsets, len(offsets), byref(report)))
-        whole = bytes(data)
-        return [whole[begin:end].decode() for begin, end in zip(offsets, offsets[1:])]
+        if not self._close.alive:
+            _expect_done(_NO_INTERNER)
+        count = max(len(self) - start, 0)
+        lent = array("Q", [_NO_BYTES, 0]) * count
+        _library.lasso_texts(byref(self._handle), start, *_view(_Text, lent, count))
+        return [ctypes.string_at(at, length).decode() for at, length in zip(lent[::2], lent[1::2])]
+
+    def to_categorical(self, codes: array[int]) -> Any:
+        """A pandas Categorical of codes that ``encode`` returned, whose categories are the interner's texts in the order of their codes. It needs
+        pandas, and raises ValueError for a code that has no text and is not NULL."""
+        numpy, pandas = importlib.import_module("numpy"), importlib.import_module("pandas")
+        return pandas.Categorical.from_codes(numpy.frombuffer(codes, dtype=numpy.int32), categories=self.texts())
+
+    def copy(self) -> Interner:
+        """Another interner with the same texts, codes and limit. The limit is greater if the texts' bytes are."""
+        made = Interner()
+        _expect_done(_library.lasso_clone(byref(self._handle), byref(made._handle)))
+        return made
+
+    def __reduce__(self) -> tuple[Any, ...]:
+        """What pickle keeps: the texts and the limit. It raises InternerClosed once the interner is closed."""
+        return _loaded, (self.texts(), self.limit)
 
     @property
     def memory(self) -> int:
@@ -396,3 +448,11 @@ class Interner:
     def clear(self) -> None:
         """Forgets every text. Codes begin from 0 again."""
         _expect_done(_library.lasso_clear(byref(self._handle)))
+
+
+def _loaded(texts: list[str], limit: int | None) -> Interner:
+    """An interner with these texts under the codes of their order, and with that limit."""
+    made = Interner()
+    made.encode(texts)
+    made.limit = limit
+    return made

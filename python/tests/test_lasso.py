@@ -2,9 +2,11 @@
 
 from __future__ import annotations
 
+import copy
 import ctypes
 import gc
 import os
+import pickle
 import struct
 import subprocess
 import sys
@@ -123,11 +125,39 @@ def test_takes_any_iterable_of_texts(interner: Interner) -> None:
 
 def test_takes_arrays_of_numpy(interner: Interner) -> None:
     numpy = pytest.importorskip("numpy")
+    with pytest.raises(TypeError):
+        interner.encode(numpy.array([["b"], ["a"]]))
     assert list(interner.encode(numpy.array(["b", "a", "b"]))) == [0, 1, 0]
     assert list(interner.encode(numpy.array(["grün", "a"], dtype=object))) == [2, 1]
     codes = numpy.frombuffer(interner.encode(["a", "c"]), dtype=numpy.uint32)
     assert (codes.tolist(), interner[codes[1]]) == ([1, 3], "c")
     assert interner.texts() == ["b", "a", "grün", "c"]
+
+
+def test_takes_more_rows_than_cross_together(interner: Interner) -> None:
+    texts: list[Any] = [None if number % 1000 == 7 else f"grün {number % 3000}" for number in range(10000)]
+    with mock.patch.dict(sys.modules, numpy=None):
+        expected = list(interner.encode(texts))
+    assert (expected[6:9], expected[5999:6002], interner[expected[2999]]) == ([6, NULL, 7], [2996, 0, 1], "grün 2999")
+    assert list(interner.encode(iter(texts))) == expected
+    present = [text for text in texts if text is not None]
+    assert interner.get_many(present) == [code for code in expected if code != NULL]
+    with pytest.raises(NotUtf8) as caught:
+        interner.encode(["new"] * 5000 + ["\ud800"])
+    assert (caught.value.position, len(interner)) == (5000, 2998)
+    with pytest.raises(NotUtf8) as caught:
+        interner.get_many(["new"] * 5000 + ["\ud800"])
+    assert caught.value.position == 5000
+    with pytest.raises(TypeError):
+        interner.encode(["newer"] * 5000 + [1])  # type: ignore[list-item]
+    assert len(interner) == 2998
+
+
+def test_takes_columns_of_pandas(interner: Interner) -> None:
+    pandas = pytest.importorskip("pandas")
+    column = pandas.Series(["red", None, "blue"] * 2000, dtype=object, index=range(6000, 0, -1))
+    assert list(interner.encode(column)) == [0, NULL, 1] * 2000
+    assert list(interner.encode(pandas.Series(["blue", "red"], index=[0.5, 0.25]))) == [1, 0]
 
 
 def test_takes_nothing_but_texts(interner: Interner) -> None:
@@ -138,11 +168,62 @@ def test_takes_nothing_but_texts(interner: Interner) -> None:
     assert len(interner) == 0
 
 
-def test_takes_at_most_the_bytes_that_offsets_can_tell(interner: Interner) -> None:
-    with mock.patch("lasso._MOST_BYTES", 4):
-        with pytest.raises(ValueError):
-            interner.encode(["red", "gr"])
-        assert (len(interner), list(interner.encode(["red", "g"]))) == (0, [0, 1])
+@pytest.mark.parametrize("has_numpy", [False, True])
+def test_takes_more_bytes_than_offsets_of_32_bits_can_tell(interner: Interner, has_numpy: bool) -> None:
+    if has_numpy:
+        pytest.importorskip("numpy")
+    modules = sys.modules if has_numpy else {**sys.modules, "numpy": None}
+    with mock.patch("lasso._MOST_BYTES", 4), mock.patch.dict(sys.modules, modules):
+        assert list(interner.encode(["red", "g"])) == [0, 1]
+        assert list(interner.encode(["red", None, "grün", "g"])) == [0, NULL, 2, 1]
+        assert interner.get_many(["grün", "blue", "red"]) == [2, None, 0]
+    assert interner.texts() == ["red", "g", "grün"]
+
+
+def test_resolves_texts_while_others_come(interner: Interner) -> None:
+    expected = [f"{number} " + "x" * (number % 40) for number in range(5000)]
+    for number, text in enumerate(expected):
+        assert interner.intern(text) == number
+        assert (interner[number], interner[number // 2], interner[0]) == (text, expected[number // 2], expected[0])
+    assert (interner.texts(), interner.texts(4998)) == (expected, expected[4998:])
+
+
+def test_copies(interner: Interner) -> None:
+    interner.encode(["red", "", "grün", "x" * 100])
+    interner.limit = 5000
+    with interner.copy() as copied:
+        assert (copied.texts(), copied.limit) == (interner.texts(), 5000)
+        assert (copied.intern("blue"), copied.intern("red"), len(copied), len(interner)) == (4, 0, 5, 4)
+        interner.clear()
+        assert (len(interner), copied[3]) == (0, "x" * 100)
+    interner.close()
+    with pytest.raises(InternerClosed):
+        interner.copy()
+
+
+@pytest.mark.parametrize("protocol", range(pickle.HIGHEST_PROTOCOL + 1))
+def test_is_pickled_by_its_texts(interner: Interner, protocol: int) -> None:
+    interner.encode(["red", "", "grün", "x" * 5000])
+    for limit in (None, 10000, 1):
+        interner.limit = limit
+        with pickle.loads(pickle.dumps(interner, protocol)) as loaded:
+            assert (loaded.texts(), loaded.limit, loaded.get("grün")) == (interner.texts(), limit, 2)
+    with copy.deepcopy(interner) as copied:
+        assert (copied.texts(), copied.intern("red")) == (interner.texts(), 0)
+    interner.close()
+    with pytest.raises(InternerClosed):
+        pickle.dumps(interner)
+
+
+def test_makes_a_categorical(interner: Interner) -> None:
+    pytest.importorskip("pandas")
+    made = interner.to_categorical(interner.encode(["red", None, "grün", "red"]))
+    assert (made.codes.tolist(), made.categories.tolist()) == ([0, -1, 1, 0], ["red", "grün"])
+    assert made.tolist()[2:] == ["grün", "red"]
+    codes = interner.encode(["blue"])
+    interner.clear()
+    with pytest.raises(ValueError):
+        interner.to_categorical(codes)
 
 
 def test_refuses_what_is_not_utf8_once_encoded(interner: Interner) -> None:

@@ -28,8 +28,8 @@
  * - No call is made in a signal handler, or in the forked child of a process with threads.
  *
  * lasso_encode and lasso_encode_nulls take memory from malloc and realloc, and free it before they return.
- * lasso_new, lasso_new_sized, lasso_new_keyed, lasso_clone, lasso_intern and the calls whose names begin with
- * lasso_intern_batch take memory that lasso_free frees. The others take none. The program's malloc, realloc and
+ * The calls whose names begin with lasso_new or lasso_intern, and lasso_clone, take memory that lasso_free frees.
+ * The others take none. The program's malloc, realloc and
  * free have to be one allocator, whose blocks are aligned to each power of two up to 16 that divides their size,
  * as to 8 for 24 bytes.
  *
@@ -48,8 +48,10 @@
  * "make c" builds it, and prints how to link a program without installing it. The header is for C from C99 on and
  * for C++.
  *
- * What a call writes and returns is proved, but not that LASSO_NO_MEMORY comes only if malloc or realloc returned
- * none. Nor is what the caller owes, or what is said here of threads and of memory.
+ * What a call writes and returns is proved. Not proved are that LASSO_NO_MEMORY comes only if malloc or realloc
+ * returned none; of lasso_capacity more than that it is at least lasso_len; that lasso_text and lasso_texts leave
+ * their interner as it was, and how long a lent text lasts, past the next call; what the caller owes; and what is
+ * said here of threads and of memory.
  */
 #ifndef LASSO_H
 #define LASSO_H
@@ -228,7 +230,8 @@ uint32_t lasso_new(struct lasso *lasso, size_t limit);
 
 /*
  * lasso_new for a caller that knows how much is to come: the first bucket has bytes bytes, but at least one, and
- * the list of texts does not grow before it has texts texts. lasso_new has 4,096 bytes and 50 texts.
+ * the list of texts does not grow before it has texts texts. lasso_new has 4,096 bytes and 50 texts. No call makes
+ * room for more texts later, but for the growth that interning them needs.
  *
  * Returns LASSO_DONE, or LASSO_NO_MEMORY, and the handle holds what it held.
  */
@@ -243,6 +246,10 @@ uint32_t lasso_new_sized(struct lasso *lasso, size_t texts, size_t bytes, size_t
  * Returns LASSO_DONE, or LASSO_NO_MEMORY, and the handle holds what it held.
  */
 uint32_t lasso_new_keyed(struct lasso *lasso, size_t limit, uint64_t key0, uint64_t key1);
+
+/* lasso_new_keyed with the capacity of lasso_new_sized. */
+uint32_t lasso_new_sized_keyed(struct lasso *lasso, size_t texts, size_t bytes, size_t limit,
+                               uint64_t key0, uint64_t key1);
 
 /*
  * Makes an interner with the same texts and the same codes in another handle, clone, which is independent of the

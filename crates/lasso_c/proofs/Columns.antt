@@ -2,7 +2,7 @@
 --
 -- A column is refused as the batch is that interns it. What is wrong with a column is never what an interner refuses (`is_of_column`),
 -- so the two can be told apart.
-use Rattle.std.proofs.Common.{ℕ, ◌≡◌, ◌+◌, ◌-◌, ◌*◌, ◌≤◌, ◌⊎◌, inl, inr, Bool, true, false, nat_lt, if◌then◌else◌, List, [], ◌∷◌, ◌++◌, length, take, Option, Some, None, Result, Ok, Err, refl, ap, sym, ◌∙◌, arith, append-nil}
+use Rattle.std.proofs.Common.{ℕ, ◌≡◌, ◌+◌, ◌-◌, ◌*◌, ◌≤◌, ◌⊎◌, inl, inr, Bool, true, false, nat_lt, if◌then◌else◌, List, [], ◌∷◌, ◌++◌, length, take, Option, Some, None, Result, Ok, Err, refl, ap, sym, subst, ◌∙◌, arith, append-nil}
 use Rattle.std.specs.Option.{option_or}
 use Rattle.std.specs.List.{concat}
 use Rattle.std.proofs.lemmas.Bool.Decides.{nat_tests}
@@ -10,12 +10,13 @@ use Rattle.std.proofs.lemmas.List.{drop_all, take_all}
 use Rattle.lasso_parts.specs.Texts.{Text}
 use Rattle.lasso_parts.specs.declared.util.LassoError.{LassoError}
 use Rattle.lasso_parts.specs.declared.util.LassoErrorKind.TheVariants.{MemoryLimitReached, KeySpaceExhaustion, FailedAllocation}
+use Rattle.lasso_single.specs.Filling.{extend}
 use Rattle.lasso_single.specs.Interner.{InternerView}
 use Rattle.lasso_c.specs.Bitmap.{bits_fit, present_at}
 use Rattle.lasso_c.specs.Layout.{greatest_offset, layout_texts, start_fault, text_fault, null_fault, row_fault, rows_fault, column_fault, column_rows, greatest_offset, over, present_texts}
 use Rattle.lasso_c.specs.Decoding.{nothing}
 use Rattle.lasso_c.specs.Encoding.{column_refusal, dictionary_of, of_column, row_codes, with_all_new}
-use Rattle.lasso_c.specs.Interning.{InternsRoomed, InternsPart, refusal_at}
+use Rattle.lasso_c.specs.Interning.{key_of_code, InternsRoomed, InternsPart, refusal_at}
 use Rattle.lasso_c.specs.declared.error.CallError.{CallError}
 use Rattle.lasso_c.specs.declared.error.CallError.TheVariants.{CodesTooShort, BitmapTooShort, NoMemory}
 use Rattle.lasso_c.proofs.BatchSteps.{length-row_codes}
@@ -82,6 +83,20 @@ part_ok room bits bytes offsets done old new h = ok_by (nat_lt room (length (lay
 pub part_err : (room : ℕ) (bits bytes offsets : List ℕ) (done : ℕ) (old new : InternerView) (refusal : CallError) → length (layout_texts bytes offsets) ≤ room → InternsPart greatest_offset room bits bytes offsets done old (Err refusal) new → (column_refusal bits bytes offsets ≡ Some (of_column refusal)) ⊎ (of_column refusal ≡ NoMemory)
 part_err room bits bytes offsets done old new refusal enough h =
     err_by (nat_lt room (length (layout_texts bytes offsets))) (bits_fit bits (length (layout_texts bytes offsets))) bits bytes offsets done old new refusal (grind (arith, nat_tests)) h
+
+list_by : (short fits : Bool) (bits bytes offsets : List ℕ) (done : ℕ) (old new : InternerView) → InternsRoomed greatest_offset short fits bits bytes offsets done old (Ok tt) new → extend {K = ℕ} key_of_code old (present_texts (take done (column_rows bits bytes offsets))) (Ok tt) new
+list_by true fits bits bytes offsets done old new h = let no : ◌≡◌ {A = Result (Unit {0}) CallError} (Ok tt) (Err (CodesTooShort nothing)) = h.1 in absurd cc
+list_by false false bits bytes offsets done old new h = let no : ◌≡◌ {A = Result (Unit {0}) CallError} (Ok tt) (Err (BitmapTooShort (8 * length bits))) = h.1 in absurd cc
+list_by false true bits bytes offsets done old new h = h.before
+
+-- the interner of a column that was interned as a whole
+pub column_list : (room : ℕ) (bits bytes offsets : List ℕ) (done : ℕ) (old new : InternerView) → InternsPart greatest_offset room bits bytes offsets done old (Ok tt) new → extend {K = ℕ} key_of_code old (present_texts (column_rows bits bytes offsets)) (Ok tt) new
+column_list room bits bytes offsets done old new h =
+    let rows = column_rows bits bytes offsets in
+    let part = part_ok room bits bytes offsets done old new h in
+    let whole : take done rows ≡ rows = take_all done rows (omega (arith, part.1, length-rows bits bytes offsets)) in
+    subst (λ (rs : List (Option Text)). extend {K = ℕ} key_of_code old (present_texts rs) (Ok tt) new) whole
+    (list_by (nat_lt room (length (layout_texts bytes offsets))) (bits_fit bits (length (layout_texts bytes offsets))) bits bytes offsets done old new h)
 
 -- where nothing is wrong with the rows, the bitmap has their bits
 good_by : (fits : Bool) (fault : Option CallError) (at : ℕ) → (if fits then fault else Some (BitmapTooShort at)) ≡ None → fault ≡ None

@@ -7,18 +7,20 @@ ghost use Rattle.lasso_c.specs.Bitmap.{bits_fit};
 ghost use Rattle.lasso_c.specs.Layout.{column_rows, greatest_offset, layout_fault, layout_texts, offsets_from, over, present_texts};
 ghost use Rattle.lasso_c.specs.Encoding.{with_all_new, codes_of, codes_or, row_codes, sizes_of};
 ghost use Rattle.lasso_c.specs.Handles.{code_lookup_in, part_lookup_outcome, part_outcome};
-ghost use Rattle.lasso_c.specs.Interning.{InternsCode, InternsNext, InternsPart, batch_report, batch_start_fault};
+ghost use Rattle.lasso_c.specs.Interning.{InternsCode, InternsNext, InternsPart, batch_report, batch_start_fault, refusal_at};
 ghost use Rattle.lasso_c.specs.Status.{outcome_status};
 
+use crate::ahead::look_ahead_from;
 use crate::encoding::{Dictionary, text_at_code};
 use crate::error::{CallError, LassoReport, Sizes, status_of};
 use crate::layout::{check_layout, first_start, put_text, text_between};
 use crate::nulls::{check_null, fit, is_present};
 use crate::offsets::Offset;
 use crate::status::{DONE, NO_SUCH_CODE};
-use lasso_encode::intern_code;
+use lasso_encode::intern_code_next;
 use lasso_parts::keys::Key;
 use lasso_parts::util::LassoErrorKind;
+use lasso_single::batch::{Batch, get_next};
 
 // How many rows of a batch were done, and why no more.
 #[derive(Clone, Copy)]
@@ -76,8 +78,10 @@ pub(crate) fn intern_column<O: Offset>(
             outcome: Err(refusal),
         };
     }
+    let mut batch = Batch::new();
     for at in 0..rows {
-        match code_at(dictionary, bytes, offsets, bits, null, at) {
+        look_ahead_from(dictionary, bytes, offsets, at, &mut batch);
+        match code_at(dictionary, bytes, offsets, bits, null, at, &mut batch) {
             Ok(code) => codes[at] = code,
             Err(refusal) => return Progress {
                 done: at,
@@ -127,7 +131,8 @@ fn first_fault<O: Offset>(
     Ok(())
 }
 
-// Interns the row of this number of the column, and gives its code. Where it is refused nothing has changed.
+// Interns the row of this number of the column, the next text of `batch`, and returns its code. If it is refused, nothing
+// has changed.
 fn code_at<O: Offset>(
     dictionary: &mut Dictionary,
     bytes: &[u8],
@@ -135,6 +140,7 @@ fn code_at<O: Offset>(
     bits: &[u8],
     null: u32,
     at: usize,
+    batch: &mut Batch,
 ) -> Result<u32, CallError>
     requires within { at + 1 < length (O.numbers offsets.now) }
     requires counted { at + 1 < 2 ^ 64 }
@@ -144,10 +150,11 @@ fn code_at<O: Offset>(
     let (from, to) = (O::number(offsets, at), O::number(offsets, at + 1));
     if !is_present(bits, at) {
         check_null::<O>(bytes, at, from, to)?;
+        batch.skip();
         return Ok(null);
     }
     let text = text_between::<O>(bytes, at, from, to)?;
-    code_in(dictionary, text, at)
+    code_next(dictionary, text, at, batch)
 }
 
 // The code of the text, which goes last in the dictionary if it is new. `at` is its number in a batch. Where the text is
@@ -155,13 +162,33 @@ fn code_at<O: Offset>(
 pub(crate) fn code_in(dictionary: &mut Dictionary, text: &str, at: usize) -> Result<u32, CallError>
     ensures { InternsCode at dictionary.old text.now result dictionary.new }
 {
-    match intern_code(dictionary, text) {
+    code_next(dictionary, text, at, &mut Batch::new())
+}
+
+// `code_in` for the next text of a batch. In line, so that a single text has no batch.
+#[inline(always)]
+fn code_next(
+    dictionary: &mut Dictionary,
+    text: &str,
+    at: usize,
+    batch: &mut Batch,
+) -> Result<u32, CallError>
+    ensures { InternsCode at dictionary.old text.now result dictionary.new }
+{
+    match intern_code_next(dictionary, text, batch) {
         Ok(code) => Ok(code),
-        Err(error) => match error.kind() {
-            LassoErrorKind::MemoryLimitReached => Err(CallError::LimitReached(at)),
-            LassoErrorKind::KeySpaceExhaustion => Err(CallError::NoCodeLeft(at)),
-            LassoErrorKind::FailedAllocation => Err(CallError::NoMemory),
-        },
+        Err(error) => Err(refusal_of(error.kind(), at)),
+    }
+}
+
+// The refusal of the text of this number in a batch, of which the interner tells the kind.
+pub(crate) fn refusal_of(kind: LassoErrorKind, at: usize) -> CallError
+    ensures { result ≡ refusal_at at kind }
+{
+    match kind {
+        LassoErrorKind::MemoryLimitReached => CallError::LimitReached(at),
+        LassoErrorKind::KeySpaceExhaustion => CallError::NoCodeLeft(at),
+        LassoErrorKind::FailedAllocation => CallError::NoMemory,
     }
 }
 
@@ -202,18 +229,23 @@ fn put_codes<O: Offset>(
     requires room { length (layout_texts bytes.now (O.numbers offsets.now)) ≤ length codes.old }
     ensures { codes.new ≡ over (codes_or absent dictionary.now.texts (layout_texts bytes.now (O.numbers offsets.now))) codes.old }
 {
+    let mut batch = Batch::new();
     for at in 0..O::count(offsets).saturating_sub(1) {
+        look_ahead_from(dictionary, bytes, offsets, at, &mut batch);
         let (from, to) = (O::number(offsets, at), O::number(offsets, at + 1));
         let text = text_between::<O>(bytes, at, from, to).unwrap();
-        codes[at] = code_or(dictionary, text, absent);
+        codes[at] = code_or(dictionary, text, &mut batch, absent);
     }
 }
 
-// The code of the text, and the given one for an absent text.
-fn code_or(dictionary: &Dictionary, text: &str, absent: u32) -> u32
+// The code of the text, the next one of `batch`, and the given one for an absent text.
+#[tactic(auto, using(lasso_parts::proofs::TextLemmas::key_of_present))]
+fn code_or(dictionary: &Dictionary, text: &str, batch: &mut Batch, absent: u32) -> u32
     ensures { result ≡ unwrap_or (position_of dictionary.now.texts text.now) absent }
 {
-    match dictionary.get(text) {
+    // By the clause `fits` of this call each present text has a key.
+    let _count = dictionary.len();
+    match get_next(dictionary, text, batch) {
         Some(key) => key.into_position(),
         None => absent,
     }

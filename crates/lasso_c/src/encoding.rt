@@ -1,6 +1,9 @@
 //! Encoding: from texts to a dictionary of the distinct ones and a code for each.
-ghost use Rattle.std.specs.Prelude.{◌≡◌, ◌⊎◌, ◌<◌, ◌≤◌, None, Some, Err, OnOk, IfOk, IfErr, length, slice_get, is_ok, if◌then◌else◌};
+ghost use Rattle.std.specs.Prelude.{◌≡◌, ◌⊎◌, ◌<◌, ◌≤◌, ◌-◌, ◌^◌, None, Some, Ok, Err, OnOk, IfOk, IfErr, length, slice_get, is_ok, if◌then◌else◌};
 ghost use Rattle.std.specs.List.{concat};
+ghost use Rattle.lasso_single.specs.Filling.{extend};
+ghost use Rattle.lasso_single.specs.Interner.{made_with};
+ghost use Rattle.lasso_c.specs.Interning.{key_of_code};
 ghost use Rattle.lasso_c.specs.Layout.{column_rows, greatest_offset, layout_texts, offsets_from, over, present_texts};
 ghost use Rattle.lasso_c.specs.Encoding.{codes_of, column_outcome, column_refusal, dictionary_of, encoding_outcome, of_column, row_codes, sizes_of};
 ghost use Rattle.lasso_c.specs.declared.error.CallError.TheVariants.{NoMemory};
@@ -88,7 +91,7 @@ pub(crate) fn encode_rows(
     Ok(sizes)
 }
 
-// Interns the rows of the column into a new dictionary, unless something is wrong with one.
+// Interns the rows of the column into a new dictionary without a limit, unless something is wrong with one.
 fn intern_rows(
     alloc: Global,
     bytes: &[u8],
@@ -102,6 +105,7 @@ fn intern_rows(
     ensures codes { let rows = column_rows bits.now bytes.now offsets.now in
         IfOk result (λ interned. interned.codes.items ≡ row_codes null (dictionary_of (present_texts rows)) rows) }
     ensures small { IfOk result (λ interned. length (concat interned.dictionary.texts) ≤ greatest_offset) }
+    ensures unlimited { IfOk result (λ interned. extend key_of_code (made_with 4096 (2 ^ 64 - 1)) (present_texts (column_rows bits.now bytes.now offsets.now)) (Ok tt) interned.dictionary) }
 {
     let mut dictionary = Rodeo::with_hasher(alloc, Seed::fixed())?;
     let mut codes = vec![in alloc; 0u32; offsets.len().saturating_sub(1)]?;

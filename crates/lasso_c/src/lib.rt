@@ -13,6 +13,7 @@ ghost use Rattle.lasso_c.specs.Decoding.{decoding_outcome, nulls_decoding_outcom
 ghost use Rattle.lasso_c.specs.Status.{Reports, status_text};
 ghost use Rattle.lasso_c.specs.declared.error.CallError.TheVariants.{NoMemory};
 
+mod ahead;
 mod batches;
 mod decoding;
 mod encoding;

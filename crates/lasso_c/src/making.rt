@@ -60,6 +60,28 @@ pub extern "C" fn lasso_new_keyed(
     )
 }
 
+/// `lasso_new_keyed` of the capacity that `lasso_new_sized` has.
+#[unsafe(no_mangle)]
+pub extern "C" fn lasso_new_sized_keyed(
+    alloc: Global,
+    lasso: &mut Lasso,
+    texts: usize,
+    bytes: usize,
+    limit: usize,
+    key0: u64,
+    key1: u64,
+) -> u32
+    ensures made { result ≡ DONE → IsSome lasso.new.slot.value }
+    ensures texts { result ≡ DONE → texts_in lasso.new.slot.value ≡ [] }
+    ensures account { result ≡ DONE → account_in lasso.new.slot.value ≡ Some (fresh (max bytes 1) limit) }
+    ensures first { result ≡ DONE → first_in lasso.new.slot.value ≡ Some (max bytes 1) }
+    ensures refused { ¬ (result ≡ DONE) → result ≡ NO_MEMORY }
+    ensures kept { ¬ (result ≡ DONE) → lasso.new.slot.value ≡ lasso.old.slot.value }
+{
+    let sized = Capacity::new(texts, bytes.max(1));
+    make(alloc, lasso, sized, limit, Seed::keyed(key0, key1))
+}
+
 /// Makes an interner with the same texts under the same codes in another handle. Their bytes lie in one bucket of just their size, or
 /// of 4096 bytes if they have none, and its limit is the same, or that size if it is greater. It hashes with the same seed. It
 /// returns `NO_INTERNER` without an interner to clone, `NO_MEMORY` out of memory, and `clone` is as it was then.

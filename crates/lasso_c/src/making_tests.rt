@@ -45,6 +45,58 @@ fn keeps_its_interner_where_there_is_no_memory_for_another(rt: HostRuntime) -> R
     walk(&rt, &TOO_LARGE)
 }
 
+// Limits up to the greatest number: none of them keeps an interner from being made.
+static LIMITS: [usize; 13] = [
+    0,
+    1,
+    4095,
+    4096,
+    4097,
+    5000,
+    65_536,
+    1 << 20,
+    1 << 31,
+    1 << 32,
+    1 << 48,
+    usize::MAX - 1,
+    usize::MAX,
+];
+
+#[test]
+fn makes_interners_of_any_limit(rt: HostRuntime) -> Result<(), Fail> {
+    for limit in &LIMITS {
+        let limit = *limit;
+        let steps = [
+            Step::Makes(limit),
+            Step::Takes(4096, limit),
+            Step::MakesSized(9, 70, limit),
+            Step::Takes(70, limit),
+            Step::MakesKeyed(limit),
+            Step::Takes(4096, limit),
+            Step::MakesSizedKeyed(9, 5000, limit),
+            Step::Takes(5000, limit),
+        ];
+        walk(&rt, &steps)?;
+    }
+    Ok(())
+}
+
+static WITH_KEYS_OF_A_SIZE: [Step; 8] = [
+    Step::MakesSizedKeyed(1000, 34, 34),
+    Step::Fits(1000, usize::MAX),
+    Step::Takes(34, 34),
+    Step::Interns(LONG, (0, 0)),
+    Step::Interns(b"another of as many bytes as that one", (10, 77)),
+    Step::Finds(LONG, (0, 0)),
+    Step::MakesSizedKeyed(0, 0, 1),
+    Step::Takes(1, 1),
+];
+
+#[test]
+fn makes_an_interner_of_a_size_with_keys(rt: HostRuntime) -> Result<(), Fail> {
+    walk(&rt, &WITH_KEYS_OF_A_SIZE)
+}
+
 static WITH_KEYS: [Step; 12] = [
     Step::MakesKeyed(5000),
     Step::Takes(4096, 5000),

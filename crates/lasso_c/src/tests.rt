@@ -3,12 +3,18 @@ pub mod checks;
 pub mod columns;
 pub mod steps;
 
+use crate::batches::refusal_of;
+use crate::error::{status_of, tell};
+use crate::handle::Lasso;
+use crate::interner::{lasso_get_batch, lasso_intern_batch};
 use crate::{lasso_decode, lasso_decode_nulls, lasso_encode, lasso_status_text, lasso_version};
-use checks::{Seen, UNSET, has_bytes, is_as_told, is_so, is_so_at, told};
+use checks::{Seen, Told, UNSET, has_bytes, is_as_told, is_so, is_so_at, told};
 use columns::{DECODING, Decoding, ENCODING, Encoding, decodes, encodes};
+use lasso_parts::util::LassoErrorKind;
 use std::alloc::Global;
 use std::process::Abort;
 use std::test::Fail;
+use steps::{Step, walk_on};
 
 // Encodes the columns, and checks what comes of each.
 pub fn encode_all<R: Abort + AllocGlobal>(rt: &R, rows: &[Encoding]) -> Result<(), Fail> {
@@ -261,14 +267,11 @@ fn counts_past_the_greatest_offset(rt: HostRuntime) -> Result<(), Fail> {
     Ok(())
 }
 
-const TEXTS: u32 = 1000;
-
-const DISTINCT: u32 = 250;
-
-// The number that the text at this position prints. 79 and 250 have no common factor, so 250 texts in a row
-// have 250 numbers.
-fn number_at(position: u32) -> u32 {
-    position % DISTINCT * 79 % DISTINCT
+// The number that the text at this position prints. 79 has no common factor with 250 or with 20,000, so that
+// number of texts in a row has distinct numbers.
+fn number_at(position: u32, distinct: u32) -> u32 {
+    let turn = position.checked_rem(distinct).unwrap_or(0);
+    turn.wrapping_mul(79).checked_rem(distinct).unwrap_or(0)
 }
 
 // Texts by their bytes and offsets.
@@ -278,12 +281,12 @@ struct Printed {
     offsets: Vec<u32>,
 }
 
-// The texts at this many positions.
-fn texts_up_to(alloc: Global, count: u32) -> Result<Printed, Fail> {
+// The texts at this number of positions.
+fn texts_up_to(alloc: Global, count: u32, distinct: u32) -> Result<Printed, Fail> {
     let mut bytes = Vec::new(alloc);
     let mut offsets = vec![in alloc; 0u32]?;
     for position in 0..count {
-        let text = format!(in alloc; "{}", number_at(position))?;
+        let text = format!(in alloc; "{}", number_at(position, distinct))?;
         bytes.extend_from_slice(text.as_bytes())?;
         let Ok(end) = u32::try_from(bytes.len()) else {
             return Err(Fail::from("too many bytes"));
@@ -293,13 +296,18 @@ fn texts_up_to(alloc: Global, count: u32) -> Result<Printed, Fail> {
     Ok(Printed { bytes, offsets })
 }
 
-// The first 250 texts are new, and the others come again in the same order.
-fn codes_of_texts(alloc: Global) -> Result<Vec<u32>, Fail> {
+// The first `distinct` texts are new, and the others come again in the same order.
+fn codes_of_texts(alloc: Global, count: u32, distinct: u32) -> Result<Vec<u32>, Fail> {
     let mut codes = Vec::new(alloc);
-    for position in 0..TEXTS {
-        codes.push(position % DISTINCT)?;
+    for position in 0..count {
+        codes.push(position.checked_rem(distinct).unwrap_or(0))?;
     }
     Ok(codes)
+}
+
+// How many texts there are.
+fn count(texts: &Printed) -> usize {
+    texts.offsets.len().saturating_sub(1)
 }
 
 // Encodes the texts.
@@ -309,9 +317,9 @@ fn encodes_all(
     dictionary: &Printed,
     codes: &[u32],
 ) -> Result<Seen, Fail> {
-    let mut written = vec![in alloc; 9u32; 1000]?;
+    let mut written = vec![in alloc; 9u32; codes.len()]?;
     let mut bytes = vec![in alloc; 9u8; dictionary.bytes.len()]?;
-    let mut offsets = vec![in alloc; 9u32; 251]?;
+    let mut offsets = vec![in alloc; 9u32; dictionary.offsets.len()]?;
     let mut report = UNSET;
     let status = lasso_encode(
         alloc,
@@ -322,7 +330,8 @@ fn encodes_all(
         &mut offsets,
         &mut report,
     );
-    let is_told = told(status, &report) == (0, (250, dictionary.bytes.len(), 0));
+    let want = (count(dictionary), dictionary.bytes.len(), 0);
+    let is_told = told(status, &report) == (0, want);
     let is_dictionary = bytes == dictionary.bytes && offsets == dictionary.offsets;
     Ok((
         status,
@@ -338,7 +347,7 @@ fn decodes_all(
     codes: &[u32],
 ) -> Result<Seen, Fail> {
     let mut bytes = vec![in alloc; 9u8; texts.bytes.len()]?;
-    let mut offsets = vec![in alloc; 9u32; 1001]?;
+    let mut offsets = vec![in alloc; 9u32; texts.offsets.len()]?;
     let mut report = UNSET;
     let status = lasso_decode(
         &dictionary.bytes,
@@ -348,7 +357,7 @@ fn decodes_all(
         &mut offsets,
         &mut report,
     );
-    let is_told = told(status, &report) == (0, (1000, texts.bytes.len(), 0));
+    let is_told = told(status, &report) == (0, (count(texts), texts.bytes.len(), 0));
     Ok((
         status,
         is_told && bytes == texts.bytes && offsets == texts.offsets,
@@ -357,9 +366,9 @@ fn decodes_all(
 
 #[test]
 fn a_thousand_texts_are_encoded_and_decoded(rt: HostRuntime) -> Result<(), Fail> {
-    let texts = texts_up_to(rt.alloc(), TEXTS)?;
-    let dictionary = texts_up_to(rt.alloc(), DISTINCT)?;
-    let codes = codes_of_texts(rt.alloc())?;
+    let texts = texts_up_to(rt.alloc(), 1000, 250)?;
+    let dictionary = texts_up_to(rt.alloc(), 250, 250)?;
+    let codes = codes_of_texts(rt.alloc(), 1000, 250)?;
     is_as_told(
         &rt,
         encodes_all(rt.alloc(), &texts, &dictionary, &codes)?,
@@ -370,6 +379,69 @@ fn a_thousand_texts_are_encoded_and_decoded(rt: HostRuntime) -> Result<(), Fail>
         decodes_all(rt.alloc(), &texts, &dictionary, &codes)?,
         2,
     )
+}
+
+// Far more texts and bytes than a first bucket has.
+#[test]
+fn twenty_thousand_distinct_texts_are_encoded(rt: HostRuntime) -> Result<(), Fail> {
+    let texts = texts_up_to(rt.alloc(), 20_000, 20_000)?;
+    let codes = codes_of_texts(rt.alloc(), 20_000, 20_000)?;
+    is_as_told(&rt, encodes_all(rt.alloc(), &texts, &texts, &codes)?, 1)
+}
+
+// Interns the texts in one batch, and looks the codes of all up in another.
+fn batches_of(
+    lasso: &mut Lasso,
+    texts: &Printed,
+    codes: &[u32],
+    written: &mut [u32],
+) -> (Seen, Seen) {
+    let want = (0, (count(texts), 0, 0));
+    let mut report = UNSET;
+    let status = lasso_intern_batch(lasso, &texts.bytes, &texts.offsets, written, &mut report);
+    let interned = (status, told(status, &report) == want && *written == *codes);
+    written.fill(9);
+    let mut report = UNSET;
+    let status = lasso_get_batch(lasso, &texts.bytes, &texts.offsets, 8, written, &mut report);
+    (
+        interned,
+        (status, told(status, &report) == want && *written == *codes),
+    )
+}
+
+// The second time all texts are present.
+#[test]
+fn twenty_thousand_texts_are_interned_in_a_batch(rt: HostRuntime) -> Result<(), Fail> {
+    let texts = texts_up_to(rt.alloc(), 20_000, 5000)?;
+    let codes = codes_of_texts(rt.alloc(), 20_000, 5000)?;
+    let mut written = vec![in rt.alloc(); 9u32; 20_000]?;
+    let mut lasso = Lasso::none(rt.alloc());
+    walk_on(&rt, &mut lasso, &[Step::Makes(usize::MAX)])?;
+    for time in 0..2usize {
+        let (interned, found) = batches_of(&mut lasso, &texts, &codes, &mut written);
+        is_as_told(&rt, interned, time)?;
+        is_as_told(&rt, found, time)?;
+    }
+    walk_on(&rt, &mut lasso, &[Step::Counts(5000)])
+}
+
+// Why an interner refuses a text, and what that comes to for the text with the number 3 of a batch. No test has
+// the 2^32 - 1 texts that leave no code.
+static REFUSALS: [(LassoErrorKind, Told); 3] = [
+    (LassoErrorKind::MemoryLimitReached, (10, (0, 0, 3))),
+    (LassoErrorKind::KeySpaceExhaustion, (11, (0, 0, 3))),
+    (LassoErrorKind::FailedAllocation, (9, (0, 0, 0))),
+];
+
+#[test]
+fn tells_why_an_interner_refuses_a_text(rt: HostRuntime) {
+    for (kind, want) in &REFUSALS {
+        let refusal = refusal_of(*kind, 3);
+        let mut report = UNSET;
+        let status = tell(&Err(refusal), &mut report);
+        is_so(&rt, told(status, &report) == *want, "a report");
+        is_so(&rt, status_of(&refusal) == want.0, "a status");
+    }
 }
 
 // What each status means.

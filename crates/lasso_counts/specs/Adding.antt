@@ -1,5 +1,5 @@
 -- Texts that are counted after others.
-use Rattle.std.specs.Prelude.{ℕ, ◌≡◌, ◌+◌, List, [], ◌∷◌, ◌++◌, length, sum, take, codes, decimal, Vec, None, Result, Ok, Err, MatchResult}
+use Rattle.std.specs.Prelude.{ℕ, ◌≡◌, ◌+◌, ◌<◌, ◌≤◌, ◌⊎◌, List, [], ◌∷◌, ◌++◌, length, sum, take, codes, decimal, Vec, vec_capacity, vec_len, None, IsSome, Result, Ok, Err, MatchResult}
 use Rattle.lasso_parts.specs.Errors.{error_text}
 use Rattle.lasso_parts.specs.Texts.{Text, position_of}
 use Rattle.lasso_parts.specs.declared.util.LassoError.{LassoError}
@@ -42,3 +42,9 @@ CountsText old counts text result new counts' =
     MatchResult result
     (λ _. ((key : ℕ) × InternsIn {K = ℕ} spur_at old text (Ok key) new) × (counts'.items ≡ counted counts.items (position_of old.texts text)))
     (λ error. (new ≡ old) × (counts'.items ≡ counts.items) × IsRefused old text error × RefusesNew old counts' text error)
+
+-- The counts lose no room. They get more only for an absent text, and only if they have none for one more.
+abbrev pub KeepsRoom : {A : Type 0} → InternerView → Vec ℕ A → Text → Vec ℕ A → Type 0
+KeepsRoom old counts text counts' =
+    (vec_capacity counts ≤ vec_capacity counts')
+    × ((vec_len counts < vec_capacity counts) ⊎ IsSome (position_of old.texts text) → vec_capacity counts' ≡ vec_capacity counts)

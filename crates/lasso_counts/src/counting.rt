@@ -1,11 +1,11 @@
 //! Interns texts and counts them.
-ghost use Rattle.std.specs.Prelude.{◌≡◌, ◌+◌, ◌-◌, ◌^◌, ◌<◌, ◌++◌, ◌∷◌, [], ℕ, List, Ok, OnOk, OnErr, IfErr, IsSomeAnd, length, map, slice_get, sum, vec_len, vec_capacity};
+ghost use Rattle.std.specs.Prelude.{◌≡◌, ◌+◌, ◌-◌, ◌^◌, ◌<◌, ◌≤◌, ◌++◌, ◌∷◌, [], ℕ, List, Ok, OnOk, OnErr, IfErr, IsSomeAnd, length, map, slice_get, sum, vec_len, vec_capacity};
 ghost use Rattle.lasso_parts.specs.Texts.{Text, position_of};
 ghost use Rattle.lasso_single.specs.Intern.{InternsIn};
 ghost use Rattle.lasso_encode.specs.Encoding.{spur_at, IsRefused};
 ghost use Rattle.lasso_single.specs.Filling.{extend};
 ghost use Rattle.lasso_counts.specs.Counts.{AreCounts, counted, added};
-ghost use Rattle.lasso_counts.specs.Adding.{AddsCounts, CountsText, RefusesNew, counted_of};
+ghost use Rattle.lasso_counts.specs.Adding.{AddsCounts, CountsText, KeepsRoom, RefusesNew, counted_of};
 
 use crate::error::CountError;
 use lasso::{Key, LassoResult, Rodeo, Spur};
@@ -20,7 +20,7 @@ use std::hash::BuildHasher;
 /// # Errors
 /// The text is refused: no key is left, the memory limit leaves no room, or out of memory. The interner and
 /// the counts are as they were. A present text is never refused. A text that the keys or the limit refuse is
-/// out of memory only if `counts` is full and can't grow.
+/// out of memory only if `counts` is full and can't grow. `counts` grows only for a new text.
 ///
 /// ```rust
 /// let mut rodeo: SpurRodeo = Rodeo::default(rt.alloc())?;
@@ -45,6 +45,7 @@ pub fn count_text<S: BuildHasher, A: Allocator + Clone>(
     ensures kept_counts { OnErr result (counts.new.items ≡ counts.old.items) }
     ensures refused { IfErr result (IsRefused rodeo.old text.now) }
     ensures memory { IfErr result (RefusesNew rodeo.old counts.new text.now) }
+    ensures room { KeepsRoom rodeo.old counts.old text.now counts.new }
 {
     count_next(rodeo, text, &mut Batch::new(), counts)
 }
@@ -84,7 +85,8 @@ fn add_text<S: BuildHasher, A: Allocator + Clone>(
 ) -> LassoResult<()>
     requires lengths { vec_len counts.old ≡ length rodeo.old.texts }
     requires fits { sum counts.old.items < 2 ^ 64 - 1 }
-    ensures { CountsText rodeo.old counts.old text.now result rodeo.new counts.new }
+    ensures counted { CountsText rodeo.old counts.old text.now result rodeo.new counts.new }
+    ensures room { KeepsRoom rodeo.old counts.old text.now counts.new }
 {
     if counts.len() < counts.capacity() {
         return add_in_room(rodeo, text, batch, counts);
@@ -109,7 +111,8 @@ fn add_in_room<S: BuildHasher, A: Allocator + Clone>(
     requires lengths { vec_len counts.old ≡ length rodeo.old.texts }
     requires fits { sum counts.old.items < 2 ^ 64 - 1 }
     requires room { vec_len counts.old < vec_capacity counts.old }
-    ensures { CountsText rodeo.old counts.old text.now result rodeo.new counts.new }
+    ensures counted { CountsText rodeo.old counts.old text.now result rodeo.new counts.new }
+    ensures room { KeepsRoom rodeo.old counts.old text.now counts.new }
 {
     let key = intern_next(rodeo, text, batch)?;
     add_one(counts, key.into_usize());
@@ -142,6 +145,7 @@ pub fn count_texts<S: BuildHasher, A: Allocator + Clone>(
     ensures counts { AddsCounts (counted_of result (map (λ t. t.now) texts.now)) rodeo.old.texts counts.old.items rodeo.new.texts counts.new.items }
     ensures refused { IfErr result (λ error. IsSomeAnd (slice_get (map (λ t. t.now) texts.now) error.position) (λ text. IsRefused rodeo.new text error.error)) }
     ensures memory { IfErr result (λ error. IsSomeAnd (slice_get (map (λ t. t.now) texts.now) error.position) (λ text. RefusesNew rodeo.new counts.new text error.error)) }
+    ensures room { vec_capacity counts.old ≤ vec_capacity counts.new }
 {
     let mut batch = Batch::new();
     for position in 0..texts.len() {
@@ -159,7 +163,8 @@ pub fn count_texts<S: BuildHasher, A: Allocator + Clone>(
 fn add_one(counts: &mut Vec<u64>, position: usize)
     requires fits { sum counts.old.items < 2 ^ 64 - 1 }
     requires room { vec_len counts.old < vec_capacity counts.old }
-    ensures { counts.new.items ≡ added counts.old.items position }
+    ensures items { counts.new.items ≡ added counts.old.items position }
+    ensures capacity { vec_capacity counts.new ≡ vec_capacity counts.old }
 {
     if position < counts.len() {
         counts[position] += 1;

@@ -14,6 +14,8 @@ mod counting;
 mod error;
 mod parts;
 mod ranking;
+#[cfg(test)]
+mod tests;
 
 pub use counting::{count_next, count_text, count_texts};
 pub use error::CountError;

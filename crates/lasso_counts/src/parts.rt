@@ -49,6 +49,7 @@ pub fn count_in_parts<R: AllocGlobal + Threads + Sync, S: BuildHasher, A: Alloca
     ensures counts { AddsCounts (counted_of result (map (λ t. t.now) texts.now)) rodeo.old.texts counts.old.items rodeo.new.texts counts.new.items }
     ensures refused { IfErr result (λ error. IsSomeAnd (slice_get (map (λ t. t.now) texts.now) error.position) (λ text. IsRefused rodeo.new text error.error)) }
     ensures memory { IfErr result (λ error. IsSomeAnd (slice_get (map (λ t. t.now) texts.now) error.position) (λ text. RefusesNew rodeo.new counts.new text error.error)) }
+    ensures room { vec_capacity counts.old ≤ vec_capacity counts.new }
 {
     if workers < 2 {
         return count_texts(rodeo, texts, counts);
@@ -112,6 +113,7 @@ fn put_part<S: BuildHasher, A: Allocator + Clone>(
     ensures counts { AddsCounts (counted_of result (map (λ t. t.now) texts.now)) rodeo.old.texts counts.old.items rodeo.new.texts counts.new.items }
     ensures refused { IfErr result (λ error. IsSomeAnd (slice_get (map (λ t. t.now) texts.now) error.position) (λ text. IsRefused rodeo.new text error.error)) }
     ensures memory { IfErr result (λ error. IsSomeAnd (slice_get (map (λ t. t.now) texts.now) error.position) (λ text. RefusesNew rodeo.new counts.new text error.error)) }
+    ensures room { vec_capacity counts.old ≤ vec_capacity counts.new }
 {
     let Some(part) = part else {
         return count_texts(rodeo, texts, counts);
@@ -134,7 +136,8 @@ fn put_part<S: BuildHasher, A: Allocator + Clone>(
 // Appends zeros until there are `len` counts.
 fn pad(counts: &mut Vec<u64>, len: usize)
     requires room { len ≤ vec_capacity counts.old }
-    ensures { counts.new.items ≡ counts.old.items ++ replicate (len - vec_len counts.old) 0 }
+    ensures items { counts.new.items ≡ counts.old.items ++ replicate (len - vec_len counts.old) 0 }
+    ensures capacity { vec_capacity counts.new ≡ vec_capacity counts.old }
 {
     for _ in counts.len()..len {
         counts.push_reserved(0);
@@ -146,7 +149,8 @@ fn add_counts(counts: &mut Vec<u64>, places: &[u32], amounts: &[u64])
     requires inside { All (λ place. place < vec_len counts.old) places.now }
     requires each { length places.now ≡ length amounts.now }
     requires fits { sum counts.old.items + sum amounts.now < 2 ^ 64 }
-    ensures { (list from : List Text) → length counts.old.items ≡ length list → IsDistinct from → AreCodes list from places.now → AddsAmounts list from amounts.now counts.old.items counts.new.items }
+    ensures capacity { vec_capacity counts.new ≡ vec_capacity counts.old }
+    ensures added { (list from : List Text) → length counts.old.items ≡ length list → IsDistinct from → AreCodes list from places.now → AddsAmounts list from amounts.now counts.old.items counts.new.items }
 {
     for position in 0..places.len() {
         counts[places[position] as usize] += amounts[position];
@@ -165,6 +169,7 @@ fn count_rest<S: BuildHasher, A: Allocator + Clone>(
     ensures counts { AddsCounts (counted_of result (map (λ t. t.now) texts.now)) rodeo.old.texts counts.old.items rodeo.new.texts counts.new.items }
     ensures refused { IfErr result (λ error. IsSomeAnd (slice_get (map (λ t. t.now) texts.now) error.position) (λ text. IsRefused rodeo.new text error.error)) }
     ensures memory { IfErr result (λ error. IsSomeAnd (slice_get (map (λ t. t.now) texts.now) error.position) (λ text. RefusesNew rodeo.new counts.new text error.error)) }
+    ensures room { vec_capacity counts.old ≤ vec_capacity counts.new }
 {
     let found = count_found(rodeo, texts, counts);
     match count_texts(rodeo, &texts[found..], counts) {
@@ -185,6 +190,7 @@ fn count_found<S: BuildHasher, A: Allocator>(
     ensures found { All (λ text. IsSome (key_of spur_at rodeo.now.texts text)) (take result (map (λ t. t.now) texts.now)) }
     ensures next { IfSome (slice_get (map (λ t. t.now) texts.now) result) (λ text. position_of rodeo.now.texts text ≡ None) }
     ensures counts { AddsCounts (take result (map (λ t. t.now) texts.now)) rodeo.now.texts counts.old.items rodeo.now.texts counts.new.items }
+    ensures capacity { vec_capacity counts.new ≡ vec_capacity counts.old }
 {
     for position in 0..texts.len() {
         let Some(key) = rodeo.get(texts[position]) else {

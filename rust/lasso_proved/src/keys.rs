@@ -36,7 +36,7 @@ pub unsafe trait Key: Copy + Eq {
     /// The position that the key stands for.
     fn into_usize(self) -> usize;
 
-    /// The key of a position, or `None` if the type has none for it.
+    /// The key of a position, or `None` if the type has none for it, nor for a later one.
     fn try_from_usize(int: usize) -> Option<Self>;
 }
 

@@ -203,7 +203,9 @@ impl<K: Key, S: BuildHasher> Rodeo<K, S> {
     /// ```
     pub fn try_get_or_intern<T: AsRef<str>>(&mut self, val: T) -> LassoResult<K> {
         let text = val.as_ref();
-        if K::try_from_usize(self.len()).is_none() {
+        // A key type with a key for the library's last position never asks how many texts there are.
+        let has_all = K::try_from_usize(LAST_POSITION).is_some();
+        if !has_all && K::try_from_usize(self.len()).is_none() {
             let exhausted = LassoError::new(LassoErrorKind::KeySpaceExhaustion);
             return self.get(text).ok_or(exhausted);
         }
@@ -250,6 +252,9 @@ impl<K: Key, S: BuildHasher> Rodeo<K, S> {
         self.handle.get(val.as_ref()).is_some()
     }
 }
+
+/// The last position that a text of the library can have.
+const LAST_POSITION: usize = u32::MAX as usize - 1;
 
 /// The key of a text that is present.
 ///

@@ -12,7 +12,7 @@ use crate::large::{
     lasso_intern_batch_nulls_large,
 };
 use crate::lending::{LassoText, lasso_text, lasso_texts};
-use crate::making::{lasso_clone, lasso_new_keyed, lasso_new_sized};
+use crate::making::{lasso_clone, lasso_new_keyed, lasso_new_sized, lasso_new_sized_keyed};
 use std::alloc::Global;
 use std::process::Abort;
 use std::test::Fail;
@@ -40,6 +40,8 @@ pub enum Step {
     IsTooLarge(usize),
     // one of this limit is made, which hashes with two keys
     MakesKeyed(usize),
+    // the same with room for this number of texts and of bytes
+    MakesSizedKeyed(usize, usize, usize),
     // interning the text has this status and writes this code, 77 if none
     Interns(&'static [u8], (u32, u32)),
     // the same for a text of this number of letters `a`
@@ -92,8 +94,22 @@ fn is_too_large(alloc: Global, lasso: &mut Lasso, texts: usize) -> Seen {
     (0, status == 9)
 }
 
+// The keys of the makers that take two.
+const KEYS: (u64, u64) = (0x0706_0504_0302_0100, u64::MAX);
+
 fn makes_keyed(alloc: Global, lasso: &mut Lasso, limit: usize) -> Seen {
-    let status = lasso_new_keyed(alloc, lasso, limit, 0x0706_0504_0302_0100, u64::MAX);
+    let status = lasso_new_keyed(alloc, lasso, limit, KEYS.0, KEYS.1);
+    (status, status == 0)
+}
+
+fn makes_sized_keyed(
+    alloc: Global,
+    lasso: &mut Lasso,
+    texts: usize,
+    bytes: usize,
+    limit: usize,
+) -> Seen {
+    let status = lasso_new_sized_keyed(alloc, lasso, texts, bytes, limit, KEYS.0, KEYS.1);
     (status, status == 0)
 }
 
@@ -288,6 +304,9 @@ fn take(alloc: Global, lasso: &mut Lasso, step: &Step) -> Seen {
         Step::MakesSized(texts, bytes, limit) => makes_sized(alloc, lasso, texts, bytes, limit),
         Step::IsTooLarge(texts) => is_too_large(alloc, lasso, texts),
         Step::MakesKeyed(limit) => makes_keyed(alloc, lasso, limit),
+        Step::MakesSizedKeyed(texts, bytes, limit) => {
+            makes_sized_keyed(alloc, lasso, texts, bytes, limit)
+        }
         Step::Interns(text, want) => interns(lasso, text, want),
         Step::InternsLong(count, want) => interns_long(alloc, lasso, count, want),
         Step::Batch(layout, room, want) => batch(lasso, layout, room, want),

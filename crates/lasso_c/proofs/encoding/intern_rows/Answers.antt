@@ -1,20 +1,25 @@
-use Rattle.std.proofs.Common.{◌≡◌, ◌-◌, ◌≤◌, ◌⊎◌, Some, length, drop, sym, subst, ◌∙◌, arith}
+use Rattle.std.proofs.Common.{ℕ, ◌≡◌, ◌-◌, ◌^◌, ◌≤◌, ◌⊎◌, Some, Ok, length, drop, sym, subst, ◌∙◌, arith}
 use Rattle.std.proofs.lemmas.List.{take_at}
+use Rattle.lasso_single.specs.Filling.{extend}
+use Rattle.lasso_single.specs.Interner.{InternerView}
+use Rattle.lasso_single.proofs.Filled.{just_made}
 use Rattle.lasso_c.specs.Encoding.{column_refusal}
-use Rattle.lasso_c.specs.Layout.{greatest_offset, layout_texts}
-use Rattle.lasso_c.specs.Interning.{InternsPart}
+use Rattle.lasso_c.specs.Layout.{column_rows, greatest_offset, layout_texts, present_texts}
+use Rattle.lasso_c.specs.Interning.{key_of_code, InternsPart}
 use Rattle.lasso_c.specs.declared.error.CallError.TheVariants.{NoMemory}
-use Rattle.lasso_c.proofs.Columns.{ColumnDone, column_done, part_err}
+use Rattle.lasso_c.proofs.Columns.{ColumnDone, column_done, column_list, part_err}
 use Rattle.lasso_c.proofs.Layouts.{length-layout_texts}
 use Rattle.lasso_c.proofs.encoding.intern_rows.Goals as goal
+
+whole : (c : goal.In-Ok) → InternsPart greatest_offset (length c.deref_mut.result.now) c.args.bits.now c.args.bytes.now c.args.offsets.now c.intern_column-progress.result.done c.in_ok-dictionary.dictionary (Ok tt) c.intern_column-progress.new.dictionary
+whole c = subst (λ o. InternsPart greatest_offset (length c.deref_mut.result.now) c.args.bits.now c.args.bytes.now c.args.offsets.now c.intern_column-progress.result.done c.in_ok-dictionary.dictionary o c.intern_column-progress.new.dictionary) c.in-Ok.is c.intern_column-progress.ensures.interned
 
 done : (c : goal.In-Ok) → ColumnDone c.args.null c.args.bits.now c.args.bytes.now c.args.offsets.now c.intern_column-progress.new.dictionary.texts c.intern_column-progress.new.codes
 done c =
     let room : length c.deref_mut.result.now ≡ length c.args.offsets.now - 1 = omega (arith, c.deref_mut.ensures.len, c.in_ok-codes.ensures.len, c.saturating_sub.ensures) in
     let part = c.intern_column-progress.ensures in
-    let whole = subst (λ o. InternsPart greatest_offset (length c.deref_mut.result.now) c.args.bits.now c.args.bytes.now c.args.offsets.now c.intern_column-progress.result.done c.in_ok-dictionary.dictionary o c.intern_column-progress.new.dictionary) c.in-Ok.is part.interned in
     column_done c.args.null c.args.bits.now c.args.bytes.now c.args.offsets.now c.deref_mut.result.now c.intern_column-progress.result.done c.in_ok-dictionary.dictionary c.intern_column-progress.new.dictionary c.intern_column-progress.new.codes
-    c.in_ok-dictionary.ensures.texts room whole part.texts part.codes
+    c.in_ok-dictionary.ensures.texts room (whole c) part.texts part.codes
 
 pub returns-in-Ok-clause-dictionary : goal.returns-in-Ok-clause-dictionary
 returns-in-Ok-clause-dictionary c = (done c).dictionary
@@ -26,6 +31,13 @@ returns-in-Ok-clause-codes c =
 
 pub returns-in-Ok-clause-small : goal.returns-in-Ok-clause-small
 returns-in-Ok-clause-small c = (done c).small
+
+pub returns-in-Ok-clause-unlimited : goal.returns-in-Ok-clause-unlimited
+returns-in-Ok-clause-unlimited c =
+    let made = c.in_ok-dictionary.ensures in
+    subst (λ (i : InternerView). extend {K = ℕ} key_of_code i (present_texts (column_rows c.args.bits.now c.args.bytes.now c.args.offsets.now)) (Ok tt) c.intern_column-progress.new.dictionary)
+    (just_made c.in_ok-dictionary.dictionary 4096 (2 ^ 64 - 1) made.texts made.account made.made)
+    (column_list (length c.deref_mut.result.now) c.args.bits.now c.args.bytes.now c.args.offsets.now c.intern_column-progress.result.done c.in_ok-dictionary.dictionary c.intern_column-progress.new.dictionary (whole c))
 
 pub returns-in-Err-clause-refused : goal.returns-in-Err-clause-refused
 returns-in-Err-clause-refused c =

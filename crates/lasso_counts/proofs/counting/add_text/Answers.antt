@@ -4,8 +4,8 @@ use Rattle.lasso_counts.proofs.Added.{counted_found}
 use Rattle.lasso_counts.proofs.Rest.{found_key}
 use Rattle.lasso_counts.proofs.counting.add_text.Goals as goal
 
-pub returns : goal.returns
-returns g c =
+pub returns-clause-counted : goal.returns-clause-counted
+returns-clause-counted g c =
     let list = c.args.rodeo.now.texts in
     let lengths = sym c.args.counts.now.ok.0 ∙ c.requires.lengths in
     let found = sym c.in-Some.ensures.value in

@@ -1,4 +1,4 @@
-use Rattle.std.proofs.Common.{List, Ok, refl, sym, subst}
+use Rattle.std.proofs.Common.{List, Ok, refl, sym, subst, arith}
 use Rattle.lasso_parts.specs.Texts.{Text}
 use Rattle.lasso_single.specs.Filling.{extend}
 use Rattle.lasso_single.proofs.Filled.{accepted, extend_push}
@@ -20,4 +20,5 @@ loop-position-preserved g c =
     record {
       list = subst (λ (ts : List Text). extend spur_at c.args.rodeo.now ts accepted now.rodeo) (sym more) list;
       counts = subst (λ (ts : List Text). AddsCounts ts c.args.rodeo.now.texts c.args.counts.now.items now.rodeo.texts now.counts.items) (sym more) counts;
+      room = omega (arith, at.invariant.room, told.room.0);
     }

@@ -37,9 +37,10 @@ loop-position-preserved c =
           amounts_more list from places amounts old now (set now place (c.index_mut.result.now + amount)) at.position place amount (get_or from at.position []) lengths distinct are same (at.invariant.added list from lengths distinct are) (at_index from at.position [] (omega (arith, small, same))) (at_index places at.position 0 c.loop-position-test.true) refl small is;
       long = length-set now place (c.index_mut.result.now + amount) ∙ at.invariant.long;
       total = total_more old now amounts at.position place c.index_mut.result.now amount value refl within small at.invariant.total;
+      capacity = at.invariant.capacity;
     }
 
-pub returns : goal.returns
-returns c = λ list from lengths distinct are.
+pub returns-clause-added : goal.returns-clause-added
+returns-clause-added c = λ list from lengths distinct are.
     let at = c.loop-position in
     amounts_all list from c.args.places.now c.args.amounts.now c.args.counts.now.items at.counts.items at.position are c.requires.each c.loop-position-test.false (at.invariant.added list from lengths distinct are)

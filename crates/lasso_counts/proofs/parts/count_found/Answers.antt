@@ -27,6 +27,7 @@ loop-position-preserved g c =
     record {
       found = subst (λ (ts : List Text). All (λ text. IsSome (key_of spur_at list text)) ts) (sym more) (All-push (λ text. IsSome (key_of spur_at list text)) _ _ at.invariant.found here);
       counts = subst (λ (ts : List Text). AddsCounts ts list c.args.counts.now.items list (set at.counts.items c.into_usize.result (c.index_mut.result.now + 1))) (sym more) counts;
+      capacity = c.loop-position.invariant.capacity;
     }
 
 pub returns-clause-next : goal.returns-clause-next

@@ -30,6 +30,7 @@ loop-part-preserved g c =
       start = omega (arith, at.invariant.start, c.min-count.ensures, next);
       list = subst (λ (ts : List Text). extend spur_at c.args.rodeo.now ts accepted new.rodeo) (sym more) (extend_both c.args.rodeo.now at.rodeo new.rodeo (take start all) (take count (drop start all)) at.invariant.list list);
       counts = subst (λ (ts : List Text). AddsCounts ts c.args.rodeo.now.texts c.args.counts.now.items new.rodeo.texts new.counts.items) (sym more) (adds_join (take start all) (take count (drop start all)) c.args.rodeo.now.texts at.rodeo.texts new.rodeo.texts c.args.counts.now.items at.counts.items new.counts.items at.invariant.counts counts);
+      room = omega (arith, at.invariant.room, told.room);
     }
 
 pub returns-in-Err-clause-list : goal.returns-in-Err-clause-list

@@ -1,4 +1,4 @@
-use Rattle.std.proofs.Common.{◌≡◌, ◌*◌, Ok, length, map, min, take}
+use Rattle.std.proofs.Common.{◌≡◌, ◌*◌, ◌≤◌, Ok, length, map, min, take, vec_capacity}
 use Rattle.lasso_single.specs.Filling.{extend}
 use Rattle.lasso_encode.specs.Encoding.{spur_at}
 use Rattle.lasso_counts.specs.Adding.{AddsCounts}
@@ -10,4 +10,5 @@ invariant-loop-part g l = record {
   start : l.start ≡ min (l.part * l.size) (length l.texts);
   list : extend spur_at l.fn.rodeo (take l.start (map (λ t. t.now) l.texts)) (Ok tt) l.rodeo;
   counts : AddsCounts (take l.start (map (λ t. t.now) l.texts)) l.fn.rodeo.texts l.fn.counts.items l.rodeo.texts l.counts.items;
+  room : vec_capacity l.fn.counts ≤ vec_capacity l.counts;
 }

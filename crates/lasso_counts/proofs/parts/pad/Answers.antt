@@ -2,8 +2,8 @@ use Rattle.std.proofs.Common.{◌≡◌, ◌-◌, ◌++◌, ◌∙◌, ap, arith
 use Rattle.std.specs.Prelude.{replicate}
 use Rattle.lasso_counts.proofs.parts.pad.Goals as goal
 
-pub returns : goal.returns
-returns c =
+pub returns-clause-items : goal.returns-clause-items
+returns-clause-items c =
     let so_far = c.loop.invariant in
     let old = c.args.counts.now in
     let many : c.loop.counter - vec_len old ≡ c.args.len - vec_len old = omega (arith, so_far.few, c.loop-test.false) in

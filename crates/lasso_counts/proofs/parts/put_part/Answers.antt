@@ -27,7 +27,7 @@ add_counts-requires-clause-inside g c =
     let lengths = sym counts.ok.0 ∙ c.requires.lengths in
     let grown = merged_grown old now list c.merge-merged.result (λ error n. IsSomeAnd (slice_get list n) (λ text. IsRefused now text error)) c.merge-merged.ensures.list c.merge-merged.ensures.refused in
     let many : c.len-2.result - vec_len c.reserve.new.self ≡ length now.texts - length counts.items = omega (arith, c.len-2.ensures.value, c.in-Ok.ensures.len, counts.ok.0) in
-    let pads = put_padded old now list counts.items c.reserve.new.self.items c.pad.new.counts.items (c.len-2.result - vec_len c.reserve.new.self) lengths grown c.in-Ok.ensures.items many c.pad.ensures in
+    let pads = put_padded old now list counts.items c.reserve.new.self.items c.pad.new.counts.items (c.len-2.result - vec_len c.reserve.new.self) lengths grown c.in-Ok.ensures.items many c.pad.ensures.items in
     let long = c.pad.new.counts.ok.0 ∙ pads.lengths in
     let places = places_inside now.texts list c.in-Ok-merged.places.items c.in-Ok-merged.ensures.codes in
     subst (λ (ps : List ℕ). (k d : ℕ) → k < length ps → get_or ps k d < vec_len c.pad.new.counts) (sym c.deref.ensures.value) (λ k d small. let below = places k d small in omega (arith, below, long))
@@ -41,7 +41,7 @@ count_rest-requires-clause-lengths g c =
     let lengths = sym counts.ok.0 ∙ c.requires.lengths in
     let grown = merged_grown old now list c.merge-merged.result (λ error n. IsSomeAnd (slice_get list n) (λ text. IsRefused now text error)) c.merge-merged.ensures.list c.merge-merged.ensures.refused in
     let many : c.len-2.result - vec_len c.reserve.new.self ≡ length now.texts - length counts.items = omega (arith, c.len-2.ensures.value, c.in-Ok.ensures.len, counts.ok.0) in
-    let pads = put_padded old now list counts.items c.reserve.new.self.items c.pad.new.counts.items (c.len-2.result - vec_len c.reserve.new.self) lengths grown c.in-Ok.ensures.items many c.pad.ensures in
+    let pads = put_padded old now list counts.items c.reserve.new.self.items c.pad.new.counts.items (c.len-2.result - vec_len c.reserve.new.self) lengths grown c.in-Ok.ensures.items many c.pad.ensures.items in
     c.pad.new.counts.ok.0 ∙ pads.lengths
 
 pub returns-in-Ok-merged-clause-list : goal.returns-in-Ok-merged-clause-list
@@ -65,9 +65,9 @@ returns-in-Ok-merged-clause-counts g c =
     let lengths = sym counts.ok.0 ∙ c.requires.lengths in
     let grown = merged_grown old now list c.merge-merged.result (λ error n. IsSomeAnd (slice_get list n) (λ text. IsRefused now text error)) c.merge-merged.ensures.list c.merge-merged.ensures.refused in
     let many : c.len-2.result - vec_len c.reserve.new.self ≡ length now.texts - length counts.items = omega (arith, c.len-2.ensures.value, c.in-Ok.ensures.len, counts.ok.0) in
-    let pads = put_padded old now list counts.items c.reserve.new.self.items padded (c.len-2.result - vec_len c.reserve.new.self) lengths grown c.in-Ok.ensures.items many c.pad.ensures in
+    let pads = put_padded old now list counts.items c.reserve.new.self.items padded (c.len-2.result - vec_len c.reserve.new.self) lengths grown c.in-Ok.ensures.items many c.pad.ensures.items in
     let codes = subst (λ ps. AreCodes now.texts list ps) (sym c.deref.ensures.value) c.in-Ok-merged.ensures.codes in
-    let adds = subst (λ cs. AddsAmounts now.texts list cs padded new) c.deref-in-Ok-merged.ensures.value (c.add_counts.ensures now.texts list pads.lengths c.len.ensures.distinct codes) in
+    let adds = subst (λ cs. AddsAmounts now.texts list cs padded new) c.deref-in-Ok-merged.ensures.value (c.add_counts.ensures.added now.texts list pads.lengths c.len.ensures.distinct codes) in
     adds_join [] all old.texts now.texts now.texts counts.items padded new pads (adds_part all list now.texts part.counts.items padded new pads.lengths counted adds)
 
 pub returns-in-Err-clause-counts : goal.returns-in-Err-clause-counts
@@ -82,5 +82,5 @@ returns-in-Err-clause-counts g c =
     let lengths = sym counts.ok.0 ∙ c.requires.lengths in
     let grown = merged_grown old now list c.merge-merged.result (λ error n. IsSomeAnd (slice_get list n) (λ text. IsRefused now text error)) c.merge-merged.ensures.list c.merge-merged.ensures.refused in
     let many : c.len-2.result - vec_len c.reserve.new.self ≡ length now.texts - length counts.items = omega (arith, c.len-2.ensures.value, c.in-Ok.ensures.len, counts.ok.0) in
-    let pads = put_padded old now list counts.items c.reserve.new.self.items padded (c.len-2.result - vec_len c.reserve.new.self) lengths grown c.in-Ok.ensures.items many c.pad.ensures in
+    let pads = put_padded old now list counts.items c.reserve.new.self.items padded (c.len-2.result - vec_len c.reserve.new.self) lengths grown c.in-Ok.ensures.items many c.pad.ensures.items in
     adds_join [] (counted_of c.count_rest.result all) old.texts now.texts new.rodeo.texts counts.items padded new.counts.items pads c.count_rest.ensures.counts

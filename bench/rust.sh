@@ -1,0 +1,37 @@
+# The table of single calls of the crate rust/lasso_proved, beside the best that Rust has. A part of bench/run, which names the folders
+# and builds the best.
+
+PROVED=$OUT/proved/release/proved
+SIZES=$OUT/best/release/sizes
+
+# Proves and builds the library for C, and builds the crate over it.
+build_rust() {
+    if ! make -s c > "$OUT/c.log" 2>&1; then
+        cat "$OUT/c.log" >&2
+        exit 1
+    fi
+    export LASSO_LIB_DIR=$PWD/out
+    if ! build_over_crates proved serde; then
+        cat "$OUT/proved.log" >&2
+        exit 1
+    fi
+}
+
+# All rounds, each program in turn: lines of a program, a count of texts, the bytes of a text, a call and nanoseconds.
+rounds_of_sizes() {
+    local round hash
+    for ((round = 0; round < CALL_ROUNDS; round++)); do
+        $PRIORITY "$PROVED" | sed 's/^/ours /'
+        for hash in $HASHES; do
+            $PRIORITY "$SIZES" "$hash" | sed "s/^/$hash /"
+            $PRIORITY "$SIZES" "kept-$hash" | sed "s/^/kept-$hash /"
+        done
+    done
+}
+
+measure_rust() {
+    build_rust
+    take_priority
+    rounds_of_sizes > "$OUT/rust"
+    python3 bench/rust.py < "$OUT/rust"
+}
