@@ -1,5 +1,5 @@
 /* Changes what a program gets from the system, as words in the environment say. Preloaded before the C library (LD_PRELOAD). A word that
-   is not there, or a number 0, changes nothing. Calls are counted from 1, those of standard input and of standard output each by itself.
+   is not there, or a number 0, changes nothing. Calls are counted from 1: those of standard input, and those of standard output.
 
    SHORT_READ, SHORT_WRITE      a read, or a write, moves at most this number of bytes
    LINE_READ                    a read gives at most one line
@@ -156,8 +156,8 @@ void *__libc_realloc(void *block, size_t size);
 
 static int is_refused(size_t size)
 {
-    unsigned long most = number("REFUSE");
-    if (!has_ended || !most || size <= most)
+    unsigned long most = has_ended ? number("REFUSE") : 0;
+    if (!most || size <= most)
         return 0;
     errno = ENOMEM;
     return 1;
