@@ -36,8 +36,8 @@ def build_shim(here, room):
     words = ["cc", "-O2", "-Wall", "-D_GNU_SOURCE", "-shared", "-fPIC", "-o", shim, os.path.join(here, "shim.c"), "-ldl", "-pthread"]
     try:
         subprocess.run(words, check=True)
-    except FileNotFoundError:
-        raise SystemExit("cases/run needs a C compiler with the name cc, for cases/shim.c") from None
+    except (FileNotFoundError, subprocess.CalledProcessError):
+        raise SystemExit("cases/run needs a C compiler with the name cc that can build cases/shim.c") from None
     return shim
 
 

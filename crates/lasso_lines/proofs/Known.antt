@@ -4,7 +4,7 @@
 -- Then they are known after it too. So the relations of two calls compose, and their parts are joined.
 use Rattle.std.proofs.Common.{ℕ, ◌≡◌, ◌+◌, ◌-◌, List, [], ◌∷◌, ◌++◌, length, take, Option, Some, Result, Ok, Err, OnOk, IfErr, ap, sym, subst, ◌∙◌, append_assoc, append-nil, arith}
 use Rattle.std.proofs.lemmas.List.{take_all, length-append}
-use Rattle.lasso_lines.specs.Stream.{Begins, Grows, OnlyGrows, Stays, written}
+use Rattle.lasso_lines.specs.Stream.{Begins, Grows, OnlyGrows, Stays}
 use Rattle.lasso_lines.specs.Answer.{WritesAll, IsAnswerFault}
 use Rattle.lasso_lines.specs.declared.fault.RunFault.{RunFault}
 use Rattle.lasso_lines.specs.declared.fault.RunFault.TheVariants.{WriteFailed}
