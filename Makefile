@@ -66,7 +66,7 @@ codes: $(CODES)
 	@echo "program: $(CURDIR)/$(CODES)"
 
 $(CODES): $(SOURCES)
-	$(call build,lasso_codes,run)
+	$(call build,lasso_codes,run -- --version)
 	@touch $(CODES)
 
 #: make c                            proves the library for C where the sources changed, builds it, and says where it lies
@@ -112,7 +112,7 @@ deb: all
 #: make check CRATE=name             proves one crate, over the libraries below it, and runs its tests, or the cases of a program that has some
 check: crate toolchain
 	@cd crates/$(CRATE) && rt check && if grep -rqF '#[test]' src; then rt test; fi
-	@if [ -d "cases/$(CRATE)" ]; then (cd crates/$(CRATE) && rm -f out/$(CRATE) && rt run < /dev/null > /dev/null); cases/run $(CRATE); fi
+	@if [ -d "cases/$(CRATE)" ]; then (cd crates/$(CRATE) && { rt run < /dev/null > /dev/null || [ -e out/$(CRATE).stamp ]; }) && cases/run $(CRATE); fi
 
 #: make test                         the gate: make docs; then rt ci, which proves what did not pass on this machine before, and runs every test;
 #:                                   then the cases over the programs that it built
