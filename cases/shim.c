@@ -195,12 +195,12 @@ static void *run_work(void *with)
     return result;
 }
 
-/* Waits for at most a second: a program that is built with checks keeps a new thread waiting for its maker. */
-static void wait_a_second(sem_t *semaphore)
+/* Waits for at most five seconds: a program that is built with checks keeps a new thread waiting for its maker. */
+static void wait_a_while(sem_t *semaphore)
 {
     struct timespec until;
     syscall(SYS_clock_gettime, CLOCK_REALTIME, &until);
-    until.tv_sec++;
+    until.tv_sec += 5;
     sem_timedwait(semaphore, &until);
 }
 
@@ -228,7 +228,7 @@ int pthread_create(pthread_t *thread, const pthread_attr_t *attributes, void *(*
     works = work;
     pthread_mutex_unlock(&works_lock);
     if (is_word("THREADS", "FIRST"))
-        wait_a_second(&work->has_ended);
+        wait_a_while(&work->has_ended);
     return status;
 }
 

@@ -28,6 +28,7 @@ class Ran:
     status: int = 0
     calls: list = field(default_factory=list)
     is_late: bool = False
+    is_answered: bool = True  # each answer to what was typed came before more was typed
 
 
 def build_shim(here, room):
@@ -142,18 +143,23 @@ def answer_to(reader, count):
 
 
 def type_lines(case, streams):
-    """Types the lines, each once the answer to the one before came. Returns the answers. None for an answer: the program ends."""
+    """Types the lines, each once the answer to the one before came. None for an answer: the program ends. Returns the answers, and whether each came."""
     written = b""
+    is_answered = True
     for line, answer in case.typed:
-        os.write(streams.masters["0"], line)
+        try:
+            os.write(streams.masters["0"], line)
+        except BrokenPipeError:
+            break
         if answer is None:
-            return written
+            return written, is_answered
         found = answer_to(streams.masters["1"], len(answer))
         written += found
-        if found != answer:
+        is_answered = found == answer
+        if not is_answered:
             break
     os.close(streams.masters.pop("0"))
-    return written
+    return written, is_answered
 
 
 def run(path, case, shim, seconds):
@@ -171,9 +177,10 @@ def run(path, case, shim, seconds):
         process = subprocess.Popen(words, stdin=stdin, stdout=stdout, stderr=stderr, env=environment, pass_fds=[trace], cwd=room)
         ran = Ran()
         if streams.is_typed:
-            os.close(stdout)
-            streams.given[1] = os.dup(stdin)
-            ran.written = type_lines(case, streams)
+            for handle in (stdin, stdout):
+                os.close(handle)
+                streams.given.remove(handle)
+            ran.written, ran.is_answered = type_lines(case, streams)
         try:
             ran.status = process.wait(PATIENCE if streams.is_typed else seconds)
         except subprocess.TimeoutExpired:
