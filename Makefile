@@ -37,7 +37,7 @@ help:
 #:
 #: Run lasso_lines on a file:
 #: make try FILE=path [ARGS=..]      builds lasso_lines without proof and runs it on the file, in a minute or two
-#:                                   (rt try: at most 1 MiB of output and 60 seconds; 20 million steps where it interprets)
+#:                                   (rt try: at most 1 MiB of output and 60 seconds; 20 million steps if it interprets)
 try: input toolchain
 	@echo "make try proves nothing. make run FILE=$$FILE proves lasso_lines first: once, 20 to 45 minutes." >&2
 	@said=$$(mktemp) && trap 'rm -f "$$said"' EXIT && (cd crates/lasso_lines && rt try -- $(ARGS)) < "$$FILE" 2> "$$said"; status=$$?; \
@@ -49,7 +49,7 @@ try: input toolchain
 	elif grep -q '^run=ended ' "$$said"; then $(OWN_LINES) "$$said" >&2; \
 	else cat "$$said" >&2; fi; exit $$status
 
-#: make run FILE=path [ARGS=..]      proves lasso_lines where the sources changed, builds it, and runs it on the file
+#: make run FILE=path [ARGS=..]      proves lasso_lines if the sources changed, builds it, and runs it on the file
 run: input $(PROGRAM)
 	@$(PROGRAM) $(ARGS) < "$$FILE"
 
@@ -61,7 +61,7 @@ $(PROGRAM): $(SOURCES) | input
 
 #:
 #: Build:
-#: make codes                        proves the program lasso_codes where the sources changed, builds it, and says where it lies
+#: make codes                        proves the program lasso_codes if the sources changed, builds it, and prints its path
 codes: $(CODES)
 	@echo "program: $(CURDIR)/$(CODES)"
 
@@ -69,7 +69,7 @@ $(CODES): $(SOURCES)
 	$(call build,lasso_codes,run -- --version)
 	@touch $(CODES)
 
-#: make c                            proves the library for C where the sources changed, builds it, and says where it lies
+#: make c                            proves the library for C if the sources changed, builds it, and prints its paths
 c: $(JOINED)
 	@install/pc '$(CURDIR)/out' '$(CURDIR)/crates/lasso_c/include' '$${prefix}' '$${libdir}/liblasso.a' > out/lasso.pc
 	@echo "header:     $(CURDIR)/crates/lasso_c/include/lasso.h"
@@ -103,7 +103,7 @@ install:
 uninstall:
 	@install/run remove
 
-#: make deb                          the same files as a Debian package, and says where it lies
+#: make deb                          the same files as a Debian package, and prints its path
 deb: all
 	@install/deb
 
@@ -114,8 +114,8 @@ check: crate toolchain
 	@cd crates/$(CRATE) && rt check && if grep -rqF '#[test]' src; then rt test; fi
 	@if [ -d "cases/$(CRATE)" ]; then (cd crates/$(CRATE) && { rt run < /dev/null > /dev/null || [ -e out/$(CRATE).stamp ]; }) && cases/run $(CRATE); fi
 
-#: make test                         the gate: make docs; then rt ci, which proves what did not pass on this machine before, and runs every test;
-#:                                   then the cases over the programs that it built
+#: make test                         the gate: make docs; then rt ci, which proves all that its kit has not kept, and runs every test; then
+#:                                   the cases over the programs that it built
 test: toolchain docs
 	RT_JOBS=$${RT_JOBS-$$(.ci/jobs)} rt ci
 	cases/run

@@ -39,7 +39,7 @@ NULL = 2**32 - 1
 
 class ArrowStrings(Protocol):
     """An Arrow array of strings or of large strings, as ``pyarrow.array(["red", None])`` makes it. ``buffers()`` are the validity, the offsets and
-    the bytes. ``type`` is read where there is one: without it the array is one of strings, whose offsets have 32 bits."""
+    the bytes. ``type`` is read if there is one: without it the array is one of strings, whose offsets have 32 bits."""
 
     offset: int
 
@@ -61,7 +61,7 @@ class WrongLayout(LassoError):
 
 
 class NotUtf8(LassoError):
-    """A text is not UTF-8. A str is not where it has a lone surrogate."""
+    """A text is not UTF-8. A str is not if it has a lone surrogate."""
 
 
 class OutOfMemory(LassoError, MemoryError):
@@ -162,7 +162,7 @@ def _encoded(text: str) -> bytes:
 
 
 def _view(kind: Any, buffer: Any, length: int, start: int = 0) -> tuple[Any, int]:
-    """Elements of an object with Python's buffer protocol, from the one with the number ``start`` on. They are copied where the object can't be
+    """Elements of an object with Python's buffer protocol, from the one with the number ``start`` on. They are copied if the object can't be
     written and is neither bytes nor tells its address, as a buffer of pyarrow does. The caller keeps an object that tells its address."""
     if length == 0:
         return _sized(kind, None, 0)
@@ -180,7 +180,7 @@ def _view(kind: Any, buffer: Any, length: int, start: int = 0) -> tuple[Any, int
 
 
 def _offsets(sizes: Iterable[int], count: int) -> Any:
-    """Where texts of these sizes begin and the last one ends. numpy does it where the program has loaded it, since that is faster."""
+    """Where texts of these sizes begin and the last one ends. numpy does it if the program has loaded it, since that is faster."""
     numpy = sys.modules.get("numpy")
     if numpy is None:
         return array("i", list(accumulate(sizes, initial=0)))
@@ -211,7 +211,7 @@ def _layout(items: list[str]) -> tuple[tuple[Any, int], tuple[Any, int], int]:
 
 
 def _bitmap(rows: list[Any]) -> bytes:
-    """A bit for each row, from the least of the first byte on: 1 where it is present."""
+    """A bit for each row, from the least of the first byte on: 1 if it is present."""
     bits = bytearray((len(rows) + 7) // 8)
     for at, row in enumerate(rows):
         if row is not None:
@@ -282,12 +282,12 @@ class Interner:
         return code.value
 
     def encode(self, texts: Iterable[str | None] | ArrowStrings) -> array[int]:
-        """The codes of many texts, which are appended where they are absent: an array of type ``I``, which numpy takes as it is. A null has the
+        """The codes of many texts, which are appended if they are absent: an array of type ``I``, which numpy takes as it is. A null has the
         code NULL, and no text is appended for it.
 
         ``texts`` is an iterable of str and None, as a list or a numpy array, or an Arrow array of strings. The texts before a refused one stay,
-        and the error, one of those of ``intern`` or WrongLayout, has its ``position``. Nothing is interned where an item is neither str nor None
-        or the array is no array of strings, which raises TypeError, or where the texts of an iterable have more than 2^31 - 1 bytes or a
+        and the error, one of those of ``intern`` or WrongLayout, has its ``position``. Nothing is interned if an item is neither str nor None
+        or the array is no array of strings, which raises TypeError, or if the texts of an iterable have more than 2^31 - 1 bytes or a
         buffer is too short, which raises ValueError.
         """
         if hasattr(texts, "buffers"):
@@ -364,7 +364,7 @@ class Interner:
     def texts(self, start: int = 0) -> list[str]:
         """The texts from a code on, in the order of their codes: what a reader lacks that has those before.
 
-        Raises ValueError for a code below 0, and LassoError where the texts have more than 2^31 - 1 bytes.
+        Raises ValueError for a code below 0, and LassoError if the texts have more than 2^31 - 1 bytes.
         """
         if start < 0:
             raise ValueError(f"a code of {start}")

@@ -1,8 +1,8 @@
 //! Interfaces of interners: code that is written once for each interner takes one of these traits.
 //!
-//! Their meaning is a list of texts, where a value has one of its own: an interner for one thread and a
+//! Their meaning is a list of texts, if a value has its own: an interner for one thread and a
 //! frozen one have, one that other threads fill meanwhile has none. Each call says what it does to the list
-//! where there is one. Calls for which an interner for many threads may have to wait take a handle for it;
+//! if there is one. Calls for which an interner for many threads may have to wait take a handle for it;
 //! the others never wait.
 ghost use Rattle.std.specs.Prelude.{◌≡◌, ◌<◌, ◌↔◌, Option, Some, List, length, is_some, IfSome, IfErr, IsOkAnd, IsTrue, slice_get, option_map};
 ghost use Rattle.lasso_parts.specs.Texts.{Text, position_of, key_of};
@@ -31,7 +31,7 @@ pub trait Resolver<K: Key> {
     // the texts in the order of their keys, where the value has a list of its own
     ghost meaning: { Self → Option (List Text) };
 
-    /// The key's text, or `None` where the key stands for no text.
+    /// The key's text, or `None` if the key stands for no text.
     fn try_resolve(&self, key: K) -> Option<&str>
         ensures { IfSome (meaning self.now) (λ texts. option_map (λ t. t.now) result ≡ slice_get texts (K.number key)) };
 
@@ -43,14 +43,14 @@ pub trait Resolver<K: Key> {
     fn len(&self) -> usize
         ensures { IfSome (meaning self.now) (λ texts. result ≡ length texts) };
 
-    /// The key's text, or `None` where the key stands for no text: the same call as `try_resolve`.
+    /// The key's text, or `None` if the key stands for no text: the same call as `try_resolve`.
     fn resolve(&self, key: K) -> Option<&str>
         ensures { IfSome (meaning self.now) (λ texts. option_map (λ t. t.now) result ≡ slice_get texts (K.number key)) }
     {
         self.try_resolve(key)
     }
 
-    /// The key's text, or `None` where the key stands for no text: the same call as `try_resolve`.
+    /// The key's text, or `None` if the key stands for no text: the same call as `try_resolve`.
     fn resolve_unchecked(&self, key: K) -> Option<&str>
         ensures { IfSome (meaning self.now) (λ texts. option_map (λ t. t.now) result ≡ slice_get texts (K.number key)) }
     {
@@ -112,7 +112,7 @@ pub trait IntoReader<K: Key>: Interner<K> + Sized {
     /// The frozen form.
     type Reader: Reader<K>;
 
-    /// The same texts under the same keys, frozen. A value with a list of its own is never refused. For
+    /// The same texts under the same keys, frozen. A value with its own list is never refused. For
     /// another the only error is `FailedAllocation`, and it is gone then.
     fn into_reader<R: Wait>(self, rt: &R) -> LassoResult<Self::Reader>
         ensures frozen { IfSome (Self.meaning self) (λ texts. IsOkAnd result (λ reader. ⟦<Self::Reader as Resolver<K>>⟧.meaning reader ≡ Some texts)) }

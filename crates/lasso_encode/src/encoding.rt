@@ -17,8 +17,8 @@ use std::hash::BuildHasher;
 /// list, and keep.
 ///
 /// The first text that is refused ends it. The limit and the keys refuse a text as `Rodeo::try_get_or_intern`
-/// says. Out of memory (`FailedAllocation`) comes only where `codes` is full and can't grow, or for an absent
-/// text that neither the keys nor the limit refuse. So a present text is refused only where `codes` is full.
+/// says. Out of memory (`FailedAllocation`) comes only if `codes` is full and can't grow, or for an absent
+/// text that neither the keys nor the limit refuse. So a present text is refused only if `codes` is full.
 /// The texts before the refused one are interned and have their codes, and no text after it is taken; so the
 /// number of codes says which text it is.
 ///

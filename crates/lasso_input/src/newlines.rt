@@ -33,7 +33,7 @@ pub fn after_newline(bytes: &[u8], at: usize) -> &[u8]
     &bytes[at + 1..]
 }
 
-/// The first line, without the line feed that ends it, and the bytes after it; or `None` where there are no
+/// The first line, without the line feed that ends it, and the bytes after it; or `None` if there are no
 /// bytes. Bytes without a line feed are a line.
 ///
 /// ```rust

@@ -1,8 +1,8 @@
 -- The rule of the book, the log rule: what holds between any two steps of any threads, and what each step
--- tells the one who takes it. `cells` are the values that the book holds.
+-- shows the one who takes it. `cells` are the values that the book holds.
 --
 -- Beside it the rule keeps, for each position below the list's length, that its cell is filled with its text,
--- which lies there as long as the era, for good; and for each bucket the one right to its bytes that nobody
+-- which is there as long as the era, for good; and for each bucket the one right to its bytes that nobody
 -- has taken (`all_untaken`). The book keeps that right, and no thread: the exchange of a reservation takes
 -- the next bytes' right out of it (`TakesBytesAt`), and that of a charge puts a new bucket's in
 -- (`AddsBucket`).
@@ -132,7 +132,7 @@ May keys o notes position key old e =
     (cells : List Cell) (log : List NoteView) → KeepsRule keys cells o log → IsPrefix notes log → IsWordWith log position key old
     → MayFollow keys (state o log) e × IsShort (counted (state o log) e)
 
--- what the exchange of a word tells that has added an event: what was given begins the log before it, the
+-- what the exchange of a word shows that has added an event: what was given begins the log before it, the
 -- word had its old value there, and the event is the only one of the pass p past what the pass had seen
 pub record IsDone {Key : Type 0} (keys : ℕ → Option Key) (o : Totals) (p : ℕ) (before given after : List NoteView) (event : Event) (position key old used_up : ℕ) : Type 0 where
   pub mid : List NoteView

@@ -1,4 +1,4 @@
--- The buckets that copied texts lie in, as the history of a shared interner counts them, and the bucket that is added.
+-- The buckets that copied texts are in, as the history of a shared interner counts them, and the bucket that is added.
 use Rattle.std.specs.Prelude.{ℕ, zero, suc, ◌+◌, ◌-◌, ◌<◌, List, [], ◌∷◌, All, Option, option_map, unwrap_or}
 use Rattle.lasso_parts.specs.Account.{Account, store}
 

@@ -1,6 +1,6 @@
--- Where the texts of a shared list lie, and what a book keeps of them: that each cell below the length is
--- filled with its text. A cell holds one text and is filled once. Cells lie in chunks. The names of an
--- interner are the number of its era and after it the names of the cells that its chunks lie in.
+-- Where the texts of a shared list are, and what a book keeps of them: that each cell below the length is
+-- filled with its text. A cell holds one text and is filled once. Cells are in chunks. The names of an
+-- interner are the number of its era and after it the names of the cells that its chunks are in.
 use Rattle.std.specs.Prelude.{◌≡◌, ℕ, zero, suc, ◌+◌, ◌-◌, ◌*◌, ◌^◌, ◌<◌, ◌≤◌, List, [], ◌∷◌, ◌++◌, length, map, slice_index, slice_index_or, nat_lt, if◌then◌else◌}
 use mathlib.Core.List.{IsPrefix}
 use base.Fml.{Fml, ftrue, fex, fsep}
@@ -18,7 +18,7 @@ abbrev pub chunk_start : ℕ → ℕ
 chunk_start zero = 0
 chunk_start (suc chunk) = 32 * 2 ^ chunk
 
--- the chunk of a position that lies in this chunk or in one of the `more` chunks past it
+-- the chunk of a position that is in this chunk or in one of the `more` chunks past it
 abbrev pub chunk_from : ℕ → ℕ → ℕ → ℕ
 chunk_from zero chunk position = chunk
 chunk_from (suc more) chunk position = if nat_lt position (chunk_start (suc chunk)) then chunk else chunk_from more (suc chunk) position
@@ -31,7 +31,7 @@ chunk_of position = chunk_from position 0 position
 abbrev pub IsAhead : ℕ → ℕ → Type 0
 IsAhead length position = (length ≤ position) × (position ≤ length + 15)
 
--- the sixteen positions from a length on lie in one chunk with the position before them
+-- the sixteen positions from a length on are in one chunk with the position before them
 abbrev pub SharesChunk : ℕ → Type 0
 SharesChunk length = (0 < length) × (chunk_of length ≡ chunk_of (length - 1)) × (chunk_of (length + 15) ≡ chunk_of length)
 
@@ -52,7 +52,7 @@ abbrev pub first_number : List ℕ → ℕ
 first_number [] = 0
 first_number (n ∷ ns) = n
 
--- The first of an interner's names is the number of its era; the others are the names of the cells that its chunks lie in.
+-- The first of an interner's names is the number of its era; the others are the names of the cells that its chunks are in.
 abbrev pub era_named : List ℕ → ℕ
 era_named names = first_number names
 
@@ -68,9 +68,9 @@ IsCellAt names position chunk cells cell = (chunk ≡ chunk_named names position
 abbrev pub IsNumbered : ℕ → List Named → Type 0
 IsNumbered count cells = (length cells ≡ count) × ((chunk : ℕ) (d : Named) → chunk < count → (slice_index_or cells chunk d).tag ≡ chunk ∷ [])
 
--- V is a chunk, and `cells` what it has; R is what a cell holds, `meaning` its text, and `lasts` that the text lies there as long as an era
+-- V is a chunk, and `cells` what it has; R is what a cell holds, `meaning` its text, and `lasts` that the text is there as long as an era
 module _ (V R : RattleType) (cells : V.Denot → List Named) (meaning : R.Denot → Text) (lasts : R.Denot → ℕ → Type 0) where
-  -- a cell is filled with what stands for this text, which lies there as long as the era
+  -- a cell is filled with what stands for this text, which is there as long as the era
   abbrev pub held : ℕ → ℕ → Text → R.Denot → Fml
   held era cell text x = fsep (written R cell x) (fex ((meaning x ≡ text) × lasts x era) (λ _. ftrue))
 
@@ -86,7 +86,7 @@ module _ (V R : RattleType) (cells : V.Denot → List Named) (meaning : R.Denot 
   abbrev pub filled : ℕ → ℕ → ℕ → Text → Fml
   filled era chunk offset text = fex V.Denot (in_chunk era chunk offset text)
 
-  -- these texts lie from position n on, in the chunks with these names
+  -- these texts are from position n on, in the chunks with these names
   abbrev pub lined : List ℕ → ℕ → List Text → Fml
   lined names n [] = ftrue
   lined names n (text ∷ texts) = fsep (filled (era_named names) (chunk_named names n) (offset_of n) text) (lined names (suc n) texts)

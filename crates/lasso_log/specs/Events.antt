@@ -28,12 +28,12 @@ abbrev pub note_in : LentBucket → (by : ℕ) (event : Event) (ticket next : �
 note_in b by event ticket next =
     record { by = by; event = event; position = 0; ticket = ticket; next = next; opening = no_totals; lent = b ∷ [] }
 
--- where a bucket lies that has these numbers: its era, its block and its first place there
+-- where a bucket is that has these numbers: its era, its block and its first place there
 abbrev pub site_at : List ℕ → Site
 site_at (era ∷ block ∷ start ∷ more) = record { era = era; block = block; start = start }
 site_at numbers = record { era = 0; block = 0; start = 0 }
 
--- a bucket that lies where these numbers say
+-- a bucket that is where these numbers say
 abbrev pub bucket_at : List ℕ → (size used : ℕ) → LentBucket
 bucket_at numbers size used = record { site = site_at numbers; size = size; used = used }
 

@@ -24,7 +24,7 @@ pub record HoldsOfHistory {K : Type 0} (key_at : ℕ → Option K) (opening : To
 abbrev pub EachHistoryHolds : {K : Type 0} → (ℕ → Option K) → Type 0
 EachHistoryHolds key_at = (opening : Totals) (h : History) → IsOpening key_at opening → IsLegal key_at opening h → HoldsOfHistory key_at opening h
 
--- if no bucket has room, bytes get no bucket exactly if the limit lies below the usage and the bytes: the
+-- if no bucket has room, bytes get no bucket exactly if the limit is below the usage and the bytes: the
 -- contract of `laws::charge_refuses_exactly_past_limit`
 abbrev pub ChargeRefusesExactlyPastLimit : Type 0
 ChargeRefusesExactlyPastLimit = (doubling usage limit n : ℕ) → n ≢ 0 → (bucket_size doubling usage limit n ≡ None) ↔ (limit < usage + n)

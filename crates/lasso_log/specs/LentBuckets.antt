@@ -1,17 +1,17 @@
--- Buckets whose bytes are lent for an era: where they lie, and what the book keeps of each, the right to the bytes that nobody has taken.
+-- Buckets whose bytes are lent for an era: where they are, and what the book keeps of each, the right to the bytes that nobody has taken.
 use Rattle.std.specs.Prelude.{◌≡◌, ℕ, ◌+◌, ◌-◌, ◌≤◌, List, [], ◌∷◌, ◌++◌, Some, slice_get}
 use base.Fml.{Fml, ftrue, fsep}
 use Rattle.lasso_log.specs.Buckets.{changed_at}
 use Rattle.lasso_log.specs.Eras.{free}
 use Rattle.lasso_log.specs.declared.shared_arena.rights.Free.{Free}
 
--- where a bucket lies: the era that its bytes are lent for, its block of memory, and its first place there
+-- where a bucket is: the era that its bytes are lent for, its block of memory, and its first place there
 pub record Site : Type 0 where
   pub era : ℕ
   pub block : ℕ
   pub start : ℕ
 
--- a bucket: where it lies, how many bytes it has, and how many of them were taken, from its start on
+-- a bucket: where it is, how many bytes it has, and how many of them were taken, from its start on
 pub record LentBucket : Type 0 where
   pub site : Site
   pub size : ℕ

@@ -24,7 +24,7 @@ pub record NoteView : Type 0 where
   pub next : ℕ
   -- in the first note, the opening
   pub opening : Totals
-  -- where bytes lie: in the first note the opening's bucket, in a charge the new one, in a reservation its
+  -- where bytes are: in the first note the opening's bucket, in a charge the new one, in a reservation its
   -- bucket as it was found
   pub lent : List LentBucket
 
@@ -121,7 +121,7 @@ abbrev pub bucket_in : List LentBucket → LentBucket
 bucket_in [] = record { site = record { era = 0; block = 0; start = 0 }; size = 0; used = 0 }
 bucket_in (b ∷ bs) = b
 
--- the lent buckets after one more event, where `own` are those that its note speaks of
+-- the lent buckets after one more event; `own` are those that its note speaks of
 abbrev pub lent_by : List LentBucket → Event → List LentBucket → List LentBucket
 lent_by buckets (Reserve bucket n) own = changed_at bucket (more_taken n) buckets
 lent_by buckets (Charge size n) own = buckets ++ record (bucket_in own) { size = size; used = n } ∷ []

@@ -5,14 +5,14 @@ use Rattle.lasso_parts.specs.Cells.{LeadsToBlock}
 use Rattle.lasso_log.specs.declared.shared_arena.rights.Free.{Free}
 use Rattle.lasso_log.specs.declared.shared_arena.rights.Lent.{Lent}
 
--- a range, the right to fill some bytes: the era that they are lent for, and where they lie
+-- a range, the right to fill some bytes: the era that they are lent for, and where they are
 pub record RangeView : Type 0 where
   pub era : ℕ
   pub block : ℕ
   pub start : ℕ
   pub len : ℕ
 
--- a piece, which a cell of the shared list holds: a text, and the lifetime up to whose end it lies there,
+-- a piece, which a cell of the shared list holds: a text, and the lifetime up to whose end it is there,
 -- that of an era, or for a static text the one without end, `[]`
 pub record PieceView : Type 0 where
   pub until : List ℕ

@@ -40,7 +40,7 @@ pub record IsNewBucket (r : Free) (numbers : List ℕ) (ptr : Ptr) (size taken :
   pub small : size < 2 ^ 63
 
 -- the bucket at this position of a history that was seen: its word, what the history counts of it, and where
--- it lies. Each event changes the three alike
+-- it is. Each event changes the three alike
 pub record Stands (words : List (ℕ × ℕ)) (buckets : List CountedBucket) (rights : List LentBucket) (position key value : ℕ) (b : CountedBucket) (x : LentBucket) : Type 0 where
   pub word : slice_get words (suc (suc position)) ≡ Some (key, value)
   pub counted : slice_get buckets position ≡ Some b
@@ -50,12 +50,12 @@ pub record Stands (words : List (ℕ × ℕ)) (buckets : List CountedBucket) (ri
 abbrev pub StandsIn : NoteView → List NoteView → ℕ → ℕ → ℕ → CountedBucket → LentBucket → Type 0
 StandsIn first notes position key value b x = Stands (words_of notes) (state first.opening notes).buckets (lent_after first.lent notes) position key value b x
 
--- the bucket at this position has this size and lies where the numbers say; `base` of its bytes were taken before its word began
+-- the bucket at this position has this size and is where the numbers say; `base` of its bytes were taken before its word began
 pub record IsBucketAt (first : NoteView) (notes : List NoteView) (position key base size : ℕ) (numbers : List ℕ) : Type 0 where
   pub value : ℕ
   pub stands : StandsIn first notes position key value record { size = size; used = base + value } (bucket_at numbers size (base + value))
 
--- a shared bucket, one of a history that was seen: its interner, its position there, where it lies, how many
+-- a shared bucket, one of a history that was seen: its interner, its position there, where it is, how many
 -- bytes it has, and how many of them were taken before its word began
 pub record SharedView : Type 0 where
   pub of : InternerId
@@ -93,7 +93,7 @@ pub record IsRangeOf (b : SharedView) (notes : List NoteView) (r : RangeView) (b
   pub len : r.len ≡ bytes
   pub taken : HasTaken (state b.of.opening notes) b.position (before + bytes)
 
--- the last of these notes is of this event, which is the pass p's, and the bucket that it speaks of lies here
+-- the last of these notes is of this event, which is the pass p's, and the bucket that it speaks of is here
 pub record IsNoteOf (p : ℕ) (notes : List NoteView) (e : Event) (site : Site) : Type 0 where
   pub before : List NoteView
   pub note : NoteView
@@ -108,7 +108,7 @@ pub record IsReserved (b : SharedView) (p : ℕ) (before after : List NoteView) 
   pub note : IsNoteOf p after (Reserve b.position bytes) b.site
   pub range : IsRangeOf b after r bytes
 
--- where a bucket lies whose first bytes the range has
+-- where a bucket is whose first bytes the range has
 abbrev pub site_of : RangeView → Site
 site_of r = record { era = r.era; block = r.block; start = r.start }
 

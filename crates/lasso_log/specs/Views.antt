@@ -8,7 +8,7 @@ use Rattle.lasso_parts.specs.Texts.{Text}
 use Rattle.lasso_log.specs.Notes.{NoteView, note_coded, totals_coded, history, state, Since}
 
 -- which interner a thing is of: the book of its log, its names (of its era and of the chunks that its texts
--- lie in), and its opening
+-- are in), and its opening
 pub record InternerId : Type 0 where
   pub book : Book
   pub chunks : List ℕ

@@ -1,4 +1,4 @@
-//! Texts in set-once cells, which lie in chunks that double in length and are made on demand.
+//! Texts in set-once cells, which are in chunks that double in length and are made on demand.
 //!
 //! A cell is filled once, before the list has its position, and never changes after. So a thread that has
 //! seen the list's length reads a cell below it without a lock, and what it reads is lent as long as the chunks.
@@ -48,7 +48,7 @@ impl<T> HasCells for Vec<OnceSlot<T, Any>> {
     ghost cells = { λ chunk. chunk.items };
 }
 
-/// The chunks, with their era. A contract sees the number of the era, and after it the names of the cells that the chunks lie in.
+/// The chunks, with their era. A contract sees the number of the era, and after it the names of the cells that the chunks are in.
 /// None of these ever changes.
 pub struct Chunks<T: Drop> {
     chunks: Vec<OnceSlot<Chunk<T>, ByNumber>>,
@@ -191,7 +191,7 @@ impl<T: HasText + Drop> Chunks<T> {
         Ok(self.chunks[number].set_written(chunk).ok())
     }
 
-    /// Shows that the chunk of a position is made. Returns `None` where it is not. It takes no memory and
+    /// Shows that the chunk of a position is made. Returns `None` if it is not. It takes no memory and
     /// does not wait.
     pub fn find_chunk(&self, position: u64) -> Option<Written<Chunk<T>>>
         ensures { IfSome result (λ chunk. chunk.of ≡ chunk_named self.now position) }
@@ -200,7 +200,7 @@ impl<T: HasText + Drop> Chunks<T> {
         self.chunks[number].witness()
     }
 
-    /// Makes the chunk of a position, where it is not made, and shows that it is. Out of memory, the chunks
+    /// Makes the chunk of a position, if it is not made, and shows that it is. Out of memory, the chunks
     /// are as they were. It waits while another thread is putting the chunk in, and takes no memory then.
     pub fn make_chunk_or_wait<R: Wait>(
         &self,
@@ -241,7 +241,7 @@ impl<T: HasText + Drop> Chunks<T> {
         Ok(())
     }
 
-    /// How many cells the chunks have that are made, from the first on, or 2^64 - 1 where all are. It takes no memory and does
+    /// How many cells the chunks have that are made, from the first on, or 2^64 - 1 if all are. It takes no memory and does
     /// not wait.
     pub fn cells(&self) -> u64 {
         let mut cells: u64 = 0;
@@ -274,8 +274,8 @@ impl<T: HasText + Drop> Chunks<T> {
         }
     }
 
-    /// Fills the cell of a position, and returns the proof that it is filled. It waits where the chunk is not
-    /// made, or where the cell is filled or being filled.
+    /// Fills the cell of a position, and returns the proof that it is filled. It waits if the chunk is not
+    /// made, or if the cell is filled or being filled.
     pub fn fill<R: Wait>(&self, rt: &R, position: u64, text: T) -> (Written<Chunk<T>>, Written<T>)
         ensures cell { IsCellAt self.now position result.0.of result.0.value.items result.1.of }
         ensures text { result.1.value ≡ text }
@@ -291,7 +291,7 @@ impl<T: HasText + Drop> Chunks<T> {
         unreachable!()
     }
 
-    /// What shows that no text lies in the chunks yet.
+    /// What shows that no text is in the chunks yet.
     pub fn lines(&self) -> Lines<T, Chunk<T>>
         ensures { (result.names ≡ self.now) × (result.texts ≡ []) }
     {

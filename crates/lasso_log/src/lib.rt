@@ -1,4 +1,4 @@
-//! The log of an interner that threads share: the list of its texts, the memory that they lie in, and the words by which
+//! The log of an interner that threads share: the list of its texts, the memory that they are in, and the words by which
 //! threads change them without a lock, under one rule; with the locks that know what they guard.
 #![tactic(auto)]
 

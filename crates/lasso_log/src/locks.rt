@@ -1,12 +1,12 @@
 //! Locks whose content keeps a fact about a tag that the lock was made with.
 //!
 //! A lock's content is known by its type alone, and a type has no parameter that could name a value, such as
-//! the log that a list was read off. Here the content lies in a slot next to the lock. The slot keeps `fits`
+//! the log that a list was read off. Here the content is in a slot next to the lock. The slot keeps `fits`
 //! of its tag, which is fixed when the lock is made, and a contract sees a lock as that tag.
 //!
 //! A holder has the value itself, and gives it back before the next one can have it. A holder also has a
 //! guard, which ends only by giving a value back. No lock is poisoned: a panic under one ends the process,
-//! where the runtime is the host's.
+//! if the runtime is the host's.
 //!
 //! Locking a lock that nobody has is one locked step, and so is unlocking it. A thread that finds a lock locked goes out of line: it looks
 //! a few times more, and then joins the lock's queue, whose first looks on and lets other threads run between.
@@ -24,7 +24,7 @@ use std::thread::yield_now;
 // going to sleep.
 const LOOKS: u32 = 100;
 
-/// A value that one thread at a time has. Where the value must be spent the lock must be, by `into_inner`.
+/// A value that one thread at a time has. If the value must be spent, the lock must be, by `into_inner`.
 pub struct TaggedMutex<X: Fits> {
     slot: Slot<Option<X>>,
     queue: Mutex<()>,

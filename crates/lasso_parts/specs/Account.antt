@@ -4,7 +4,7 @@
 -- The first bucket has the size that the interner was made with. A doubled bucket has twice, four times,
 -- eight times .. that size, each size once, up to the doubling size. A clear keeps the first bucket and the
 -- doubled ones, and each doubled bucket is a spare from then on until it is filled again. The spares have
--- different sizes, each the first bucket's times a power of two, so the sum of their sizes alone tells which
+-- different sizes, each the first bucket's times a power of two, so the sum of their sizes alone says which
 -- they are, to whoever knows the first bucket's size. That size is fixed when an interner is made.
 use Rattle.std.specs.Prelude.{◌≡◌, ℕ, zero, suc, ◌+◌, ◌-◌, ◌*◌, ◌%◌, ◌<◌, ◌≤◌, ◌↔◌, Bool, ◌&&◌, nat_eq, nat_le, nat_lt, if◌then◌else◌, Option, Some, None}
 
@@ -22,7 +22,7 @@ pub record Account : Type 0 where
   pub limit : ℕ
 
 -- the account of an interner that was just made: room, doubling size and usage are its first bucket's bytes,
--- and nothing is spare. The limit may lie below them
+-- and nothing is spare. The limit may be below them
 abbrev pub fresh : ℕ → ℕ → Account
 fresh bytes limit = record { room = bytes; spare = 0; doubling = bytes; usage = bytes; limit = limit }
 
@@ -109,6 +109,6 @@ NeverGrowsPastLimit = (first : ℕ) (a b : Account) (n : ℕ) → store first a 
 abbrev pub clear : ℕ → Account → Account
 clear first a = record a { room = first; spare = 2 * a.doubling - 2 * first; usage = 2 * a.doubling - first }
 
--- the account with another limit, which may lie below the usage
+-- the account with another limit, which may be below the usage
 abbrev pub with_limit : Account → ℕ → Account
 with_limit a limit = record a { limit = limit }

@@ -1,5 +1,5 @@
 -- What an arena shows: the regions that it copies texts into, each a bucket of the account, and the texts
--- that lie in them.
+-- in them.
 use Rattle.std.specs.Prelude.{◌≡◌, ℕ, ◌+◌, ◌-◌, ◌<◌, ◌≤◌, max, nat_eq, if◌then◌else◌, List, [], ◌++◌, length, get_or, sum_by, slice_range, IsUtf8}
 use denote.RawPtr.{Ptr, null_ptr, ◌+ₚ◌}
 use Rattle.lasso_parts.specs.Account.{Account}
@@ -87,7 +87,7 @@ with_bytes r more = record r { bytes = r.bytes ++ more }
 abbrev pub text_at : List Extent → Span → List ℕ
 text_at regions span = slice_range (region_at regions span.region).bytes span.start (span.start + span.len)
 
--- where the first of these bytes lies
+-- where the first of these bytes is
 abbrev pub address_of : List Extent → Span → Ptr
 address_of regions span = (region_at regions span.region).at +ₚ span.start
 

@@ -2,7 +2,7 @@
 use Rattle.std.specs.Prelude.{ℕ, List}
 use denote.RawPtr.{Ptr}
 
--- a region: where it lies, the bytes pushed since the last clear, and how many fit in all
+-- a region: where it is, the bytes pushed since the last clear, and how many fit in all
 pub record Extent : Type 0 where
   pub at : Ptr
   pub bytes : List ℕ
@@ -13,7 +13,7 @@ pub record Block : Type 0 where
   pub at : Ptr
   pub len : ℕ
 
--- the block that a region lies in
+-- the block that a region is in
 abbrev pub block_of : Extent → Block
 block_of region = record { at = region.at; len = region.capacity }
 

@@ -1,5 +1,5 @@
 -- The entries of a list of texts, and the texts that they stand for: an entry has a short text itself, or leads to
--- a text outside it. A text that is too long for an entry's words is named in a list of its own, and the entry
+-- a text outside it. A text that is too long for an entry's words is named in a separate list, and the entry
 -- names its place there.
 use Rattle.std.specs.Prelude.{◌≡◌, ℕ, ◌^◌, ◌<◌, List, [], length, map, get_or, All, IsUtf8}
 use denote.RawPtr.{Ptr, null_ptr}
@@ -16,7 +16,7 @@ pub data Source : Type 0 where
   -- the program's: these bytes are never freed
   Static : Text → Source
 
--- a text outside the entries: where its first byte lies, and whose memory that is
+-- a text outside the entries: where its first byte is, and whose memory that is
 pub record LentText : Type 0 where
   pub at : Ptr
   pub source : Source
@@ -41,7 +41,7 @@ abbrev pub IsWhole : Source → Type 0
 IsWhole (Copied span) = Unit {0}
 IsWhole (Static text) = (length text < 2 ^ 63) × IsUtf8 text
 
--- these are the two words of a text outside the entries: where it lies, which is not null, and how many bytes it has
+-- these are the two words of a text outside the entries: where it is, which is not null, and how many bytes it has
 pub record AreWordsOf (t : LentText) (at : Ptr) (len : ℕ) : Type 0 where
   pub address : at ≡ t.at
   pub block : LeadsToBlock t.at
@@ -65,7 +65,7 @@ pub data EntryView : Type 0 where
   -- names its place in the list of the texts that are too long for an entry: of 2 ^ 32 bytes or more
   Listed : ℕ → EntryView
 
--- what is at a place where the list has no text
+-- what is at a place without a text
 abbrev pub no_text : LentText
 no_text = record { at = null_ptr; source = Static [] }
 

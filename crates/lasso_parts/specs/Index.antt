@@ -38,7 +38,7 @@ used [] = 0
 used (None ∷ xs) = used xs
 used (Some n ∷ xs) = used xs + 1
 
--- at most three quarters of n slots are filled, where n is a multiple of 4
+-- at most three quarters of n slots are filled, if n is a multiple of 4
 abbrev pub load_limit : ℕ → ℕ
 load_limit n = 3 * (n / 4)
 

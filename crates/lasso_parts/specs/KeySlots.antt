@@ -15,7 +15,7 @@ abbrev pub key_room : {K A : Type 0} → Option (Vec K A) → ℕ
 key_room None = 0
 key_room (Some keys) = vec_capacity keys
 
--- slot j, by the position that its key stands for: it is empty where its tag is 0
+-- slot j, by the position that its key stands for: it is empty if its tag is 0
 abbrev pub slot_of : {K : Type 0} → (K → ℕ) → List ℕ → List K → ℕ → Option ℕ
 slot_of number tags keys j = if nat_eq (slice_index_or tags j 0) 0 then None else option_map number (slice_get keys j)
 

@@ -6,7 +6,7 @@ use denote.RawPtr.{Ptr, block_of, count_of}
 use denote.Slice.{elements_shared}
 use Rattle.lasso_parts.specs.Entries.{Source, Copied, Static}
 
--- nothing of a text that an arena copied; of another a `&` to each of its bytes, of which the first lies at p, at
+-- nothing of a text that an arena copied; of another a `&` to each of its bytes, of which the first is at p, at
 -- the lifetime κ
 abbrev pub lent : Source → Ptr → Lft → Fml
 lent (Copied span) p κ = ftrue

@@ -1,4 +1,4 @@
--- What a walk over a range of slots tells.
+-- What a walk over a range of slots finds.
 use Rattle.std.specs.Prelude.{◌≡◌, ℕ, ◌<◌, ◌≤◌, List, Option, Some, None, slice_get}
 use Rattle.lasso_parts.specs.declared.index.probe.Scan.{Scan}
 use Rattle.lasso_parts.specs.declared.index.probe.Scan.TheVariants.{Found, Ended, Passed}

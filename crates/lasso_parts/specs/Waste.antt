@@ -5,7 +5,7 @@
 -- left has less room than its successor's first text, so left buckets add up to less than twice the copied
 -- bytes; the last one is at most twice the size of a left one; buckets of exact size are full.
 --
--- Of any interner it is at most `first + 8 * most`, where `most` is the most bytes copied in between two
+-- Of any interner it is at most `first + 8 * most`, with `most` as the most bytes copied in between two
 -- clears. When the doubling size was doubled, or a remnant was made, the greatest bucket kept until then had
 -- been left, or was current without room, or was a spare too small for the text. So more bytes were copied in
 -- since the last clear than that bucket has.

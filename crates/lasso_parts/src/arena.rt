@@ -14,7 +14,7 @@ use std::alloc::Allocator;
 use std::fmt;
 use std::marker::Model;
 
-/// Where a text lies in an arena.
+/// Where a text is in an arena.
 #[derive(Clone, Copy, Debug, PartialEq, Eq)]
 pub struct Span {
     /// The position of its region among the arena's.
@@ -153,7 +153,7 @@ impl<A: Allocator> Arena<A> {
         n == 0 || !matches!(self.placement_for(n), Placement::Refused)
     }
 
-    /// Copies a text in as `store_str` does, where the current region has room for it, and returns where it lies.
+    /// Copies a text in as `store_str` does, if the current region has room for it, and returns where it is.
     /// `None`: there is no such room, or the text has no bytes, and nothing changes. It takes no memory.
     #[inline(always)]
     pub fn store_in_room(&mut self, text: &str) -> Option<Span>
@@ -181,7 +181,7 @@ impl<A: Allocator> Arena<A> {
         self.regions.as_slice()[span.region].text(span.start, span.len)
     }
 
-    /// Sets the most bytes that all regions may take. It may lie below what they take already.
+    /// Sets the most bytes that all regions may take. It may be below what they take already.
     pub fn set_limit(&mut self, limit: usize)
         ensures limit { self.new ≡ record self.old { limit = limit } }
         ensures account { account_of self.new ≡ with_limit (account_of self.old) limit }
@@ -210,12 +210,12 @@ impl<A: Allocator> Arena<A> {
 impl<A: Allocator + Clone> Arena<A> {
     ghost use Rattle.lasso_parts.specs.Arena.{account_of, copied_of, first_of, most_of, IsStored, text_at, KeepsTexts};
 
-    /// Copies a text in and returns where it lies. Every text stored earlier stays where it is. A text of no
-    /// bytes takes no memory. Where the current region has no room, the smallest spare that has it is filled:
+    /// Copies a text in and returns where it is. Every text stored earlier stays where it is. A text of no
+    /// bytes takes no memory. If the current region has no room, the smallest spare that has it is filled:
     /// one that the last `clear` kept and that is empty still. A text longer than twice the doubling size
     /// then gets a region of just its bytes, which does not become the current one. A text that the limit
     /// refuses (`MemoryLimitReached`) is refused before any memory is asked for. Any other text fails only
-    /// when out of memory (`FailedAllocation`), and only where it needs a new region. An error changes
+    /// when out of memory (`FailedAllocation`), and only if it needs a new region. An error changes
     /// nothing: no region, no byte of one, nor the current region, the spares, the doubling size or the
     /// limit.
     #[inline(never)]

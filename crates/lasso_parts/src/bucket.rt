@@ -1,5 +1,5 @@
 //! A bucket: memory of a fixed size that fills with bytes from its start. It is for callers alone: an arena
-//! keeps its regions in a list of their own, and has no `Bucket`.
+//! keeps its regions in a separate list, and has no `Bucket`.
 ghost use Rattle.std.specs.Prelude.{◌≡◌, ◌+◌, ◌<◌, ◌≤◌, ◌↔◌, ◌++◌, [], length, slice_range, IfOk, IfErr, IsTrue, IsUtf8};
 ghost use Rattle.lasso_parts.specs.declared.util.LassoErrorKind.TheVariants.{FailedAllocation};
 

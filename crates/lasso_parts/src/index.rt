@@ -165,7 +165,7 @@ impl<K: Key, A: Allocator> Index<K, A> {
     }
 
     /// Makes room for one more key in the index of a whole list, which holds the positions 0, 1, 2 and so on.
-    /// If the table grows, they are entered again in that order, so that texts which lie side by side are
+    /// If the table grows, they are entered again in that order, so that texts which are side by side are
     /// read one after another. It takes where a text of that hash would go, and returns where it goes now.
     /// Errors are those of `reserve_one`.
     pub fn reserve_in_order<T: Texts, S: BuildHasher>(

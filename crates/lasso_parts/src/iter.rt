@@ -51,7 +51,7 @@ impl<'a, K: Key> Strings<'a, K> {
         }
     }
 
-    /// Passes over `n` texts from the front and gives the next. Where no more than `n` are left, it gives
+    /// Passes over `n` texts from the front and gives the next. If no more than `n` are left, it gives
     /// `None`, and none is left then.
     ///
     /// ```rust
@@ -76,7 +76,7 @@ impl<'a, K: Key> Strings<'a, K> {
         }
     }
 
-    /// Passes over `n` texts from the back and gives the next. Where no more than `n` are left, it gives
+    /// Passes over `n` texts from the back and gives the next. If no more than `n` are left, it gives
     /// `None`, and none is left then.
     ///
     /// ```rust
@@ -213,7 +213,7 @@ impl<'a, K: Key> Iter<'a, K> {
         }
     }
 
-    /// Passes over `n` texts from the front and gives the next and its key. Where no more than `n` are
+    /// Passes over `n` texts from the front and gives the next and its key. If no more than `n` are
     /// left, it gives `None`, and none is left then.
     ///
     /// ```rust
@@ -233,7 +233,7 @@ impl<'a, K: Key> Iter<'a, K> {
         Some((key_of(number), text))
     }
 
-    /// Passes over `n` texts from the back and gives the next and its key. Where no more than `n` are
+    /// Passes over `n` texts from the back and gives the next and its key. If no more than `n` are
     /// left, it gives `None`, and none is left then.
     pub fn nth_back(&mut self, n: usize) -> Option<(K, &'a str)>
         ensures rest { self.new ≡ take (length self.old - (n + 1)) self.old }

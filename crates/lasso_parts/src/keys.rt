@@ -26,7 +26,7 @@ pub trait Key: Copy + Eq {
     fn into_usize(self) -> usize
         ensures { result ≡ number self };
 
-    /// The key of the position, or `None` where the type lacks it.
+    /// The key of the position, or `None` if the type lacks it.
     ///
     /// ```rust
     /// let last = MicroSpur::try_from_usize(254).ok_or("no key")?;

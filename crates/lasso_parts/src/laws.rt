@@ -13,7 +13,7 @@ use crate::util::{Capacity, MemoryLimits};
 use std::cmp::{Ord, PartialEq, PartialOrd};
 use std::hash::Hash;
 
-/// A text is refused exactly where it is longer than the room of the current bucket, no spare bucket
+/// A text is refused exactly if it is longer than the room of the current bucket, no spare bucket
 /// has its bytes, and the usage and its bytes pass the limit.
 pub fn store_refuses_exactly_past_limit()
     ensures { RefusesExactlyPastLimit }
@@ -24,7 +24,7 @@ pub fn store_serves_as_worked()
     ensures { ServesAsWorked }
 {}
 
-/// Storing never takes the usage past the limit: where the usage grows, it is at most the limit then.
+/// Storing never takes the usage past the limit: if the usage grows, it is at most the limit then.
 pub fn store_never_grows_past_limit()
     ensures { NeverGrowsPastLimit }
 {}
@@ -97,13 +97,13 @@ pub fn large_spurs_compare_by_position(one: LargeSpur, other: LargeSpur)
     other.show_value();
 }
 
-/// Capacities are ordered by the texts that they have room for, and where these are equal by the bytes.
+/// Capacities are ordered by the texts that they have room for, and if these are equal by the bytes.
 pub fn capacities_compare_texts_first(_one: &Capacity, _other: &Capacity)
     ensures { ⟦<Capacity as Ord>⟧.cmp _one.now _other.now ≡ sizes_cmp _one.now _other.now }
 {}
 
-/// Capacities are equal where the texts and the bytes that they have room for are, and hashed by both. Their order is by the texts, and
-/// where these are equal by the bytes.
+/// Capacities are equal if the texts and the bytes that they have room for are, and hashed by both. Their order is by the texts, and
+/// if these are equal by the bytes.
 pub fn capacities_compare_by_both(_one: Capacity, _other: Capacity)
     ensures equal { ⟦<Capacity as PartialEq>⟧.eq _one _other ≡ sizes_eq _one _other }
     ensures partial { ⟦<Capacity as PartialOrd>⟧.partial_cmp _one _other ≡ Some (sizes_cmp _one _other) }

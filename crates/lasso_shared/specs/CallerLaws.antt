@@ -18,7 +18,7 @@ HasKey key_at opening h text k = key_of key_at (totals opening h).texts text ≡
 abbrev pub IsOneHistory : History → History → Type 0
 IsOneHistory h g = IsPrefix h g ⊎ IsPrefix g h
 
--- what one call tells its caller, at its end: a key that `Intern` or `Get` returned for a text is the text's;
+-- what one call shows its caller, at its end: a key that `Intern` or `Get` returned for a text is the text's;
 -- and a text that `Resolve` returned has the key that was asked, if the opening is one and the history legal
 pub record TellsKeys {K : Type 0} (key_at : ℕ → Option K) (opening : Totals) (before after : History) (pass : ℕ) : Type 0 where
   pub interned : (keeping : Keeping) (text : Text) (k : K) → IsCall key_at opening before after pass (Intern keeping text) (Interned (Ok k)) → HasKey key_at opening after text k
@@ -28,7 +28,7 @@ pub record TellsKeys {K : Type 0} (key_at : ℕ → Option K) (opening : Totals)
       → IsCall {K = K} key_at opening before after pass (Resolve number) (Resolved (Some text))
       → (k : K) × (key_at number ≡ Some k) × HasKey key_at opening after text k
 
--- each call tells so: the contract of `calls_tell_keys`
+-- each call shows so: the contract of `calls_tell_keys`
 abbrev pub CallsTellKeys : {K : Type 0} → (ℕ → Option K) → Type 0
 CallsTellKeys key_at = (opening : Totals) (before after : History) (pass : ℕ) → TellsKeys key_at opening before after pass
 

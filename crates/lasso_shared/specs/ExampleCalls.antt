@@ -87,7 +87,7 @@ pub record AreNoCalls : Type 0 where
   pub limit_leaves_room : Calls wider wider 9 (Intern Copied ddd) (Interned (Err MemoryLimitReached)) → ⊥
   -- the empty text refused by the limit
   pub empty_refused : Calls two two 9 (Intern Copied []) (Interned (Err MemoryLimitReached)) → ⊥
-  -- no key, no memory or no room for a present text; and no key where the length has one
+  -- no key, no memory or no room for a present text; and no key if the length has one
   pub there_without_key : Calls three three 9 (Intern Static a) (Interned (Err KeySpaceExhaustion)) → ⊥
   pub there_without_memory : Calls two two 9 (Intern Copied a) (Interned (Err FailedAllocation)) → ⊥
   pub there_past_limit : Calls two two 9 (Intern Copied a) (Interned (Err MemoryLimitReached)) → ⊥

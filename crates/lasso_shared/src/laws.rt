@@ -19,7 +19,7 @@ pub fn legal_histories_hold<K: Key>()
     ensures { EachHistoryHolds K.key_at }
 {}
 
-/// Where no bucket has room, a text's bytes get no new bucket exactly where the usage and the bytes
+/// If no bucket has room, a text's bytes get no new bucket exactly if the usage and the bytes
 /// pass the limit: so such a text may always be stored or refused, and never both.
 pub fn charge_refuses_exactly_past_limit()
     ensures { ChargeRefusesExactlyPastLimit }

@@ -22,7 +22,7 @@ pub fn all_runs_of<K: Key>()
 
 /// Each call of the machine, from its first step to its last, is a *call* of its pass in the legal history of
 /// [`all_runs_of`]: its reply is that of the history at a step between the two, and its pass made exactly the events of
-/// that reply. So the machine is a model of what the contracts of the calls promise, where a pass makes one call at a
+/// that reply. So the machine is a model of what the contracts of the calls promise, if a pass makes one call at a
 /// time.
 pub fn machine_calls_are_calls<K: Key>()
     ensures { EachCallIsACall K.key_at }

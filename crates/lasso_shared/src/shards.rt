@@ -1,8 +1,8 @@
-//! The shards: 16 indexes, each under a lock of its own, and the spine under another.
+//! The shards: 16 indexes, each under its own lock, and the spine under another.
 //!
 //! A text is of one shard, by its hash. A shard's index is exact for a history that the shard has seen. So it
 //! is for each history that begins with that one and has no more texts of the shard, which the spine's number
-//! of them tells. A thread that holds a shard's lock may lock the spine; one that holds the spine's locks no
+//! of them shows. A thread that holds a shard's lock may lock the spine; one that holds the spine's locks no
 //! shard. A thread that adds a bucket holds the spine's lock and locks a third, that of what is owned of the
 //! buckets (`holdings` of the log's memory), under which no other is locked.
 ghost use Rattle.std.specs.Prelude.{◌≡◌, ◌<◌, ℕ, length, Some, slice_get};
@@ -31,7 +31,7 @@ use lasso_parts::keys::Key;
 use std::alloc::Global;
 use std::hash::BuildHasher;
 
-/// The log, the buckets, the hasher and the locks of one interner. The hasher lies outside the locks; a growth asks it while its shard is held.
+/// The log, the buckets, the hasher and the locks of one interner. The hasher is outside the locks; a growth asks it while its shard is held.
 #[derive(Drop)]
 pub struct Shards<K: Key, S: BuildHasher + Drop> {
     pub log: Log<K>,

@@ -2,7 +2,7 @@
 //!
 //! A call with a pass knows what the pass's holder has seen of the interner's history. The call's reply is explained at one step
 //! between what the pass had seen and what it has seen after, and the events past that of the pass's number are exactly those of
-//! the call. A plain call is that call of a new pass. What is stored lies in a log that is read without a lock. A text is looked
+//! the call. A plain call is that call of a new pass. What is stored is in a log that is read without a lock. A text is looked
 //! up in its shard, which other texts of the shard share; a new text goes through its shard and then through the spine. A pass that
 //! keeps hints finds a text that it met before without the shard.
 ghost use Rattle.std.specs.Prelude.{◌≡◌, []};
@@ -87,7 +87,7 @@ impl<K: Key, S: BuildHasher + Drop> ThreadedRodeo<K, S> {
     /// return what those of any pass do.
     ///
     /// The hints take 131,072 bytes, which no limit counts, and which are freed with the pass. Out of memory
-    /// the pass keeps none; `Pass::has_hints` tells. It does not wait.
+    /// the pass keeps none; `Pass::has_hints` says so. It does not wait.
     ///
     /// ```rust
     /// let rodeo: SpurThreadedRodeo = ThreadedRodeo::default(rt.alloc())?;

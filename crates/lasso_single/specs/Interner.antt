@@ -7,7 +7,7 @@ use Rattle.lasso_parts.specs.Account.{Account, fresh}
 pub record InternerView : Type 0 where
   -- the texts in the order of their keys
   pub texts : List Text
-  -- the account of the buckets that copied texts lie in
+  -- the account of the buckets that copied texts are in
   pub account : Account
   -- the bytes of the first bucket
   pub first : ℕ

@@ -1,6 +1,6 @@
 //! Texts that are looked up one after another, and are looked ahead at in batches.
 //!
-//! A look-up waits for memory up to four times, each time at a place that the last one told: a tag and a
+//! A look-up waits for memory up to four times, each time at a place that the last one named: a tag and a
 //! key of the index, an entry of the list, and the text. A look ahead takes each step for a whole batch of
 //! texts, so that the processor waits for all of them at once. It gives a guess at the position of each.
 //! The call that then takes a text compares it with the text at its guess: what it returns depends on no
@@ -38,11 +38,11 @@ const FAR_SHARE: usize = 4;
 /// What is kept between texts that are looked up one after another: guesses at the positions of a batch of
 /// them, and how many texts of the batch were far.
 ///
-/// Looking ahead costs about a quarter of a look-up, and saves most of one where its memory is out of the
+/// Looking ahead costs about a quarter of a look-up, and saves most of one if its memory is out of the
 /// nearer caches. So it is done if at least a quarter of the texts of the last batch were present and far.
 /// A text is far if all texts up to it take more than `NEAR_BYTES`, were they as long as it is. A text that
 /// comes often was mostly interned early, so it has a low position, and stays in the caches however large
-/// the interner is. A new text is never far: no guess can find it. Where few are far, only one batch in
+/// the interner is. A new text is never far: no guess can find it. If few are far, only one batch in
 /// eight is counted, since counting takes time too. The first batch is counted.
 #[derive(Drop)]
 pub struct Batch {

@@ -14,7 +14,7 @@ use std::hash::BuildHasher;
 /// One call of a `Rodeo`, with its arguments.
 #[derive(Drop)]
 pub enum Command<'a, K: Key, S: BuildHasher, A: Allocator> {
-    /// Interns a text, which is copied where it is new.
+    /// Interns a text, which is copied if it is new.
     Intern(&'a str),
     /// Interns a text, which is kept as it is.
     InternStatic(&'static str),
@@ -53,7 +53,7 @@ pub enum Reply<K> {
     Found(Option<K>),
     /// Yes or no.
     Flag(bool),
-    /// A copy of the key's text, where it stands for one.
+    /// A copy of the key's text, if it has one.
     Text(Option<String>),
     /// A number of texts or of bytes.
     Number(usize),

@@ -20,8 +20,8 @@ use std::hash::BuildHasher;
 use std::marker::Model;
 
 /// A list of distinct texts that does not change any more, and from which keys of texts are found as well
-/// as texts of keys. It is what a `Rodeo` freezes to. Contracts see it as the list of its texts, where
-/// the text at position n has the key of number n. Threads may share it where they may share its
+/// as texts of keys. It is what a `Rodeo` freezes to. Contracts see it as the list of its texts:
+/// the text at position n has the key of number n. Threads may share it if they may share its
 /// allocator and its hasher; no call of it takes a lock.
 pub struct RodeoReader<K: Key, S: BuildHasher, A: Allocator> {
     rodeo: Rodeo<K, S, A>,
@@ -82,11 +82,11 @@ impl<K: Key, S: BuildHasher, A: Allocator> RodeoReader<K, S, A> {
     }
 
     /// Appends to `keys` the key of each text in order, or `None` for an absent one: what `get` returns.
-    /// Texts are looked up in batches, which is faster than one after another where they lie out of the
+    /// Texts are looked up in batches, which is faster than one after another if they are out of the
     /// caches.
     ///
-    /// The only error is `FailedAllocation`, where there is no room in `keys` for all of them; `keys` has
-    /// the same items then.
+    /// The only error is `FailedAllocation`, if `keys` has no room for all of them and can't grow. It keeps its
+    /// items then.
     pub fn get_all<B: Allocator>(
         &self,
         texts: &[&str],
@@ -127,7 +127,7 @@ impl<K: Key, S: BuildHasher, A: Allocator> RodeoReader<K, S, A> {
         self.rodeo.contains_key(key)
     }
 
-    /// The key's text, or `None` where the key stands for no text of this reader.
+    /// The key's text, or `None` if the key stands for no text of this reader.
     ///
     /// ```rust
     /// let reader = SpurRodeo::from_iter(rt.alloc(), ["red", "green"])?.into_reader();
@@ -182,8 +182,8 @@ impl<K: Key, S: BuildHasher, A: Allocator> RodeoReader<K, S, A> {
     /// Appends to `texts` the text of each key in order: what `resolve` returns. Each key must stand for a
     /// text of this reader: `contains_keys` is the test.
     ///
-    /// The only error is `FailedAllocation`, where there is no room in `texts` for all of them; `texts` has
-    /// the same items then.
+    /// The only error is `FailedAllocation`, if `texts` has no room for all of them and can't grow. It keeps its
+    /// items then.
     pub fn resolve_all<'a, B: Allocator>(
         &'a self,
         keys: &[K],

@@ -21,9 +21,9 @@ use std::hash::BuildHasher;
 use std::marker::{Model, PhantomData};
 
 /// A list of texts that does not change any more, and from which texts of keys are found. It is what a
-/// `Rodeo` or a `RodeoReader` freezes to where no text is looked up any more: it has no index and no hasher.
-/// Contracts see it as the list of its texts, where the text at position n has the key of number n.
-/// Threads may share it where they may share its allocator; no call of it takes a lock.
+/// `Rodeo` or a `RodeoReader` freezes to if no text is looked up any more: it has no index and no hasher.
+/// Contracts see it as the list of its texts: the text at position n has the key of number n.
+/// Threads may share it if they may share its allocator; no call of it takes a lock.
 pub struct RodeoResolver<K: Key, A: Allocator> {
     list: TextList<A>,
     keys: PhantomData<K>,
@@ -90,7 +90,7 @@ impl<K: Key, A: Allocator> RodeoResolver<K, A> {
         key.into_usize() < self.list.len()
     }
 
-    /// The key's text, or `None` where the key stands for no text of this resolver.
+    /// The key's text, or `None` if the key stands for no text of this resolver.
     ///
     /// ```rust
     /// let mut rodeo = Rodeo::default(rt.alloc())?;
@@ -148,8 +148,8 @@ impl<K: Key, A: Allocator> RodeoResolver<K, A> {
     /// Appends to `texts` the text of each key in order: what `resolve` returns. Each key must stand for a
     /// text of this resolver: `contains_keys` is the test.
     ///
-    /// The only error is `FailedAllocation`, where there is no room in `texts` for all of them; `texts` has
-    /// the same items then.
+    /// The only error is `FailedAllocation`, if `texts` has no room for all of them and can't grow. It keeps its
+    /// items then.
     pub fn resolve_all<'a, B: Allocator>(
         &'a self,
         keys: &[K],

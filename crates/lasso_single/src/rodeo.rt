@@ -106,7 +106,7 @@ impl<K: Key, S: BuildHasher, A: Allocator> Rodeo<K, S, A> {
         key.into_usize() < self.list.len()
     }
 
-    /// The key's text, or `None` where the key stands for no text of this interner.
+    /// The key's text, or `None` if the key stands for no text of this interner.
     ///
     /// ```rust
     /// let mut rodeo = Rodeo::default(rt.alloc())?;
@@ -207,7 +207,7 @@ impl<K: Key, S: BuildHasher, A: Allocator> Rodeo<K, S, A> {
 
     /// The bytes that all buckets take. They are at most the first bucket and eight times the most bytes
     /// that were copied in between two clears, whatever limits were set; the time before the first clear and
-    /// that after the last count too, and a copy over this interner counts as a clear. Where it was never
+    /// that after the last count too, and a copy over this interner counts as a clear. If it was never
     /// cleared, they are at most the first bucket and four times the bytes copied in.
     ///
     /// ```rust

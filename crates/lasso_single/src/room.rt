@@ -6,8 +6,8 @@ ghost use Rattle.lasso_single.specs.Copies.{bytes_of, bucket_for, clone_size};
 use lasso_parts::index::Texts;
 use lasso_parts::util::{Capacity, LassoError, LassoErrorKind, LassoResult};
 
-/// Room for the texts, in one bucket of just their bytes (4096 where they have none); `len` must be how many
-/// there are. It is refused where the texts have more bytes than a `usize` counts.
+/// Room for the texts, in one bucket of just their bytes (4096 if they have none); `len` must be how many
+/// there are. It is refused if the texts have more bytes than a `usize` counts.
 pub fn one_bucket<T: Texts>(texts: &T, len: usize) -> LassoResult<Capacity>
     requires { len ≡ length (T.list texts.now) }
     ensures bytes { IfOk result (λ capacity. capacity.bytes ≡ clone_size (T.list texts.now)) }

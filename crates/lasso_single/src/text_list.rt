@@ -28,7 +28,7 @@ use std::marker::Model;
 
 /// A list of texts that grows at its end, and the arena that holds the copied ones. Contracts see the
 /// texts, the account of the memory, the first bucket's bytes, the bytes copied in since the last clear,
-/// the most before it in between two clears, and whether there was one. Where there was none, at most the
+/// the most before it in between two clears, and whether there was one. If there was none, at most the
 /// first bucket and four times the bytes copied in are taken; always at most the first bucket and eight
 /// times the most bytes copied in between two clears.
 #[derive(Drop)]
@@ -98,7 +98,7 @@ impl<A: Allocator + Clone> TextList<A> {
         })
     }
 
-    /// A list of the texts, in order, all copied into one bucket of just their bytes (4096 where they have
+    /// A list of the texts, in order, all copied into one bucket of just their bytes (4096 if they have
     /// none), with the limit `usize::MAX`. The only error is `FailedAllocation`, also when a `usize` can't
     /// count the texts' bytes.
     pub(crate) fn copy_of(alloc: A, texts: &[&str]) -> LassoResult<Self>
@@ -136,7 +136,7 @@ impl<A: Allocator + Clone> TextList<A> {
         self.push_growing(text)
     }
 
-    /// The same, out of line, where the list or a bucket may have to grow for the text.
+    /// The same, out of line, if the list or a bucket may have to grow for the text.
     #[inline(never)]
     pub(crate) fn push_growing(&mut self, text: &str) -> LassoResult<()>
         requires { IsSome (store self.old.first self.old.account (length text.now)) }
@@ -189,7 +189,7 @@ impl<A: Allocator + Clone> TextList<A> {
 }
 
 impl<A: Allocator> TextList<A> {
-    /// Copies a text to the end of the list where neither the list nor a bucket grows for it, and returns whether it
+    /// Copies a text to the end of the list if neither the list nor a bucket grows for it, and returns whether it
     /// did. Else nothing changes. It takes no memory.
     #[inline(always)]
     pub(crate) fn push_in_room(&mut self, text: &str) -> bool
@@ -387,7 +387,7 @@ impl<A: Allocator> TextList<A> {
         Ok(())
     }
 
-    /// Sets the most bytes that all buckets may take. It may lie below what they take already.
+    /// Sets the most bytes that all buckets may take. It may be below what they take already.
     pub(crate) fn set_limit(&mut self, limit: usize)
         ensures texts { self.new.texts ≡ self.old.texts }
         ensures account { self.new.account ≡ with_limit self.old.account limit }

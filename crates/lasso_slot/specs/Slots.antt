@@ -1,7 +1,7 @@
 -- What a slot shares, and what a claim owns.
 --
 -- While a slot is shared, for a lifetime α, an invariant keeps its word and one of two things. `lent`: nobody
--- has the value whole. It is shared for a lifetime `a` of its own, whose token is cut into 2 ^ 63 lots. Each
+-- has the value whole. It is shared for its own lifetime `a`, whose token is cut into 2 ^ 63 lots. Each
 -- reader has one lot, and the invariant the rest, at most as many short as the word has readers. With all
 -- lots it can end `a`. `out`: somebody has the value whole, and the invariant only keeps the lots of nothing
 -- but one, which is the claim's.
@@ -64,7 +64,7 @@ pub data Stage (X : Type 0) : Type 0 where
   out : Stage X
   lent : ℕ → ℕ → X → Stage X
 
--- the value lies after the word, at the first place that its type's alignment allows
+-- the value is after the word, at the first place that its type's alignment allows
 abbrev pub value_at : RattleType → ℕ
 value_at R = up (align (lone R.mir)) 8
 

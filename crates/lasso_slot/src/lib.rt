@@ -2,7 +2,7 @@
 //!
 //! A thread claims the whole slot, and then may exchange the value, or claims it shared with other readers, and then may read it.
 //! A claim changes the word in one locked step, and is given back in one. The slot keeps a fact about its value, `Fits`, by a tag that is
-//! fixed when the slot is made. Nobody waits here: a claim is refused where somebody else is in the way.
+//! fixed when the slot is made. Nobody waits here: a claim is refused if somebody else is in the way.
 //!
 //! The word counts the readers in its low 32 bits. `MARKED` keeps further readers out while somebody waits for the whole slot, and `TAKEN`
 //! says that somebody has it.
@@ -106,7 +106,7 @@ impl<X: Fits> Slot<X> {
         self.change(FREE, TAKEN)
     }
 
-    /// Claims the whole slot if nobody has a claim. It looks first, and changes nothing where somebody has one.
+    /// Claims the whole slot if nobody has a claim. It looks first, and changes nothing if somebody has one.
     pub fn try_lock(&self) -> Option<Claim<'_, X>>
         ensures { IfSome result (λ c. (c.right ≡ whole) × (c.tag ≡ self.now)) }
     {

@@ -1,5 +1,5 @@
 //! Code that is written once for every interner, and proved from the interfaces alone: what each of them
-//! keeps where it has a list of its own.
+//! keeps if it has its own list.
 ghost use Rattle.std.specs.Prelude.{◌≡◌, ◌↔◌, Some, None, length, is_ok, if◌then◌else◌, IfSome, IfOk, IfErr, IsTrue, option_map};
 ghost use Rattle.lasso_parts.specs.Texts.{position_of, key_of};
 ghost use Rattle.lasso_parts.specs.declared.util.LassoErrorKind.TheVariants.{KeySpaceExhaustion};
@@ -10,7 +10,7 @@ use lasso_parts::keys::Key;
 use lasso_parts::util::LassoResult;
 use std::sync::Wait;
 
-/// Whether the three look-ups of a key agree, and find a text exactly where the key is said to stand for one.
+/// Whether the three look-ups of a key agree, and find a text exactly if the key is said to stand for one.
 pub fn looks_up_alike<K: Key, T: Resolver<K>>(resolver: &T, key: K) -> bool
     ensures { IfSome (T.meaning resolver.now) (λ _. IsTrue result) }
 {
@@ -47,7 +47,7 @@ pub fn interns_as_one<K: Key, R: Wait, I: Interner<K>>(
 }
 
 /// Interns the text and freezes the interner. Returns whether the reader finds the key that was given for the
-/// text, and resolves it to the text. Where the interner has a list, only the intern is refused.
+/// text, and resolves it to the text. If the interner has a list, only the intern is refused.
 pub fn reader_knows<K: Key, R: Wait, I: IntoReader<K> + Drop>(
     rt: &R,
     mut interner: I,
@@ -64,7 +64,7 @@ where
 }
 
 /// Interns the text and freezes the interner. Returns whether the resolver resolves the key that was given to
-/// the text. Where the interner has a list, only the intern is refused.
+/// the text. If the interner has a list, only the intern is refused.
 pub fn resolver_knows<K: Key, R: Wait, I: Interner<K> + IntoResolver<K> + Drop>(
     rt: &R,
     mut interner: I,

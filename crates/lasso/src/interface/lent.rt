@@ -1,4 +1,4 @@
-//! The interfaces of what is lent to be read: those of the value behind the reference, with its meaning.
+//! The interfaces of a shared reference: those of the value that it refers to, with its meaning.
 
 use super::{Reader, Resolver};
 use lasso_parts::keys::Key;

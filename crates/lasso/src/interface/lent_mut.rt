@@ -1,4 +1,4 @@
-//! The interfaces of what is lent to be changed: those of the value behind the reference, with its meaning.
+//! The interfaces of a `&mut` reference: those of the value that it refers to, with its meaning.
 
 use super::{Interner, Reader, Resolver};
 use lasso_parts::keys::Key;

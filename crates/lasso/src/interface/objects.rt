@@ -19,7 +19,7 @@ pub trait SpurResolver {
     // the texts in the order of their keys
     ghost texts: { Self → List Text };
 
-    /// The key's text, or `None` where the key stands for no text.
+    /// The key's text, or `None` if the key stands for no text.
     fn try_resolve(&self, key: Spur) -> Option<&str>
         ensures { option_map (λ t. t.now) result ≡ slice_get (texts self.now) (⟦<Spur as Key>⟧.number key) };
 

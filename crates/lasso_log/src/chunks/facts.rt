@@ -17,7 +17,7 @@ use boxcar::tag::Names;
 use logbook::{Offer, Plain, Seen, Start};
 use std::marker::{Model, PhantomData};
 
-/// What shows that these texts lie in the chunks with these names, from position 0 on.
+/// What shows that these texts are in the chunks with these names, from position 0 on.
 pub struct Lines<T: HasText, V: HasCells> {
     marker: PhantomData<(T, V)>,
     pub ghost names: { List ℕ },
@@ -49,7 +49,7 @@ impl<T: HasText, V: HasCells> Lines<T, V> {
         }
     }
 
-    /// One text more, which lies at the next position.
+    /// One text more, which is at the next position.
     pub fn push(&mut self, chunk: &Written<V>, item: &Written<T>)
         requires cell { IsCellAt self.old.names (length self.old.texts) chunk.now.of (V.cells chunk.now.value) item.now.of }
         requires lasts { T.lasts item.now.value (era_named self.old.names) }
@@ -60,7 +60,7 @@ impl<T: HasText, V: HasCells> Lines<T, V> {
         let _ = item;
     }
 
-    /// What a book keeps at its opening, which has one bucket: that the texts of its list lie in the chunks, and the right to
+    /// What a book keeps at its opening, which has one bucket: that the texts of its list are in the chunks, and the right to
     /// the bucket's bytes that nobody has taken, which is handed in. That it names no token of one thread is what the opening asks for.
     pub fn start<E, B: Listed<E>, X, M: OpensWith<X, E>>(
         self,

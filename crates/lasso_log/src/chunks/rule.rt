@@ -1,10 +1,10 @@
-//! The rule of a book whose texts lie in chunks, and which keeps the right to bytes that nobody has taken. Used by the chunks, by the
+//! The rule of a book whose texts are in chunks, and which keeps the right to bytes that nobody has taken. Used by the chunks, by the
 //! shared arena and by the rule of the log.
 
 use logbook::{Gain, Rule};
 use std::marker::PhantomData;
 
-/// What a cell holds: its text, and whether that lies there as long as an era.
+/// What a cell holds: its text, and whether that is there as long as an era.
 pub trait HasText {
     ghost use Rattle.std.specs.Prelude.{ℕ};
     ghost use Rattle.lasso_parts.specs.Texts.{Text};
@@ -90,7 +90,7 @@ impl<E> Gain<E, u64> for NoGain {
     ghost after = { λ names about answer. ftrue };
 }
 
-/// What it gains where the update takes bytes: the right to them.
+/// What it gains if the update takes bytes: the right to them.
 pub struct BytesTaken<B> {
     of: PhantomData<B>,
 }

@@ -16,7 +16,7 @@ use logbook::{Seen, Word};
 use std::marker::{Model, Send, Sync};
 use std::sync::Wait;
 
-/// A bucket of a history: its word, which counts the bytes that were taken since it began; where it lies; how
+/// A bucket of a history: its word, which counts the bytes that were taken since it began; where it is; how
 /// many bytes it has; how many of them were taken before its word began; its position in the history; and a
 /// log that has it.
 #[derive(Drop)]
@@ -73,7 +73,7 @@ impl<K: Key> SharedBucket<K> {
     }
 
     /// Takes `bytes` bytes, at least one, and returns the right to fill them. It returns `None` only if they
-    /// do not fit, and adds no event then. It takes no memory. It waits where another thread takes bytes at
+    /// do not fit, and adds no event then. It takes no memory. It waits while another thread takes bytes at
     /// the same time.
     #[tactic(auto, using(crate::proofs::Tickets::since_trans))]
     pub fn try_reserve<R: Wait>(

@@ -21,10 +21,10 @@ use std::sync::Wait;
 const AHEAD: u64 = 15;
 
 /// Shows that the cells of the next sixteen positions are made, past the list of a history that was seen:
-/// each lies in the chunk of the first of them or in that of the last. It takes 8 bytes, the list's length. A
+/// each is in the chunk of the first of them or in that of the last. It takes 8 bytes, the list's length. A
 /// contract sees the interner and the history's notes.
 ///
-/// Where at most sixteen threads at a time intern a text, and each asks for these cells anew for each text,
+/// If at most sixteen threads at a time intern a text, and each asks for these cells anew for each text,
 /// each text finds its cell made. If its own look was too early for that, the sixteen texts before it came
 /// after that look. When the first of these came, at most fourteen other threads had asked already and not
 /// yet appended. So one of the next fifteen asked after that, and its cells reach to this text.
@@ -81,8 +81,8 @@ fn shares_chunk(len: u64, end: u64) -> bool
 }
 
 impl<K: Key> Log<K> {
-    /// Shows that the cells of the next sixteen positions are made, at one step. Returns `None` where one is
-    /// not, and never where they lie in one chunk with the last text. It takes no memory and does not wait.
+    /// Shows that the cells of the next sixteen positions are made, at one step. Returns `None` if one is
+    /// not, and never if they are in one chunk with the last text. It takes no memory and does not wait.
     pub fn find_ahead(&self, pass: &mut Pass<K>) -> Option<CellsAhead<K>>
         requires { pass.old.of ≡ self.now }
         ensures same { IsSamePass pass.new pass.old }
@@ -130,9 +130,9 @@ impl<K: Key> Log<K> {
         is_ahead(ahead.start(), position) || self.memory.chunks.find_chunk(position).is_some()
     }
 
-    /// Makes the cells of the next sixteen positions, at one step, where they are not made, and shows that
-    /// they are. It fails only out of memory (`FailedAllocation`), which it also returns where a position
-    /// would be 2^64 or more. It waits where another thread makes them at the same time.
+    /// Makes the cells of the next sixteen positions, at one step, if they are not made, and shows that
+    /// they are. It fails only out of memory (`FailedAllocation`), which it also returns if a position
+    /// would be 2^64 or more. It waits while another thread makes them at the same time.
     pub fn make_ahead<R: Wait>(
         &self,
         rt: &R,

@@ -1,4 +1,4 @@
-//! What a spine does where no bucket has room for a text: it adds one, or the limit refuses the text.
+//! What a spine does if no bucket has room for a text: it adds one, or the limit refuses the text.
 ghost use Rattle.std.specs.Prelude.{◌≡◌, ◌≢◌, ◌+◌, ◌<◌, ◌≤◌, ◌^◌, ◌⊎◌, ◌∷◌, [], length, Some, IsSomeAnd, IfOk, IfErr, OnOk, OnErr};
 ghost use Rattle.lasso_parts.specs.declared.util.LassoErrorKind.TheVariants.{FailedAllocation, MemoryLimitReached};
 ghost use Rattle.lasso_log.specs.Buckets.{bucket_size};
@@ -30,8 +30,8 @@ impl<K: Key> Log<K> {
     /// None of the buckets that the spine's turns know has room for them. The bucket has the size that
     /// *store* gives. It is refused by the limit (`MemoryLimitReached`), at a step at which the list is as
     /// long as the spine's; or it fails out of memory (`FailedAllocation`), which it also returns for more
-    /// than 2^64 - 3 buckets. No event is added then. It waits where the turns are not the spine's, and does
-    /// not return where the turn word is 2^64 - 1. That the bucket is in the list from then on is tested, and
+    /// than 2^64 - 3 buckets. No event is added then. It waits if the turns are not the spine's, and does
+    /// not return if the turn word is 2^64 - 1. That the bucket is in the list from then on is tested, and
     /// not proved.
     pub fn charge<R: Wait>(
         &self,

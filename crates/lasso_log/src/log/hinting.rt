@@ -36,7 +36,7 @@ impl<K: Key> Pass<K> {
 }
 
 impl<K: Key> Log<K> {
-    /// The text's position in the list that the pass has then seen, if a hint of the pass tells it: the text
+    /// The text's position in the list that the pass has then seen, if a hint of the pass leads to it: the text
     /// there is compared. `hash` is the text's, by the hasher that the hints were kept with; with another
     /// hash nothing wrong is returned. It takes no lock and no memory, and does not wait.
     #[inline(always)]

@@ -1,4 +1,4 @@
-//! The hints of a pass, which tell where in the list it met texts. Used by passes.
+//! The hints of a pass, which say where in the list it met texts. Used by passes.
 ghost use Rattle.std.specs.Prelude.{◌≡◌, ◌<◌, IfSome, length};
 ghost use Rattle.lasso_log.specs.Views.{SnapshotView, InternerId, list_of};
 
@@ -76,7 +76,7 @@ impl<K: Key> Hints<K> {
         table.find(hash, self.len)
     }
 
-    /// Counts a position that `find` returned, and where the text was.
+    /// Counts a position that `find` returned, if the text was there.
     #[inline(always)]
     pub(super) fn count_hit(&mut self)
         ensures { self.new ≡ self.old }

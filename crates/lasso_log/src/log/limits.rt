@@ -13,7 +13,7 @@ use std::hint::spin_loop;
 use std::sync::Wait;
 
 impl<K: Key> Log<K> {
-    /// Replaces the limit. It waits where the turns are not the spine's, and does not return where the turn word is 2^64 - 1.
+    /// Replaces the limit. It waits if the turns are not the spine's, and does not return if the turn word is 2^64 - 1.
     pub fn set_limit<R: Wait>(&self, rt: &R, spine: &mut Spine<K>, pass: &mut Pass<K>, limit: u64)
         requires { (pass.old.of ≡ self.now) × (spine.old.of ≡ self.now) }
         ensures same { IsSamePass pass.new pass.old × IsSameSpine spine.new spine.old × (spine.new.kept ≡ spine.old.kept) }
@@ -41,7 +41,7 @@ impl<K: Key> Log<K> {
         self.try_set_limit(&mut spine.turns, pass, limit)
     }
 
-    /// The bytes that all buckets take, at one step. It takes no memory. It waits where the turns are not the spine's.
+    /// The bytes that all buckets take, at one step. It takes no memory. It waits if the turns are not the spine's.
     pub fn usage<R: Wait>(&self, rt: &R, spine: &Spine<K>, pass: &mut Pass<K>) -> u64
         requires { (pass.old.of ≡ self.now) × (spine.now.of ≡ self.now) }
         ensures same { IsSamePass pass.new pass.old }
@@ -52,7 +52,7 @@ impl<K: Key> Log<K> {
         spine.turns.usage
     }
 
-    /// The most bytes that all buckets may take, at one step. It takes no memory. It waits where the turns are not the spine's.
+    /// The most bytes that all buckets may take, at one step. It takes no memory. It waits if the turns are not the spine's.
     pub fn max_usage<R: Wait>(&self, rt: &R, spine: &Spine<K>, pass: &mut Pass<K>) -> u64
         requires { (pass.old.of ≡ self.now) × (spine.now.of ≡ self.now) }
         ensures same { IsSamePass pass.new pass.old }

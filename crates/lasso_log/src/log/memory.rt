@@ -1,4 +1,4 @@
-//! The memory that the texts of an interner lie in. Used by the log and by its opening.
+//! The memory that the texts of an interner are in. Used by the log and by its opening.
 use crate::chunks::Chunks;
 use crate::locks::TaggedMutex;
 use crate::log::rule::StoredText;

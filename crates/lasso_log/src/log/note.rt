@@ -1,4 +1,4 @@
-//! The notes of the shared log, and the changes that they tell of. Used by all of the log.
+//! The notes of the shared log, and the changes that they record. Used by all of the log.
 use std::marker::Model;
 
 /// A note of the log. It exists in proofs alone: no value of it is made.

@@ -39,7 +39,7 @@ pub struct Opened {
     pub limit: u64,
 }
 
-/// The texts that an interner opens with, in the order of their keys, and the bucket that those of them lie in which are copied.
+/// The texts that an interner opens with, in the order of their keys, and the bucket that the copied ones of them are in.
 /// Their cells are filled before there is a log. A contract sees the texts and the bucket.
 #[derive(Drop)]
 pub struct OpeningTexts {
@@ -131,7 +131,7 @@ impl OpeningTexts {
     }
 }
 
-/// What the first note of a log tells of.
+/// What the first note of a log records.
 #[derive(Drop)]
 pub struct First<'a> {
     pub size: u64,

@@ -34,7 +34,7 @@ impl<K: Key> SharedBucket<K> {
 }
 
 impl<K: Key> Log<K> {
-    /// Takes the next bytes of a bucket where its word has this value still, and gives the right to them. Else nothing changes.
+    /// Takes the next bytes of a bucket if its word has this value still, and gives the right to them. Else nothing changes.
     pub(crate) fn reserve_at(
         &self,
         bucket: &SharedBucket<K>,

@@ -1,4 +1,4 @@
-//! The rule of the shared log, and what each kind of step tells. Used by all of the log.
+//! The rule of the shared log, and what each kind of step shows. Used by all of the log.
 use crate::chunks::Chunk;
 use crate::chunks::rule::{HasText, InChunks, Listed};
 use crate::log::note::Note;
@@ -24,7 +24,7 @@ impl HasText for Piece {
     ghost lasts = { λ p era. Incl (life era) p.until };
 }
 
-/// The rule of its book: it is kept, the cell of each position below the length is filled with a text that lies there as long as the
+/// The rule of its book: it is kept, the cell of each position below the length is filled with a text that is there as long as the
 /// era, and the book has the right to the bytes of each bucket that nobody has taken.
 pub type LogRule<K> = InChunks<Shared<K>, StoredText, Chunk<StoredText>>;
 

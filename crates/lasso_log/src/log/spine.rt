@@ -27,7 +27,7 @@ use std::marker::Model;
 use std::sync::Wait;
 
 /// The length of the list in a history that was seen, as the texts of the opening and those appended, and how many
-/// slots past it are kept for texts to come; and the turns. It lies under a lock. Contracts see the slots kept, the interner, and what
+/// slots past it are kept for texts to come; and the turns. It is under a lock. Contracts see the slots kept, the interner, and what
 /// the spine has seen of the list and of the turns.
 pub struct Spine<K: Key> {
     pub(super) kept: u64,
@@ -132,7 +132,7 @@ impl<K: Key> Log<K> {
         Ok(KeptSlot::new(self.snapshot()))
     }
 
-    /// Keeps one slot more, for a caller that has made cells ahead. Returns `None` where the slot's cell is
+    /// Keeps one slot more, for a caller that has made cells ahead. Returns `None` if the slot's cell is
     /// not made, and nothing changes then; it never does so for one of the sixteen positions of these cells but
     /// 2^64 - 1. It takes no memory and does not wait.
     pub fn reserve_ahead(&self, spine: &mut Spine<K>, ahead: &CellsAhead<K>) -> Option<KeptSlot<K>>
@@ -155,10 +155,10 @@ impl<K: Key> Log<K> {
         Some(KeptSlot::new(self.snapshot()))
     }
 
-    /// Puts the text last, in a slot that was kept. The text must lie where it is as long as the interner's
+    /// Puts the text last, in a slot that was kept. The text must stay where it is as long as the interner's
     /// era. The list of the spine must lack it, and have a key for its length. The text's cell is filled
-    /// before the length moves. It waits where the length isn't the spine's, where the spine keeps no slot,
-    /// where the chunk of its position isn't made, and where the cell is filled.
+    /// before the length moves. It waits if the length isn't the spine's, if the spine keeps no slot,
+    /// if the chunk of its position isn't made, and if the cell is filled.
     pub fn append<R: Wait>(
         &self,
         rt: &R,
@@ -197,7 +197,7 @@ impl<K: Key> Log<K> {
         unreachable!()
     }
 
-    /// The same for a static text, which lasts as long as any era. It is kept where it lies.
+    /// The same for a static text, which lasts as long as any era. It is kept where it is.
     pub fn append_static<R: Wait>(
         &self,
         rt: &R,

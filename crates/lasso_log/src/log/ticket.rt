@@ -94,7 +94,7 @@ impl<'a, K: Key> Plain<Proposal<'a, K>, Note, u64> for Add<K> {
     ghost state = { λ w. Some 0 };
 }
 
-/// Bytes of a bucket that a pass asks for. `site` says where the bucket lies, and `used` how many bytes of it were taken.
+/// Bytes of a bucket that a pass asks for. `site` says where the bucket is, and `used` how many bytes of it were taken.
 #[derive(Drop)]
 pub struct BytesAsked<'a, K: Key> {
     pub bucket: u64,
@@ -118,7 +118,7 @@ impl<'a, K: Key> Plain<BytesAsked<'a, K>, Note, u64> for Add<K> {
     ghost state = { λ a. None };
 }
 
-/// A bucket that a pass asks for, of which `bytes` bytes are taken. `site` says where it lies.
+/// A bucket that a pass asks for, of which `bytes` bytes are taken. `site` says where it is.
 #[derive(Drop)]
 pub struct BucketAsked<'a, K: Key> {
     pub size: u64,

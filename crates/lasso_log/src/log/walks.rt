@@ -29,7 +29,7 @@ impl<K: Key> Log<K> {
 
     /// Takes bytes, at least one, in a bucket that the spine's turns know, and returns the right to fill
     /// them. It returns `None` only if none of these buckets has room for them, and adds no event then. It
-    /// takes no memory. It waits where another thread takes bytes at the same time, and where a bucket is not
+    /// takes no memory. It waits while another thread takes bytes at the same time, and if a bucket is not
     /// in the list yet.
     #[tactic(auto, using(crate::proofs::Tickets::since_trans))]
     pub fn reserve<R: Wait>(
@@ -60,8 +60,8 @@ impl<K: Key> Log<K> {
     }
 
     /// Takes bytes, at least one, in a bucket of the list, the newest first, without the spine, and returns
-    /// the right to fill them. Where it returns `None` no event is added, and nothing is known of the room.
-    /// It takes no memory. It waits where another thread takes bytes at the same time.
+    /// the right to fill them. If it returns `None`, no event is added, and nothing is known of the room.
+    /// It takes no memory. It waits while another thread takes bytes at the same time.
     #[tactic(auto, using(crate::proofs::Tickets::since_trans))]
     pub fn reserve_anywhere<R: Wait>(
         &self,

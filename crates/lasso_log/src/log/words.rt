@@ -27,7 +27,7 @@ use logbook::{Offer, Seen, Word};
 use std::marker::Model;
 
 /// The log of one interner: the word that counts the texts appended, the word that counts the turns, the memory
-/// that the texts lie in, the number of texts at the opening, and the log as it was then. A contract sees which
+/// that the texts are in, the number of texts at the opening, and the log as it was then. A contract sees which
 /// interner it is of.
 pub struct Log<K: Key> {
     // The padding is never read. It keeps the word that every append moves on a cache line of its own, so

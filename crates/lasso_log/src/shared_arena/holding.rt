@@ -17,7 +17,7 @@ use std::alloc::Global;
 use std::marker::{Model, Send, Sync};
 
 /// What is owned of one bucket: the right to take its bytes back, and the right to free them. It ends by
-/// `close` alone. Contracts see where the bucket lies and how many bytes it has.
+/// `close` alone. Contracts see where the bucket is and how many bytes it has.
 pub struct Holding {
     ptr: *mut u8,
     size: usize,
@@ -162,7 +162,7 @@ impl Holdings {
     }
 }
 
-/// Where a bucket lies.
+/// Where a bucket is.
 struct BySite;
 
 impl Names<Holding> for BySite {

@@ -14,7 +14,7 @@ use std::alloc::Global;
 use std::marker::{Model, Send};
 
 /// A bucket with the right to its bytes that were not taken, which follow those that were. Contracts see
-/// where it lies, how many bytes it has, and how many of them were taken.
+/// where it is, how many bytes it has, and how many of them were taken.
 #[derive(Drop)]
 pub struct NewBucket {
     pub(crate) ptr: *mut u8,

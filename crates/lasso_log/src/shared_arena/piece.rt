@@ -1,4 +1,4 @@
-//! Ranges of buckets, which are filled once, and the texts that lie there from then on. Used by the shared arena and
+//! Ranges of buckets, which are filled once, and the texts that are there from then on. Used by the shared arena and
 //! by the log.
 ghost use Rattle.std.specs.Prelude.{◌≡◌, ◌+◌, [], length};
 ghost use base.Fml.{Incl};
@@ -31,8 +31,8 @@ impl Model for Range {
 
 unsafe impl Send for Range {}
 
-/// A text that lies somewhere, as 16 bytes: where, and how long it is. It is a lasting right to read. Contracts see
-/// the text, and the lifetime up to whose end it lies there: an era's, or one without end.
+/// A text in memory, as 16 bytes: where, and how long it is. It is a lasting right to read. Contracts see
+/// the text, and the lifetime up to whose end it is there: an era's, or one without end.
 #[derive(Drop)]
 pub struct Piece {
     ptr: *const u8,
@@ -83,7 +83,7 @@ impl Range {
         self.len
     }
 
-    /// Copies the text in, which lies there until the era ends. The text is as long as the range. It takes no memory and
+    /// Copies the text in, which is there until the era ends. The text is as long as the range. It takes no memory and
     /// does not wait.
     pub fn fill(self, era: &Era, text: &str) -> Piece
         requires era { self.era ≡ era.now.id }
@@ -103,7 +103,7 @@ impl Range {
 }
 
 impl Piece {
-    /// A text that lives as long as the program. It is kept where it lies.
+    /// A text that lives as long as the program. It is kept where it is.
     pub fn from_static(text: &'static str) -> Piece
         ensures until { result.until ≡ [] }
         ensures text { result.text ≡ text.now }
@@ -117,7 +117,7 @@ impl Piece {
         }
     }
 
-    /// The text, lent as long as the era, also where the piece itself is let go. Nothing is copied, and nothing tested.
+    /// The text, lent as long as the era, also if the piece itself is let go. Nothing is copied, and nothing tested.
     #[inline]
     pub fn text<'a>(&self, era: &'a Era) -> &'a str
         requires { Incl (life era.now.id) self.now.until }

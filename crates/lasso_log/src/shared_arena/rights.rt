@@ -1,8 +1,8 @@
-//! Rights to bytes that are lent for an era. None of them has bytes of its own. Used by the ranges, pieces and
+//! Rights to bytes that are lent for an era. None of them takes any bytes. Used by the ranges, pieces and
 //! buckets of the shared arena, and by the chunks' rule, which keeps the rights to bytes that nobody has taken.
 //!
 //! A bucket's room is lent to the era byte by byte. `Free` is the exclusive right to fill places that nobody
-//! has taken, `Owed` the right to take them back once the era is over, and `Lent` says that bytes lie
+//! has taken, `Owed` the right to take them back once the era is over, and `Lent` says that bytes are
 //! somewhere until the era ends: it is lasting, so it may have any number of copies.
 ghost use Rattle.std.specs.Prelude.{◌≡◌, ℕ, ◌+◌, ◌≤◌, ◌<◌, ◌^◌, List, [], ◌∷◌, length};
 ghost use denote.RawPtr.{Ptr, block_ptr, block_of, count_of};
@@ -17,7 +17,7 @@ use core::slots::Slots;
 use std::marker::{Model, PhantomData, Send, Sync};
 use std::slice;
 
-/// The one right to fill `len` places of a block from `start` on. Where it is let go they stay empty for good.
+/// The one right to fill `len` places of a block from `start` on. If it is let go, they stay empty for good.
 #[derive(Drop)]
 pub struct Free {
     pub marker: PhantomData<()>,
@@ -57,7 +57,7 @@ unsafe impl Send for Owed {}
 
 unsafe impl Sync for Owed {}
 
-/// These bytes lie there until the end of a lifetime: that of an era, or one without end.
+/// These bytes are there until the end of a lifetime: that of an era, or one without end.
 pub struct Lent {
     marker: PhantomData<()>,
     pub ghost until: { List ℕ } by { coded_list coded_ℕ },
@@ -91,7 +91,7 @@ impl Free {
         }
     }
 
-    /// Fills the places with these bytes, which lie there until the era ends.
+    /// Fills the places with these bytes, which are there until the era ends.
     pub fn fill(self, era: &Era, ptr: *mut u8, bytes: &[u8]) -> Lent
         requires era { self.era ≡ era.now.id }
         requires address { ptr ≡ block_ptr self.block self.start }
@@ -155,7 +155,7 @@ impl Owed {
 }
 
 impl Lent {
-    /// These bytes, which lie there for ever, and where.
+    /// These bytes, which are there for ever, and where.
     pub fn for_ever(bytes: &'static [u8]) -> (*const u8, Lent)
         ensures until { result.1.until ≡ [] }
         ensures at { (result.1.at ≡ result.0) × LeadsToBlock result.0 }
@@ -178,7 +178,7 @@ impl Lent {
         }
     }
 
-    /// The bytes, where they lie, lent as long as the era.
+    /// The bytes, in place, lent as long as the era.
     pub fn read<'a>(&self, era: &'a Era, ptr: *const u8, len: usize) -> &'a [u8]
         requires until { Incl (life era.now.id) self.now.until }
         requires at { (ptr ≡ self.now.at) × LeadsToBlock ptr }

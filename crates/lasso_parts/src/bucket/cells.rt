@@ -91,7 +91,7 @@ pub fn deallocate<A: Allocator>(alloc: &A, cells: Cells, cells_right: CellsRight
 }
 
 impl Cells {
-    /// The row of the places, and where the first of them lies.
+    /// The row of the places, and where the first of them is.
     pub fn into_row(self) -> (*mut u8, Slots<u8>)
         ensures first { (result.0 ≡ slots_ptr self) × LeadsToBlock result.0 }
         ensures row { result.1 ≡ self }
@@ -100,7 +100,7 @@ impl Cells {
         (ptr, slots)
     }
 
-    /// The places of a row, of which the first lies where the pointer leads.
+    /// The places of a row, of which the first is where the pointer leads.
     pub fn from_row(first: *mut u8, row: Slots<u8>) -> Cells
         requires { (first ≡ slots_ptr row) × LeadsToBlock first }
         ensures { result ≡ row }
@@ -160,7 +160,7 @@ impl Cells {
         self.slots.copy_in(start + rest, &tail);
     }
 
-    /// Where the place at `start` lies, or where the places end.
+    /// Where the place at `start` is, or where the places end.
     #[inline]
     pub(crate) fn address(&self, start: usize) -> *const u8
         requires { start ≤ slots_len self.now }
@@ -169,7 +169,7 @@ impl Cells {
         unsafe { self.ptr.add(start) }
     }
 
-    /// The `len` bytes from `start` on, where they lie.
+    /// The `len` bytes from `start` on, in place.
     #[inline]
     pub(crate) fn read(&self, start: usize, len: usize) -> &[u8]
         requires { AreFilled self.now start (start + len) }

@@ -47,8 +47,8 @@ impl<A: Allocator> Model for RegionRight<A> {
     ghost invariant = { λ r. r.cells_right.alloc ≡ r.alloc };
 }
 
-/// An empty region that takes `capacity` bytes, with the right to free it. It is `FailedAllocation` where
-/// the allocator has no such block, which is so for each capacity above `isize::MAX`.
+/// An empty region that takes `capacity` bytes, with the right to free it. It is `FailedAllocation` if
+/// the allocator has no such block, as for each capacity above `isize::MAX`.
 pub(crate) fn open<A: Allocator>(alloc: A, capacity: usize) -> LassoResult<(Region, RegionRight<A>)>
     requires { 0 < capacity }
     ensures empty { IfOk result (λ r. (r.0.bytes ≡ []) × (r.0.capacity ≡ capacity)) }
@@ -111,7 +111,7 @@ impl Region {
         start
     }
 
-    /// Where the byte at `start` lies, or where the bytes end.
+    /// Where the byte at `start` is, or where the bytes end.
     #[inline]
     pub(crate) fn address(&self, start: usize) -> *const u8
         requires { start ≤ length self.now.bytes }

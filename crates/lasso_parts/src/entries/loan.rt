@@ -1,4 +1,4 @@
-//! The right to read the bytes of an entry's text; the entry's two words say where they lie and how many they
+//! The right to read the bytes of an entry's text; the entry's two words say where they are and how many they
 //! are.
 //!
 //! An arena's bytes are read by a `&` to its regions, so the loan of such a text owns nothing: it is the

@@ -13,7 +13,7 @@ use std::str::from_utf8_unchecked;
 // The fewest bytes of a text whose length is too great for an entry.
 const VAST: usize = 1 << 32;
 
-/// A text outside the entries: where it lies and how many bytes it has. Contracts see the address and the source:
+/// A text outside the entries: where it is and how many bytes it has. Contracts see the address and the source:
 /// the span that an arena copied the text to, or the text that the program keeps for as long as it runs.
 #[derive(Drop)]
 pub struct LongText {
@@ -62,7 +62,7 @@ impl LongText {
         }
     }
 
-    /// A text that lives as long as the program. It is kept where it lies.
+    /// A text that lives as long as the program. It is kept where it is.
     pub fn from_static(text: &'static str) -> Self
         ensures source { result.source ≡ Static text.now }
         ensures bytes { (regions : List Extent) → lent_bytes regions result ≡ text.now }

@@ -38,7 +38,7 @@ impl ShortText {
         }
     }
 
-    /// The text, where it is short.
+    /// The text, if it is short.
     #[inline]
     pub fn of(text: &str) -> Option<Self>
         ensures short { IfSome result (λ s. s ≡ text.now) }

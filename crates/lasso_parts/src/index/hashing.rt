@@ -4,7 +4,7 @@ ghost use Rattle.lasso_parts.specs.Hashing.{text_hash};
 
 use std::hash::BuildHasher;
 
-/// The hash that the hasher gives the text. An index takes it in place of the text where the text's hash is
+/// The hash that the hasher gives the text. An index takes it in place of the text if the text's hash is
 /// needed twice.
 #[inline]
 pub fn hash_text<S: BuildHasher>(hasher: &S, text: &str) -> u64

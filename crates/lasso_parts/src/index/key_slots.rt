@@ -101,7 +101,7 @@ impl<K: Key, A: Allocator> KeySlots<K, A> {
         keys[j]
     }
 
-    /// The key of the slot, or `None` where it is empty.
+    /// The key of the slot, or `None` if it is empty.
     pub fn get(&self, j: usize) -> Option<K>
         requires { j < length self.now.slots }
         ensures { option_map K.number result ≡ slot self.now.slots j }

@@ -4,8 +4,8 @@ ghost use Rattle.lasso_parts.specs.JsonObjectLaws.{ReadsObjectExactly, ReadsObje
 
 use crate::keys::Key;
 
-/// A value is read as a list of texts exactly where it is the array of these texts, each of their positions
-/// has a key, and, where distinct texts are asked for, no two of them are equal.
+/// A value is read as a list of texts exactly if it is the array of these texts, each of their positions
+/// has a key, and, if distinct texts are asked for, no two of them are equal.
 pub fn json_reads_exactly<K: Key>()
     ensures { ReadsExactly K.key_at }
 {}
@@ -22,7 +22,7 @@ pub fn json_faults_exactly<K: Key>()
 {}
 
 /// A value whose members are in the byte order of their texts, as `read_map` says of any that it is given, is
-/// read as a list of texts exactly where it is the object from these texts to their positions plus one, each
+/// read as a list of texts exactly if it is the object from these texts to their positions plus one, each
 /// of the positions has a key, and no two texts are equal.
 pub fn json_object_reads_exactly<K: Key>()
     ensures { ReadsObjectExactly K.key_at }

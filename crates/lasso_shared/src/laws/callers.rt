@@ -28,7 +28,7 @@ pub fn resolved_texts_stay<K: Key>()
     ensures { ResolvedTextsStay K.key_at }
 {}
 
-/// Keys that were returned in one history are equal exactly where their texts are.
+/// Keys that were returned in one history are equal exactly if their texts are.
 pub fn keys_are_equal_where_texts_are<K: Key>()
     ensures { KeysAreEqualWhereTextsAre K.key_at }
 {}

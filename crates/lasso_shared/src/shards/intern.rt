@@ -70,7 +70,7 @@ impl<K: Key, S: BuildHasher + Drop> Shards<K, S> {
     }
 
     /// Returns the text's key, and appends an absent text first. A new text may fail out of memory
-    /// (`FailedAllocation`), and else fails where the key type has no key for its position
+    /// (`FailedAllocation`), and else fails if the key type has no key for its position
     /// (`KeySpaceExhaustion`); no event is added then.
     pub fn intern_static<R: Wait>(
         &self,
@@ -105,8 +105,8 @@ impl<K: Key, S: BuildHasher + Drop> Shards<K, S> {
     }
 
     /// Returns the text's key, and appends a copy of an absent text first. A new text may fail out of memory
-    /// (`FailedAllocation`); else it fails where the memory limit leaves no room for its bytes
-    /// (`MemoryLimitReached`), or where the key type has no key for its position (`KeySpaceExhaustion`). In
+    /// (`FailedAllocation`); else it fails if the memory limit leaves no room for its bytes
+    /// (`MemoryLimitReached`), or if the key type has no key for its position (`KeySpaceExhaustion`). In
     /// the last case its bytes may stay taken; otherwise no event is added.
     pub fn intern_copied<R: Wait>(&self, rt: &R, pass: &mut Pass<K>, text: &str) -> LassoResult<K>
         requires { pass.old.of ≡ self.now.log }

@@ -38,7 +38,7 @@ impl<K: Key, S: BuildHasher + Drop> Shards<K, S> {
         limit
     }
 
-    /// Replaces the most bytes that all buckets may take. It takes no memory. It waits for the spine, and does not return where the
+    /// Replaces the most bytes that all buckets may take. It takes no memory. It waits for the spine, and does not return if the
     /// turn word is 2^64 - 1.
     pub fn set_limit<R: Wait>(&self, rt: &R, pass: &mut Pass<K>, limit: u64)
         requires { pass.old.of ≡ self.now.log }

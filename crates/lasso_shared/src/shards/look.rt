@@ -194,7 +194,7 @@ impl<K: Key, S: BuildHasher + Drop> Shards<K, S> {
         None
     }
 
-    /// The text's key, or `None` if it is not in the list. If no hint of the pass tells it, no text of its
+    /// The text's key, or `None` if it is not in the list. If no hint of the pass leads to it, no text of its
     /// shard is interned meanwhile. It takes no memory.
     pub fn get<R: Wait>(&self, rt: &R, pass: &mut Pass<K>, text: &str) -> Option<K>
         requires { pass.old.of ≡ self.now.log }

@@ -5,7 +5,7 @@ ghost use Rattle.lasso_shared.specs.NewTexts.{text_of};
 /// A text to intern.
 #[derive(Clone, Copy)]
 pub(super) enum NewText<'a> {
-    /// It is kept where it lies.
+    /// It is kept where it is.
     Static(&'static str),
     /// Its bytes are copied into a bucket.
     Copied(&'a str),

@@ -35,8 +35,8 @@ impl<K: Key, S: BuildHasher + Drop> Shards<K, S> {
     }
 
     /// The same of an interner that opens with the texts of a distinct list that fits the keys, in order, all
-    /// copied into one bucket of just their bytes (4096 where they have none), with no limit below the
-    /// greatest number. It fails only out of memory (`FailedAllocation`), also where the texts have more
+    /// copied into one bucket of just their bytes (4096 if they have none), with no limit below the
+    /// greatest number. It fails only out of memory (`FailedAllocation`), also if the texts have more
     /// bytes than a `usize` counts.
     pub fn of_texts(alloc: Global, hasher: S, texts: &[&str]) -> LassoResult<Shards<K, S>>
         requires distinct { IsDistinct (map (λ t. t.now) texts.now) }

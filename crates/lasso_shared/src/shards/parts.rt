@@ -8,7 +8,7 @@ use lasso_parts::keys::Key;
 use std::alloc::Global;
 use std::hash::BuildHasher;
 
-/// The log of an interner, with the memory that its texts lie in, and its hasher and allocator.
+/// The log of an interner, with the memory that its texts are in, and its hasher and allocator.
 #[derive(Drop)]
 pub struct Parts<K: Key, S: BuildHasher + Drop> {
     pub log: Log<K>,

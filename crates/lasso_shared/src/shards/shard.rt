@@ -1,4 +1,4 @@
-//! What lies under the locks: a shard, and the spine with the shards' numbers.
+//! What is under the locks: a shard, and the spine with the shards' numbers.
 ghost use Rattle.std.specs.Prelude.{◌≡◌, IfOk, IfErr};
 ghost use Rattle.lasso_parts.specs.declared.util.LassoErrorKind.TheVariants.{FailedAllocation};
 

@@ -1,4 +1,4 @@
-//! What the locks of one interner are told apart by, and the shard that a text is of.
+//! What distinguishes the locks of interners, and the shard that a text is of.
 ghost use Rattle.std.specs.Prelude.{◌≡◌, ◌<◌};
 ghost use Rattle.lasso_shared.specs.Shards.{shard_of};
 

@@ -1,5 +1,5 @@
 //! An interner that threads share as debug text: its texts, as a walk made now has them. Nothing is locked. Usage and
-//! limit lie under a lock, so they are left out.
+//! limit are under a lock, so they are left out.
 use crate::threaded::ThreadedRodeo;
 use lasso_parts::keys::Key;
 use std::fmt;

@@ -25,8 +25,8 @@ use std::sync::Wait;
 
 impl<K: Key, S: BuildHasher + Drop> ThreadedRodeo<K, S> {
     /// The same texts under the same keys, frozen: keys of texts are still found, by the same hasher. All
-    /// texts are copied, static ones too, into one bucket of just their bytes (4096 where they have none),
-    /// and no limit refuses it. It fails only out of memory (`FailedAllocation`), also where the texts have
+    /// texts are copied, static ones too, into one bucket of just their bytes (4096 if they have none),
+    /// and no limit refuses it. It fails only out of memory (`FailedAllocation`), also if the texts have
     /// more bytes than a `usize` counts; the interner is gone then too. Nobody else has the interner any
     /// more, so it waits for nobody. The pass has afterwards seen just the list of the reader.
     ///
@@ -61,8 +61,8 @@ impl<K: Key, S: BuildHasher + Drop> ThreadedRodeo<K, S> {
     }
 
     /// The same texts under the same keys, frozen: keys of texts are still found, by the same hasher. All
-    /// texts are copied, static ones too, into one bucket of just their bytes (4096 where they have none),
-    /// and no limit refuses it. It fails only out of memory (`FailedAllocation`), also where the texts have
+    /// texts are copied, static ones too, into one bucket of just their bytes (4096 if they have none),
+    /// and no limit refuses it. It fails only out of memory (`FailedAllocation`), also if the texts have
     /// more bytes than a `usize` counts; the interner is gone then too. It waits for nobody.
     ///
     /// ```rust

@@ -14,8 +14,8 @@ use std::sync::Wait;
 
 impl<K: Key, S: BuildHasher + Drop> ThreadedRodeo<K, S> {
     /// Returns the text's key, and appends a copy of an absent text first. Interning a text that the pass had
-    /// seen never fails. A new one may fail out of memory (`FailedAllocation`); else it fails where no bucket
-    /// has room for its bytes and the memory limit leaves none (`MemoryLimitReached`); or else where the key
+    /// seen never fails. A new one may fail out of memory (`FailedAllocation`); else it fails if no bucket
+    /// has room for its bytes and the memory limit leaves none (`MemoryLimitReached`); or else if the key
     /// type has no key for its position (`KeySpaceExhaustion`), and its bytes stay taken then. The first two
     /// errors add no event. It waits for those who write in the text's shard, and for the spine.
     ///
@@ -44,7 +44,7 @@ impl<K: Key, S: BuildHasher + Drop> ThreadedRodeo<K, S> {
 
     /// Returns the text's key, and appends an absent text first. The text is kept as it is, with no copy, so
     /// the memory limit never refuses it. Interning a text that the pass had seen never fails. A new one may
-    /// fail out of memory (`FailedAllocation`), and else fails where the key type has no key for its position
+    /// fail out of memory (`FailedAllocation`), and else fails if the key type has no key for its position
     /// (`KeySpaceExhaustion`); no event is added then. It waits for those who write in the text's shard, and
     /// for the spine.
     ///

@@ -75,14 +75,14 @@ impl<K: Key, S: BuildHasher + Drop> ThreadedRodeo<K, S> {
 
 impl<K: Key, S: BuildHasher + Default + Drop> ThreadedRodeo<K, S> {
     /// An interner with the texts of an object, each at the position that its number is the one after, or
-    /// with those of an array, in order. All are copied into one bucket of just their bytes (4096 where they
+    /// with those of an array, in order. All are copied into one bucket of just their bytes (4096 if they
     /// have none), and there is no limit below the greatest number. The first faulty member or item decides.
     /// A member, in the byte order of the texts: it is no whole number from 1 to the count of members
     /// (`NotAPosition`), or the key type has no key for its position (`TooMany`), or an earlier member has
     /// the position (`Taken`). An item: it is no text (`NotText`), or an earlier item has its text
     /// (`Doubled`), or its position has no key (`TooMany`). A value that is neither is `NotAnObject`. It may
-    /// fail out of memory (`Lasso`) unless the value is neither or its first member or item is faulty; so it
-    /// is where the texts have more bytes than a `usize` counts.
+    /// fail out of memory (`Lasso`) unless the value is neither or its first member or item is faulty; that
+    /// error also says that the texts have more bytes than a `usize` counts.
     ///
     /// ```rust
     /// let value = Value::from_str(rt.alloc(), r#"{"a":2,"b":1}"#)?;

@@ -56,9 +56,9 @@ impl<K: Key, S: BuildHasher + Drop> ThreadedRodeo<K, S> {
         limit as usize
     }
 
-    /// Sets the most bytes that all buckets may take. It may lie below what they take already: they stay, and
+    /// Sets the most bytes that all buckets may take. It may be below what they take already: they stay, and
     /// copied texts that need another bucket are then refused. The texts stay. It takes no memory and never
-    /// fails. It waits for the spine, and does not return where limits and buckets came 2^64 - 1 times
+    /// fails. It waits for the spine, and does not return if limits and buckets came 2^64 - 1 times
     /// before.
     ///
     /// ```rust

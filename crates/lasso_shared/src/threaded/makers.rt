@@ -55,7 +55,7 @@ impl<K: Key> ThreadedRodeo<K, FixedState> {
         ThreadedRodeo::with_capacity_and_hasher(alloc, capacity, FixedState::new())
     }
 
-    /// An interner of default capacity, whose buckets take at most `limits` in bytes. The limit may lie below
+    /// An interner of default capacity, whose buckets take at most `limits` in bytes. The limit may be below
     /// the 4096 bytes of the first bucket. It fails only out of memory (`FailedAllocation`).
     ///
     /// ```rust
@@ -72,7 +72,7 @@ impl<K: Key> ThreadedRodeo<K, FixedState> {
     }
 
     /// An interner whose first bucket has the bytes of `capacity`, and whose buckets take at most `limits` in
-    /// bytes. The limit may lie below the first bucket's bytes. The texts of `capacity` are a hint, as
+    /// bytes. The limit may be below the first bucket's bytes. The texts of `capacity` are a hint, as
     /// `with_capacity` has it. It fails only out of memory (`FailedAllocation`).
     ///
     /// ```rust
@@ -137,7 +137,7 @@ impl<K: Key, S: BuildHasher + Drop> ThreadedRodeo<K, S> {
     }
 
     /// An interner whose first bucket has the bytes of `capacity`, whose buckets take at most `limits` in
-    /// bytes, and whose indexes ask the hasher. The limit may lie below the first bucket's bytes. The texts
+    /// bytes, and whose indexes ask the hasher. The limit may be below the first bucket's bytes. The texts
     /// of `capacity` are a hint, as `with_capacity` has it. It fails only out of memory (`FailedAllocation`).
     ///
     /// ```rust

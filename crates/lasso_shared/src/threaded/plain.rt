@@ -1,5 +1,5 @@
 //! Plain calls of an interner that threads share. Each is the call of some new pass, which is gone
-//! afterwards. So a clause explains each reply by a legal history of its own; what holds across calls is said
+//! afterwards. So a clause explains each reply by some legal history; what holds across calls is said
 //! by the calls with a pass, and tested of these. A call that adds no event needs no pass at all: there is
 //! always a number that no event of the history has.
 ghost use Rattle.std.specs.Prelude.{◌≡◌, ◌≤◌, ℕ, Ok, option_map};
@@ -24,8 +24,8 @@ impl<K: Key, S: BuildHasher + Drop> ThreadedRodeo<K, S> {
     }
 
     /// Returns the text's key, and appends a copy of an absent text first. A new one may fail out of memory
-    /// (`FailedAllocation`); else it fails where no bucket has room for its bytes and the memory limit leaves
-    /// none (`MemoryLimitReached`); or else where the key type has no key for its position
+    /// (`FailedAllocation`); else it fails if no bucket has room for its bytes and the memory limit leaves
+    /// none (`MemoryLimitReached`); or else if the key type has no key for its position
     /// (`KeySpaceExhaustion`), and its bytes stay taken then. The first two errors add no event. It waits for
     /// those who write in the text's shard, and for the spine.
     ///
@@ -58,7 +58,7 @@ impl<K: Key, S: BuildHasher + Drop> ThreadedRodeo<K, S> {
 
     /// Returns the text's key, and appends an absent text first. The text is kept as it is, with no copy, so
     /// the memory limit never refuses it. A new one may fail out of memory (`FailedAllocation`), and else
-    /// fails where the key type has no key for its position (`KeySpaceExhaustion`); no event is added then.
+    /// fails if the key type has no key for its position (`KeySpaceExhaustion`); no event is added then.
     /// It waits for those who write in the text's shard, and for the spine.
     ///
     /// ```rust
@@ -301,9 +301,9 @@ impl<K: Key, S: BuildHasher + Drop> ThreadedRodeo<K, S> {
         self.max_memory_usage_as(rt, &mut pass)
     }
 
-    /// Sets the most bytes that all buckets may take. It may lie below what they take already: they stay, and
+    /// Sets the most bytes that all buckets may take. It may be below what they take already: they stay, and
     /// copied texts that need another bucket are then refused. The texts stay. It takes no memory and never
-    /// fails. It waits for the spine, and does not return where limits and buckets came 2^64 - 1 times
+    /// fails. It waits for the spine, and does not return if limits and buckets came 2^64 - 1 times
     /// before.
     ///
     /// ```rust

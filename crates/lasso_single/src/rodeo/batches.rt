@@ -13,11 +13,11 @@ use std::hash::BuildHasher;
 
 impl<K: Key, S: BuildHasher, A: Allocator> Rodeo<K, S, A> {
     /// Appends to `keys` the key of each text in order, or `None` for an absent one: what `get` returns.
-    /// Texts are looked up in batches, which is faster than one after another where they lie out of the
+    /// Texts are looked up in batches, which is faster than one after another if they are out of the
     /// caches.
     ///
-    /// The only error is `FailedAllocation`, where there is no room in `keys` for all of them; `keys` has
-    /// the same items then.
+    /// The only error is `FailedAllocation`, if `keys` has no room for all of them and can't grow. It keeps its
+    /// items then.
     ///
     /// ```rust
     /// let mut rodeo = Rodeo::default(rt.alloc())?;
@@ -59,8 +59,8 @@ impl<K: Key, S: BuildHasher, A: Allocator> Rodeo<K, S, A> {
     /// Appends to `texts` the text of each key in order: what `resolve` returns. Each key must stand for a
     /// text of this interner: `contains_keys` is the test.
     ///
-    /// The only error is `FailedAllocation`, where there is no room in `texts` for all of them; `texts` has
-    /// the same items then.
+    /// The only error is `FailedAllocation`, if `texts` has no room for all of them and can't grow. It keeps its
+    /// items then.
     ///
     /// ```rust
     /// let mut rodeo = Rodeo::default(rt.alloc())?;

@@ -10,7 +10,7 @@ use std::alloc::Allocator;
 use std::hash::BuildHasher;
 
 impl<K: Key, S: BuildHasher, A: Allocator> Rodeo<K, S, A> {
-    /// Sets the most bytes that all buckets may take. It may lie below what they take already: they stay,
+    /// Sets the most bytes that all buckets may take. It may be below what they take already: they stay,
     /// and texts that need another bucket are then refused. The texts stay.
     ///
     /// ```rust

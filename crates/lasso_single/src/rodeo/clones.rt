@@ -15,7 +15,7 @@ use std::hash::BuildHasher;
 
 impl<K: Key, S: BuildHasher + Clone, A: Allocator + Clone> Rodeo<K, S, A> {
     /// An interner with the same texts under the same keys, all copied, static ones too, into one bucket of
-    /// just their bytes (4096 where they have none). Its limit is this one's, or that size where it is
+    /// just their bytes (4096 if they have none). Its limit is this one's, or that size if it is
     /// greater. Its index asks a clone of the hasher. No limit refuses it: the only error is
     /// `FailedAllocation`, also when a `usize` can't count the texts' bytes.
     ///

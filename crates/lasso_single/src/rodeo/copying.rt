@@ -41,7 +41,7 @@ impl<K: Key, S: BuildHasher, A: Allocator + Clone> CopyTarget for Rodeo<K, S, A>
 
 impl<K: Key, S: BuildHasher + Drop, A: Allocator + Clone> Rodeo<K, S, A> {
     /// An interner with the texts of a distinct list that fits the keys, in order, all copied into one bucket
-    /// of just their bytes (4096 where they have none), with the limit `usize::MAX`. The only error is
+    /// of just their bytes (4096 if they have none), with the limit `usize::MAX`. The only error is
     /// `FailedAllocation`, also when a `usize` can't count the texts' bytes.
     pub(crate) fn of_texts(alloc: A, hasher: S, texts: &[&str]) -> LassoResult<Self>
         requires distinct { IsDistinct (map (λ t. t.now) texts.now) }

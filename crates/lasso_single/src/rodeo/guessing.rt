@@ -13,7 +13,7 @@ use std::alloc::Allocator;
 use std::hash::BuildHasher;
 
 impl<K: Key, S: BuildHasher, A: Allocator> Rodeo<K, S, A> {
-    /// Guesses where the first texts are, `TOGETHER` of them at most, and `usize::MAX` where it has no
+    /// Guesses where the first texts are, `TOGETHER` of them at most, and `usize::MAX` if it has no
     /// guess. Each step is taken for all of them before the next, so that the processor waits for their
     /// memory together.
     #[inline(never)]

@@ -34,7 +34,7 @@ impl<K: Key, S: BuildHasher, A: Allocator> Rodeo<K, S, A> {
 
 impl<K: Key, S: BuildHasher + Default + Drop, A: Allocator + Clone> Rodeo<K, S, A> {
     /// An interner with the texts of an array, in order, all copied into one bucket of just their bytes (4096
-    /// where they have none), and the limit `usize::MAX`. The first faulty item decides: it is no text
+    /// if they have none), and the limit `usize::MAX`. The first faulty item decides: it is no text
     /// (`NotText`), or an earlier item has its text (`Doubled`), or the key type has no key for its position
     /// (`TooMany`). A value that is no array is `NotAnArray`. It may run out of memory (`Lasso`) unless the
     /// value is no array or its first item is faulty, and it does when a `usize` can't count the texts'
