@@ -66,7 +66,7 @@ codes: $(CODES)
 	@echo "program: $(CURDIR)/$(CODES)"
 
 $(CODES): $(SOURCES)
-	$(call build,lasso_codes,run)
+	$(call build,lasso_codes,run -- --version)
 	@touch $(CODES)
 
 #: make c                            proves the library for C if the sources changed, builds it, and prints its paths
@@ -109,17 +109,20 @@ deb: all
 
 #:
 #: Prove and test:
-#: make check CRATE=name             proves one crate, over the libraries below it, and runs its tests
+#: make check CRATE=name             proves one crate, over the libraries below it, and runs its tests, or the cases of a program that has some
 check: crate toolchain
 	@cd crates/$(CRATE) && rt check && if grep -rqF '#[test]' src; then rt test; fi
+	@if [ -d "cases/$(CRATE)" ]; then (cd crates/$(CRATE) && { rt run < /dev/null > /dev/null || [ -e out/$(CRATE).stamp ]; }) && cases/run $(CRATE); fi
 
-#: make test                         the gate: make docs, then rt ci, which proves all that its kit has not kept, and runs every test
+#: make test                         the gate: make docs; then rt ci, which proves all that its kit has not kept, and runs every test; then
+#:                                   the cases over the programs that it built
 test: toolchain docs
 	RT_JOBS=$${RT_JOBS-$$(.ci/jobs)} rt ci
+	cases/run
 
 #: make docs                         checks the documents: links, names of files and clauses, lengths of lines, parts made from the
-#:                                   sources; that manual pages and completions have the options of the programs; and that each wrong
-#:                                   body can be applied
+#:                                   sources; that manual pages and completions have the options of the programs; that cases find what
+#:                                   is wrong; and that each wrong body can be applied
 docs:
 	docs/check --try
 	docs/check
@@ -127,6 +130,7 @@ docs:
 	docs/contracts
 	install/check --try
 	install/check
+	cases/run --try
 	wrong-bodies/run --dry
 
 #: make examples                     builds the callers in C, Rust and Python and the recipes for many machines, runs them, and tries an

@@ -30,12 +30,13 @@ class Edit:
     function: str
     changes: list
     tests: list = field(default_factory=list)
+    cases: list = field(default_factory=list)
     examples: list = field(default_factory=list)
 
 
 def read_edit(path, crate):
     """The edit that stands in the file."""
-    lines = {"file": [], "function": [], "test": [], "example": [], "old": [], "new": []}
+    lines = {"file": [], "function": [], "test": [], "case": [], "example": [], "old": [], "new": []}
     name = os.path.basename(path)
     with open(path, encoding="utf-8") as source:
         for line in source.read().split("\n"):
@@ -47,10 +48,10 @@ def read_edit(path, crate):
     if len(lines["file"]) != 1 or len(lines["function"]) > 1 or not lines["old"] or len(lines["old"]) != len(lines["new"]):
         raise Unfit(f"{crate}/{name} is not an edit")
     function = f"{crate}::{lines['function'][0]}" if lines["function"] else ""
-    tests, examples = ([tuple(words.split(" ")) for words in lines[kind]] for kind in ("test", "example"))
-    if any(len(words) != 2 for words in tests + examples):
-        raise Unfit(f"{crate}/{name}: a test and an example have two words each")
-    return Edit(crate, name, lines["file"][0], function, list(zip(lines["old"], lines["new"])), tests, examples)
+    tests, cases, examples = ([tuple(words.split(" ")) for words in lines[kind]] for kind in ("test", "case", "example"))
+    if any(len(words) != 2 for words in tests + cases + examples):
+        raise Unfit(f"{crate}/{name}: a test, a case and an example have two words each")
+    return Edit(crate, name, lines["file"][0], function, list(zip(lines["old"], lines["new"])), tests, cases, examples)
 
 
 def edits_in(crate, folder):
@@ -93,8 +94,8 @@ def test_grounds(edit):
     """Refuses an edit of a clause that some history explains where it names neither an example nor a test; and an example that is not there."""
     with open(os.path.join(HERE, "crates", edit.crate, edit.file), encoding="utf-8") as source:
         contract = contract_before(edit, source.read()) if edit.file.startswith("src/") else ""
-    if BY_SOME_HISTORY.search(contract) and not edit.examples and not edit.tests:
-        raise Unfit(f"{edit.crate}/{edit.name}: some history may explain this reply too: name an example that refutes it, or a test")
+    if BY_SOME_HISTORY.search(contract) and not edit.examples and not edit.tests and not edit.cases:
+        raise Unfit(f"{edit.crate}/{edit.name}: some history may explain this reply too: name an example that refutes it, a test or a case")
     for file, name in edit.examples:
         with open(os.path.join(HERE, "crates", EXAMPLES, "specs", f"{file}.antt"), encoding="utf-8") as source:
             if not re.search(rf"^  pub {re.escape(name)} :", source.read(), re.MULTILINE):
@@ -147,7 +148,7 @@ def test_function(edit):
 
 
 def test_names(edit):
-    """Refuses an edit that names a function or a test which does not exist."""
+    """Refuses an edit that names a function, a test or a case which does not exist."""
     if edit.function and edit.file.startswith("src/"):
         test_function(edit)
     for crate, test in edit.tests:
@@ -155,6 +156,15 @@ def test_names(edit):
         named = [path for path in glob.glob(f"{HERE}/crates/{crate}/src/**/*.rt", recursive=True) if has_function(path, name)]
         if not any(module in path for path in named for module in modules[:1] or [""]):
             raise Unfit(f"{edit.crate}/{edit.name}: {crate} has no test {test}")
+    for program, case in edit.cases:
+        if not any(has_line(path, f"case {case}") for path in glob.glob(f"{HERE}/cases/{program}/*.txt")):
+            raise Unfit(f"{edit.crate}/{edit.name}: {program} has no case {case}")
+
+
+def has_line(path, line):
+    """Whether the file has this line."""
+    with open(path, encoding="utf-8") as source:
+        return line in source.read().split("\n")
 
 
 def has_function(path, name):

@@ -23,8 +23,6 @@ pub mod program;
 pub mod progress;
 pub mod reading;
 pub mod streams;
-#[cfg(test)]
-mod tests;
 pub mod whole;
 
 use arguments::{ArgumentError, Request, command_of};

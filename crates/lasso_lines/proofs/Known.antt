@@ -4,7 +4,7 @@
 -- Then they are known after it too. So the relations of two calls compose, and their parts are joined.
 use Rattle.std.proofs.Common.{ℕ, ◌≡◌, ◌+◌, ◌-◌, List, [], ◌∷◌, ◌++◌, length, take, Option, Some, Result, Ok, Err, OnOk, IfErr, ap, sym, subst, ◌∙◌, append_assoc, append-nil, arith}
 use Rattle.std.proofs.lemmas.List.{take_all, length-append}
-use Rattle.lasso_lines.specs.Stream.{Begins, Grows, OnlyGrows, Stays, written}
+use Rattle.lasso_lines.specs.Stream.{Begins, Grows, OnlyGrows, Stays}
 use Rattle.lasso_lines.specs.Answer.{WritesAll, IsAnswerFault}
 use Rattle.lasso_lines.specs.declared.fault.RunFault.{RunFault}
 use Rattle.lasso_lines.specs.declared.fault.RunFault.TheVariants.{WriteFailed}
@@ -84,13 +84,3 @@ on_ok (Err fault) P p = tt
 pub if_err : (result : Result (Unit {0}) RunFault) (P : RunFault → Type 0) → ((fault : RunFault) → P fault) → IfErr result P
 if_err (Ok x) P p = tt
 if_err (Err fault) P p = p fault
-
--- a memory writer that was empty has delivered exactly the part
-pub delivered_part : (before pending after pending' : Option (List ℕ)) (bytes : List ℕ) (P : List ℕ → Type 0) → before ≡ Some [] → pending ≡ Some [] → after ≡ Some bytes → pending' ≡ Some [] → Grows (written before pending) (written after pending') P → P bytes
-delivered_part before pending after pending' bytes P none none' all all' grown =
-    let start : written before pending ≡ Some [] = ap (λ d. written d pending) none ∙ ap (λ p. written (Some []) p) none' in
-    let finish : written after pending' ≡ Some (bytes ++ []) = ap (λ d. written d pending') all ∙ ap (λ p. written (Some bytes) p) all' in
-    let w = grown [] start in
-    let told : written after pending' ≡ Some w.0 = w.1 in
-    let same : w.0 ≡ bytes ++ [] = cc in
-    subst P (same ∙ append-nil bytes) w.2

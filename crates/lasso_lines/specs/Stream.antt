@@ -53,10 +53,3 @@ pub record WriterView : Type 0 where
   pub pending : Option (List ℕ)
   pub failures : ℕ
   pub room : ℕ
-
--- a writer into memory: the bytes that it has taken and delivered, the number of failed calls, and how many
--- bytes `take_line` has room for
-pub record MemoryWriterView : Type 0 where
-  pub bytes : List ℕ
-  pub failures : ℕ
-  pub room : ℕ

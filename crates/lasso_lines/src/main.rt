@@ -9,7 +9,6 @@ mod cutting;
 pub mod engine;
 pub mod failures;
 pub mod fault;
-pub mod memory;
 mod ordered;
 pub mod program;
 mod shares;
@@ -17,8 +16,6 @@ mod sorting;
 pub mod standard;
 pub mod stream;
 mod stretches;
-#[cfg(test)]
-mod tests;
 pub mod workers;
 
 use fault::RunFault;

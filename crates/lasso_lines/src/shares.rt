@@ -11,16 +11,12 @@ ghost use Rattle.lasso_lines.specs.declared.fault.RunFault.TheVariants.{Refused}
 ghost use Rattle.lasso_parts.specs.declared.util.LassoErrorKind.TheVariants.{FailedAllocation};
 
 use crate::fault::RunFault;
-use crate::workers::Gate;
 use lasso_log::log::{Pass, Snapshot};
 use lasso_parts::keys::Spur;
 use lasso_parts::util::{LassoError, LassoErrorKind};
 use lasso_shared::threaded::SpurThreadedRodeo;
 use std::sync::Wait;
 use std::thread::{Threads, map_indices};
-
-#[cfg(test)]
-mod tests;
 
 // A refused line: its number, counted from 1, and the error.
 type NumberedError = (u64, LassoError);
@@ -36,13 +32,12 @@ struct Share {
 // Interns the lines with the workers. Returns the positions of the lines' texts, worker by worker, in the
 // list that the pass has seen at the end. If lines were refused, returns the error of the lowest one; all
 // lines before it are in that list. Out of memory at no line is reported as line 0.
-pub(crate) fn share_out<R: AllocGlobal + Threads + Wait + Sync, G: Gate>(
+pub(crate) fn share_out<R: AllocGlobal + Threads + Wait + Sync>(
     rt: &R,
     rodeo: &SpurThreadedRodeo,
     pass: &mut Pass<Spur>,
     lines: &[&str],
     workers: usize,
-    gate: &G,
 ) -> Result<Vec<u32>, RunFault>
     requires some { 0 < workers }
     requires of { pass.old.of ≡ rodeo.now }
@@ -55,7 +50,7 @@ pub(crate) fn share_out<R: AllocGlobal + Threads + Wait + Sync, G: Gate>(
     let work = move |worker: usize| -> Share
         requires { 0 < workers }
         ensures { IsShareOf rodeo.entry.now (map (λ t. t.now) lines.entry.now) worker workers result.known result.codes }
-    { intern_share(rt, rodeo, lines, worker, workers, gate) };
+    { intern_share(rt, rodeo, lines, worker, workers) };
     let Ok(shares) = map_indices(rt, rt.alloc(), workers, &work) else {
         return Err(RunFault::no_memory(0));
     };
@@ -105,19 +100,18 @@ fn lower(lowest: Option<NumberedError>, other: &NumberedError) -> NumberedError
 }
 
 // Interns the worker's lines with a new pass.
-fn intern_share<R: AllocGlobal + Wait, G: Gate>(
+fn intern_share<R: AllocGlobal + Wait>(
     rt: &R,
     rodeo: &SpurThreadedRodeo,
     lines: &[&str],
     worker: usize,
     workers: usize,
-    gate: &G,
 ) -> Share
     requires { 0 < workers }
     ensures { IsShareOf rodeo.now (map (λ t. t.now) lines.now) worker workers result.known result.codes }
 {
     let mut pass = rodeo.pass();
-    let codes = intern_by(rt, rodeo, &mut pass, lines, worker, workers, gate);
+    let codes = intern_by(rt, rodeo, &mut pass, lines, worker, workers);
     Share {
         known: pass.snapshot(),
         codes,
@@ -126,14 +120,13 @@ fn intern_share<R: AllocGlobal + Wait, G: Gate>(
 
 // Interns the worker's lines, at the positions `worker`, `worker + workers`, `worker + 2 * workers` and so
 // on. Returns the positions of their texts. Stops at the first refused line and returns its error.
-fn intern_by<R: AllocGlobal + Wait, G: Gate>(
+fn intern_by<R: AllocGlobal + Wait>(
     rt: &R,
     rodeo: &SpurThreadedRodeo,
     pass: &mut Pass<Spur>,
     lines: &[&str],
     worker: usize,
     workers: usize,
-    gate: &G,
 ) -> Result<Vec<u32>, NumberedError>
     requires some { 0 < workers }
     requires of { pass.old.of ≡ rodeo.now }
@@ -144,7 +137,6 @@ fn intern_by<R: AllocGlobal + Wait, G: Gate>(
     let mut codes = Vec::new(rt.alloc());
     let mut at = worker;
     while at < lines.len() {
-        gate.enter(worker);
         let number = (at as u64).saturating_add(1);
         let line = lines[at];
         intern_line(rt, rodeo, pass, line, number, &mut codes)?;

@@ -2,9 +2,6 @@
 ghost use Rattle.std.specs.Prelude.{◌≡◌, ℕ, ◌+◌, ◌-◌, ◌<◌, ◌≤◌, ◌↔◌, ◌++◌, ◌∷◌, [], false, IsTrue, Some, IfOk, OnOk, MatchResult, drop, take, length, vec_capacity};
 ghost use Rattle.lasso_lines.specs.Stream.{Begins, Grows, Stays, OnlyGrows, written};
 
-#[cfg(test)]
-mod tests;
-
 use crate::failures::Failures;
 use crate::stream::{ByteReader, ByteWriter, StreamError, push_line};
 use std::alloc::{AllocError, Global};
@@ -119,22 +116,6 @@ impl<W: Write + Drop> StandardWriter<W> {
             },
             failures: Failures::none(),
         })
-    }
-
-    /// Returns the inner writer. Pending bytes are lost.
-    pub fn into_inner(self) -> W
-        ensures { W.contents result ≡ self.delivered }
-    {
-        let StandardWriter {
-            outgoing,
-            failures: _,
-        } = self;
-        let Outgoing {
-            inner,
-            buffer: _,
-            sent: _,
-        } = outgoing;
-        inner
     }
 }
 
