@@ -70,6 +70,7 @@ pub fn count_next<S: BuildHasher, A: Allocator + Clone>(
     ensures kept_counts { OnErr result (counts.new.items ≡ counts.old.items) }
     ensures refused { IfErr result (IsRefused rodeo.old text.now) }
     ensures memory { IfErr result (RefusesNew rodeo.old counts.new text.now) }
+    ensures room { KeepsRoom rodeo.old counts.old text.now counts.new }
 {
     add_text(rodeo, text, batch, counts)?;
     Ok(())
