@@ -93,21 +93,18 @@ impl Batch {
         self.taken = self.taken.wrapping_add(1);
     }
 
-    // The guess at the next text, or `None` if nothing is counted.
+    // The guess at the next text, or `usize::MAX` for none.
     #[inline(always)]
-    fn next(&mut self) -> Option<usize> {
+    fn next(&mut self) -> usize {
         let place = self.taken % TOGETHER;
         self.taken = self.taken.wrapping_add(1);
-        if self.rests {
-            return None;
-        }
-        Some(self.guesses[place])
+        self.guesses[place]
     }
 
-    // Counts a present text of `len` bytes at that position.
+    // Counts a present text of `len` bytes at that position, unless nothing is counted.
     #[inline(always)]
     fn count(&mut self, position: usize, len: usize) {
-        if position.saturating_mul(bytes_of(len)) >= NEAR_BYTES {
+        if !self.rests && position.saturating_mul(bytes_of(len)) >= NEAR_BYTES {
             self.far = self.far.wrapping_add(1);
         }
     }
@@ -143,9 +140,7 @@ pub fn get_next<K: Key, S: BuildHasher, A: Allocator>(
 ) -> Option<K>
     ensures { result ≡ key_of K.key_at rodeo.now.texts text.now }
 {
-    let Some(guess) = batch.next() else {
-        return rodeo.get(text);
-    };
+    let guess = batch.next();
     if rodeo.is_at(guess, text) {
         batch.count(guess, text.len());
         return K::try_from_usize(guess);
@@ -165,9 +160,7 @@ pub fn intern_next<K: Key, S: BuildHasher, A: Allocator + Clone>(
 ) -> LassoResult<K>
     ensures { InternsIn K.key_at rodeo.old text.now result rodeo.new }
 {
-    let Some(guess) = batch.next() else {
-        return rodeo.try_get_or_intern(text);
-    };
+    let guess = batch.next();
     if rodeo.is_at(guess, text) {
         batch.count(guess, text.len());
         return Ok(K::try_from_usize(guess).unwrap());
