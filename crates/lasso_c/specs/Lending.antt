@@ -23,7 +23,3 @@ holding l interner = record { slot = with_interner l.slot interner; live = true;
 -- a handle ends with the last value behind r in it, and as it was if it lent none
 abbrev pub LendsHeld : MutBor Lasso → Option (MutBor the_row.Denot) → Fml
 LendsHeld l r = LendsIf handle.the_row the_row l r (holding l.now) l.now
-
--- a handle holds what it held once what it lent for reading is given back
-abbrev pub KeepsHeld : MutBor Lasso → Fml
-KeepsHeld l = follows_so handle.the_row handle.the_row l.ghost_name none (λ _ _. ⊤) (λ ended. ended.slot.value ≡ l.now.slot.value)

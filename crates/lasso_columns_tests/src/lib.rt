@@ -23,6 +23,8 @@ mod long_columns;
 #[cfg(test)]
 mod long_shared;
 #[cfg(test)]
+mod many_counts;
+#[cfg(test)]
 mod narrow;
 #[cfg(test)]
 mod numbered;

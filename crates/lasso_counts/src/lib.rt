@@ -14,8 +14,6 @@ mod counting;
 mod error;
 mod parts;
 mod ranking;
-#[cfg(test)]
-mod tests;
 
 pub use counting::{count_next, count_text, count_texts};
 pub use error::CountError;

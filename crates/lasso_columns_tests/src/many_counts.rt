@@ -1,6 +1,6 @@
 //! Thousands of distinct texts: no call runs out of memory on the way, and a refusal names its text.
-use crate::{Ranked, by_frequency, count_in_parts};
 use lasso::{Capacity, LassoErrorKind, MemoryLimits, Rodeo, SpurRodeo};
+use lasso_counts::{Ranked, by_frequency, count_in_parts};
 use std::alloc::Global;
 use std::process::Abort;
 use std::test::Fail;
