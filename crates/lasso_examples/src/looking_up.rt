@@ -65,6 +65,10 @@ fn texts_of_a_list_of_keys(rt: HostRuntime) -> Result<(), Fail> {
     let (red, green) = (Spur::try_from_usize(0), Spur::try_from_usize(1));
     let (red, green) = (red.ok_or("no key")?, green.ok_or("no key")?);
     let mut texts = Vec::new(rt.alloc());
-    is_so(&rt, adds_texts(&rodeo, red, green, &mut texts)?, "the texts");
+    is_so(
+        &rt,
+        adds_texts(&rodeo, red, green, &mut texts)?,
+        "the texts",
+    );
     Ok(())
 }

@@ -38,9 +38,7 @@ fn make(alloc: Global, maker: Maker) -> LassoResult<SpurRodeo> {
 
 // Whether the interner has no text, a first bucket of this number of bytes, and this limit.
 fn is_new(rodeo: &SpurRodeo, bytes: usize, limit: usize) -> bool {
-    rodeo.is_empty()
-        && rodeo.current_memory_usage() == bytes
-        && rodeo.max_memory_usage() == limit
+    rodeo.is_empty() && rodeo.current_memory_usage() == bytes && rodeo.max_memory_usage() == limit
 }
 
 fn makes<R: AllocGlobal + Abort>(

@@ -92,7 +92,7 @@ pub enum Move {
     NthBack(usize),
     /// `len` and `size_hint`.
     Left,
-    /// `clone`: the walk makes the moves that follow, and then its clone makes them.
+    /// `clone`, once: the walk makes the moves that follow, and then its clone makes them.
     Copy,
 }
 

@@ -6,19 +6,39 @@ use lasso::{Iter, Key, Strings};
 use std::io;
 use std::io::Write;
 
+// The moves before the first copy, and those after it, if there is one.
+fn split_at_copy(moves: &[Move]) -> (&[Move], Option<&[Move]>) {
+    for at in 0..moves.len() {
+        if matches!(moves[at], Move::Copy) {
+            return (&moves[..at], Some(&moves[at + 1..]));
+        }
+    }
+    (moves, None)
+}
+
 /// Makes the calls of a walk over keys and texts, and writes the reply to each.
 pub fn walk_pairs<K: Key, W: Write>(
     out: &mut W,
     mut walk: Iter<'_, K>,
     moves: &[Move],
 ) -> io::Result<()> {
-    for at in 0..moves.len() {
-        if matches!(moves[at], Move::Copy) {
-            let copy = walk.clone()?;
-            walk_pairs(out, walk, &moves[at + 1..])?;
-            return walk_pairs(out, copy, &moves[at + 1..]);
-        }
-        move_pairs(out, &mut walk, moves[at])?;
+    let (before, after) = split_at_copy(moves);
+    each_of_pairs(out, &mut walk, before)?;
+    if let Some(after) = after {
+        let mut copy = walk.clone()?;
+        each_of_pairs(out, &mut walk, after)?;
+        each_of_pairs(out, &mut copy, after)?;
+    }
+    Ok(())
+}
+
+fn each_of_pairs<K: Key, W: Write>(
+    out: &mut W,
+    walk: &mut Iter<'_, K>,
+    moves: &[Move],
+) -> io::Result<()> {
+    for step in moves {
+        move_pairs(out, walk, *step)?;
     }
     Ok(())
 }
@@ -40,13 +60,23 @@ pub fn walk_strings<K: Key, W: Write>(
     mut walk: Strings<'_, K>,
     moves: &[Move],
 ) -> io::Result<()> {
-    for at in 0..moves.len() {
-        if matches!(moves[at], Move::Copy) {
-            let copy = walk.clone()?;
-            walk_strings(out, walk, &moves[at + 1..])?;
-            return walk_strings(out, copy, &moves[at + 1..]);
-        }
-        move_strings(out, &mut walk, moves[at])?;
+    let (before, after) = split_at_copy(moves);
+    each_of_strings(out, &mut walk, before)?;
+    if let Some(after) = after {
+        let mut copy = walk.clone()?;
+        each_of_strings(out, &mut walk, after)?;
+        each_of_strings(out, &mut copy, after)?;
+    }
+    Ok(())
+}
+
+fn each_of_strings<K: Key, W: Write>(
+    out: &mut W,
+    walk: &mut Strings<'_, K>,
+    moves: &[Move],
+) -> io::Result<()> {
+    for step in moves {
+        move_strings(out, walk, *step)?;
     }
     Ok(())
 }

@@ -169,11 +169,42 @@ fn takes_text<S: BuildHasher>(
     )
 }
 
+// Looks for the texts of these indices by one call of a reader.
+fn reader_finds_all(
+    reader: &SpurReader,
+    alloc: Global,
+    texts: &[&str],
+    indices: &[usize],
+) -> Result<bool, Fail> {
+    let list = picked(alloc, texts, indices)?;
+    let mut keys = Vec::new(alloc);
+    reader.get_all(list.as_slice(), &mut keys)?;
+    Ok(are_found(keys.as_slice(), indices, reader.len()))
+}
+
+// Looks for batches of the texts in a reader that has all of them.
+fn reads_batches<R: AllocGlobal + Abort>(
+    rt: &R,
+    reader: &SpurReader,
+    texts: &[&str],
+) -> Result<(), Fail> {
+    for size in 0..SIZES.len() {
+        let indices = far(rt.alloc(), SIZES[size], &TURNS)?;
+        let holds = reader_finds_all(reader, rt.alloc(), texts, indices.as_slice())?;
+        is_so_at(rt, holds, size);
+    }
+    Ok(())
+}
+
+// The batches come again after a clear.
 #[test]
 fn batches_of_texts(rt: HostRuntime) -> Result<(), Fail> {
     let mut rodeo: Small = Rodeo::default(rt.alloc())?;
     let texts = texts_of(rt.alloc())?;
-    batches(&rt, &mut rodeo, texts.as_slice())
+    batches(&rt, &mut rodeo, texts.as_slice())?;
+    rodeo.clear();
+    batches(&rt, &mut rodeo, texts.as_slice())?;
+    reads_batches(&rt, &frozen(rodeo), texts.as_slice())
 }
 
 type Same = Rodeo<Spur, SameState, Global>;
@@ -223,7 +254,11 @@ fn lacks_next(rodeo: &Small, text: &str, batch: &mut Batch) -> bool {
 
 // The texts of 32 indices from this one on.
 fn batch_from<'t, 'a>(texts: &'t [&'a str], from: usize) -> Result<&'t [&'a str], Fail> {
-    Ok(texts.get(from..from.saturating_add(32)).ok_or("too few texts")?)
+    Ok(
+        texts
+            .get(from..from.saturating_add(32))
+            .ok_or("too few texts")?,
+    )
 }
 
 // Takes other texts than were looked ahead at.
