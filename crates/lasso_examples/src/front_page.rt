@@ -1,8 +1,6 @@
-//! The examples of the front page.
+//! The examples of the front page. What more they could show is in scripts of `lasso_replay`.
 use lasso::interface::Interner;
-use lasso::{
-    JsonError, Key, LassoResult, Rodeo, Spur, SpurRodeo, SpurRodeoReader, SpurRodeoResolver,
-};
+use lasso::{Key, LassoResult, Rodeo, Spur, SpurRodeo, SpurRodeoReader, SpurRodeoResolver};
 use serde_json::Value;
 use std::sync::Wait;
 use std::test::Fail;
@@ -16,13 +14,6 @@ fn one_interner(rt: HostRuntime) -> Result<(), Fail> {
     assert!(rt; hello == again);
     assert!(rt; hello.into_usize() == 0);
     assert!(rt; rodeo.try_resolve(hello) == Some("Hello, world!"));
-    assert!(rt; rodeo.len() == 1);
-    assert!(rt; rodeo.get("Hello").is_none());
-
-    let saved = rodeo.serialize(rt.alloc())?.to_string(rt.alloc())?;
-    let value = Value::from_str(rt.alloc(), saved.as_str())?;
-    let loaded = SpurRodeo::deserialize(rt.alloc(), &value)?;
-    assert!(rt; loaded.get("Hello, world!") == Some(hello));
     Ok(())
 }
 
@@ -53,25 +44,6 @@ fn from_an_iterator(rt: HostRuntime) -> Result<(), Fail> {
     let colours = ["red", "green", "red", "blue"];
     let rodeo: SpurRodeo = Rodeo::from_iter(rt.alloc(), colours)?;
     assert!(rt; rodeo.len() == 3);
-    assert!(rt; rodeo.contains("red"));
-    assert!(rt; rodeo.contains("green"));
-    assert!(rt; rodeo.contains("blue"));
-    assert!(rt; !rodeo.contains("yellow"));
-    Ok(())
-}
-
-#[test]
-fn walking(rt: HostRuntime) -> Result<(), Fail> {
-    let rodeo: SpurRodeo = Rodeo::from_iter(rt.alloc(), ["red", "green", "blue"])?;
-    let mut lines = String::new(rt.alloc());
-    for (key, text) in &rodeo {
-        lines.push_str(format!(in rt.alloc(); "{} {text}\n", key.into_usize())?.as_str())?;
-    }
-    assert!(rt; lines.as_str() == "0 red\n1 green\n2 blue\n");
-    let mut strings = rodeo.strings();
-    assert!(rt; strings.next_back() == Some("blue"));
-    assert!(rt; strings.next() == Some("red"));
-    assert!(rt; strings.len() == 1);
     Ok(())
 }
 
@@ -120,8 +92,5 @@ fn saved_and_loaded(rt: HostRuntime) -> Result<(), Fail> {
     let value = Value::from_str(rt.alloc(), saved.as_str())?;
     let loaded = SpurRodeo::deserialize(rt.alloc(), &value)?;
     assert!(rt; loaded.get("green") == rodeo.get("green"));
-    let damaged = Value::from_str(rt.alloc(), r#"["red", "green", "red"]"#)?;
-    let fault = SpurRodeo::deserialize(rt.alloc(), &damaged).err();
-    assert!(rt; fault == Some(JsonError::Doubled(2)));
     Ok(())
 }

@@ -1,9 +1,7 @@
 //! Each call of the interfaces at each type that has it, and rows of answers through generic code.
 use crate::answers::{all_right, is_so};
-use crate::frozen::{reads, resolves};
-use crate::rodeos::KeyLook::TryResolves;
-use crate::rodeos::Look::At;
-use crate::rodeos::{Look, of_hello};
+use crate::frozen::{ends_with, has_alone};
+use crate::rodeos::of_hello;
 use crate::steps::{Case, Step, first_wrong, gives_hello, reads_hello, steps_of};
 use lasso::interface::holders::{
     boxed_rodeo_interns_as_one, lent_rodeo_interns_as_one, reader_finds_what_resolves,
@@ -314,18 +312,16 @@ fn of_a(alloc: Global) -> LassoResult<SpurRodeo> {
     Ok(rodeo)
 }
 
-static A_ALONE: [Look; 1] = [At(0, TryResolves(Some("A")))];
-
 #[test]
 fn a_boxed_interner_of_one_text_to_a_reader(rt: HostRuntime) -> Result<(), Fail> {
     let rodeo = boxed(rt.alloc(), of_a(rt.alloc()));
-    reads(&rt, reader_by(&rt, rodeo, Freezing::Boxed), &A_ALONE)
+    ends_with(&rt, reader_by(&rt, rodeo, Freezing::Boxed), 1, "A")
 }
 
 #[test]
 fn a_boxed_interner_of_one_text_to_a_resolver(rt: HostRuntime) -> Result<(), Fail> {
     let rodeo = boxed(rt.alloc(), of_a(rt.alloc()));
-    resolves(&rt, resolver_by(&rt, rodeo, Freezing::Boxed), &A_ALONE)
+    has_alone(&rt, resolver_by(&rt, rodeo, Freezing::Boxed), "A")
 }
 
 fn through_what_is_lent<'a>(rt: &impl Wait, mut lent: &'a mut SpurRodeo) -> LassoResult<bool> {

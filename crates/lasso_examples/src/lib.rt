@@ -1,5 +1,5 @@
 //! Examples of the use of `lasso`, as a crate beside it has them: those of the front page, each copied as it is
-//! into a test; those in the documents of the calls, as rows that make the same calls; a key type and callers
+//! into a test; those in the documents of the calls, as tests that make the same calls; a key type and callers
 //! of one's own; and tests of the interfaces.
 #![tactic(auto)]
 
@@ -37,5 +37,3 @@ mod shared_plain;
 mod shared_threads;
 #[cfg(test)]
 mod steps;
-#[cfg(test)]
-mod walks;

@@ -1,12 +1,8 @@
-//! The examples in the documents of keys, of JSON, and of capacities, limits and errors, in tests. Those of a
-//! damaged list and of a number that is no key are lines of `lasso_replay`.
+//! The examples in the documents of keys, and of capacities, limits and errors, in tests. Those of lists as JSON,
+//! and of a number that is no key, are parts of `lasso_replay`'s input.
 use crate::answers::{is_number, is_so, number_of};
-use crate::rodeos::of_texts;
-use lasso::{
-    Capacity, JsonKey, Key, LassoError, LassoErrorKind, MemoryLimits, MicroSpur, Spur, SpurRodeo,
-};
+use lasso::{Capacity, JsonKey, Key, LassoError, LassoErrorKind, MemoryLimits, MicroSpur, Spur};
 use serde_json::Value;
-use std::alloc::Global;
 use std::test::Fail;
 
 // Whether the key with this position keeps this number.
@@ -40,28 +36,6 @@ fn keys_as_json(rt: HostRuntime) -> Result<(), Fail> {
     let first = Spur::try_from_usize(0).ok_or("no key")?;
     let value = first.key_to_json(rt.alloc())?;
     is_so(&rt, is_first(&value, first), "the number");
-    Ok(())
-}
-
-// Whether the texts are written as this.
-fn is_written(alloc: Global, texts: &[&str], wanted: &str) -> Result<bool, Fail> {
-    let rodeo = of_texts(alloc, texts)?;
-    let written = rodeo.serialize(alloc)?.to_string(alloc)?;
-    Ok(written.as_str() == wanted)
-}
-
-// The interner that is read from this.
-fn read(alloc: Global, text: &str) -> Result<SpurRodeo, Fail> {
-    let value = Value::from_str(alloc, text)?;
-    Ok(SpurRodeo::deserialize(alloc, &value)?)
-}
-
-#[test]
-fn lists_as_json(rt: HostRuntime) -> Result<(), Fail> {
-    let written = is_written(rt.alloc(), &["b", "a"], r#"["b","a"]"#)?;
-    is_so(&rt, written, "the array");
-    let rodeo = read(rt.alloc(), r#"["b", "a"]"#)?;
-    is_so(&rt, is_number(number_of(rodeo.get("b")), 0), "the key");
     Ok(())
 }
 

@@ -7,8 +7,8 @@ use crate::shared_plain::{fresh, runs_fresh};
 use lasso::log::Pass;
 use lasso::{FixedState, Key, LassoResult, Spur, SpurThreadedRodeo, ThreadedRodeo};
 use lasso_shared_testing::calls::{
-    copied, copied_as, found_as, hinted_pass_of, kept_as, pass_of, seen_by, set_limit_as, stands_for,
-    sums_as,
+    copied, copied_as, found_as, hinted_pass_of, kept_as, pass_of, seen_by, set_limit_as,
+    stands_for, sums_as,
 };
 use lasso_shared_testing::steps::Step;
 use lasso_shared_testing::steps::Step::{Counts, Finds, Interns, Reads};

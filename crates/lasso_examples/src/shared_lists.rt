@@ -1,10 +1,8 @@
 //! The examples in the documents of filling, freezing, comparing, writing and reading an interner that threads
 //! share, in tests.
 use crate::answers::is_so;
-use crate::frozen::{reads, resolves};
-use crate::rodeos::KeyLook::TryResolves;
-use crate::rodeos::Look::{At, Gets};
-use crate::rodeos::{Look, of_texts};
+use crate::frozen::{ends_with, has_alone};
+use crate::rodeos::of_texts;
 use crate::shared_plain::{fresh, hello, runs, runs_on};
 use lasso::{
     Capacity, LassoResult, MemoryLimits, SpurRodeoReader, SpurThreadedRodeo, ThreadedRodeo,
@@ -62,25 +60,19 @@ fn frozen_as<R: Wait>(
 
 #[test]
 fn shared_frozen_with_a_pass(rt: HostRuntime) -> Result<(), Fail> {
-    static LOOKS: [Look; 1] = [Gets("Hello, world!", Some(0))];
-    reads(&rt, frozen_as(&rt, fresh(rt.alloc())), &LOOKS)
+    ends_with(&rt, frozen_as(&rt, fresh(rt.alloc())), 1, "Hello, world!")
 }
 
 #[test]
 fn shared_frozen(rt: HostRuntime) -> Result<(), Fail> {
-    static LOOKS: [Look; 2] = [
-        Gets("Hello, world!", Some(0)),
-        At(0, TryResolves(Some("Hello, world!"))),
-    ];
     let made = hello(&rt, rt.alloc())?.into_reader(&rt);
-    reads(&rt, made, &LOOKS)
+    ends_with(&rt, made, 1, "Hello, world!")
 }
 
 #[test]
 fn shared_frozen_to_a_resolver(rt: HostRuntime) -> Result<(), Fail> {
-    static LOOKS: [Look; 1] = [At(0, TryResolves(Some("Hello, world!")))];
     let made = hello(&rt, rt.alloc())?.into_resolver(&rt);
-    resolves(&rt, made, &LOOKS)
+    has_alone(&rt, made, "Hello, world!")
 }
 
 static COLOURS: [&str; 2] = ["red", "green"];
@@ -196,11 +188,10 @@ fn a_shared_interner_of_three_buckets_is_written_and_frozen(rt: HostRuntime) -> 
         Counts(4),
         IsLimited(14),
     ];
-    static LOOKS: [Look; 2] = [Look::Counts(4), Gets("yz", Some(3))];
     let shared = three_buckets(&rt, rt.alloc())?;
     let wanted = r#"{"abc":1,"defghijk":2,"x":3,"yz":4}"#;
     writes(&rt, &shared, &STEPS, wanted)?;
-    reads(&rt, shared.into_reader(&rt), &LOOKS)
+    ends_with(&rt, shared.into_reader(&rt), 4, "yz")
 }
 
 // The interner that is read from this.

@@ -62,49 +62,80 @@ fn made_for_a_key_type(rt: HostRuntime) -> Result<(), Fail> {
     Ok(())
 }
 
-// Whether there are cells for this number of texts.
-fn has_cells(made: LassoResult<SpurThreadedRodeo>, strings: usize) -> LassoResult<bool> {
-    Ok(made?.capacity() >= strings)
+// A maker of a shared interner.
+#[derive(Clone, Copy)]
+enum Maker {
+    Capacity,
+    Limit,
+    CapacityAndLimit,
+    CapacityAndHasher,
+    All,
 }
 
-// A shared interner with cells for 1000 texts.
-fn of_thousand(alloc: Global) -> LassoResult<SpurThreadedRodeo> {
-    ThreadedRodeo::with_capacity(alloc, Capacity::new(1000, 65536))
+fn make(alloc: Global, maker: Maker) -> LassoResult<SpurThreadedRodeo> {
+    let hasher = FixedState::new();
+    match maker {
+        Maker::Capacity => ThreadedRodeo::with_capacity(alloc, Capacity::new(1000, 65536)),
+        Maker::Limit => ThreadedRodeo::with_memory_limits(alloc, MemoryLimits::new(10000)),
+        Maker::CapacityAndLimit => ThreadedRodeo::with_capacity_and_memory_limits(
+            alloc,
+            Capacity::for_bytes(4),
+            MemoryLimits::new(4),
+        ),
+        Maker::CapacityAndHasher => {
+            ThreadedRodeo::with_capacity_and_hasher(alloc, Capacity::for_bytes(7), hasher)
+        }
+        Maker::All => ThreadedRodeo::with_capacity_memory_limits_and_hasher(
+            alloc,
+            Capacity::for_bytes(10),
+            MemoryLimits::new(15),
+            hasher,
+        ),
+    }
+}
+
+// Makes the calls in order on an interner that the maker makes.
+fn runs_by<R: AllocGlobal + Abort + Wait>(
+    rt: &R,
+    maker: Maker,
+    steps: &[Step],
+) -> Result<(), Fail> {
+    runs_on(rt, make(rt.alloc(), maker), steps)
+}
+
+// Checks that there are cells for this number of texts.
+fn has_cells(
+    rt: &impl Abort,
+    made: LassoResult<SpurThreadedRodeo>,
+    strings: usize,
+) -> Result<(), Fail> {
+    is_so(rt, made?.capacity() >= strings, "the cells");
+    Ok(())
 }
 
 #[test]
 fn made_with_a_capacity(rt: HostRuntime) -> Result<(), Fail> {
     static STEPS: [Step; 1] = [Uses(65536)];
-    runs_on(&rt, of_thousand(rt.alloc()), &STEPS)?;
-    is_so(&rt, has_cells(of_thousand(rt.alloc()), 1000)?, "the cells");
-    Ok(())
+    runs_by(&rt, Maker::Capacity, &STEPS)?;
+    has_cells(&rt, make(rt.alloc(), Maker::Capacity), 1000)
 }
 
 #[test]
 fn made_with_a_limit(rt: HostRuntime) -> Result<(), Fail> {
     static STEPS: [Step; 2] = [IsLimited(10000), Uses(4096)];
-    let made = ThreadedRodeo::with_memory_limits(rt.alloc(), MemoryLimits::new(10000));
-    runs_on(&rt, made, &STEPS)
+    runs_by(&rt, Maker::Limit, &STEPS)
 }
 
 #[test]
 fn made_with_a_capacity_and_a_hasher(rt: HostRuntime) -> Result<(), Fail> {
     static STEPS: [Step; 1] = [Uses(7)];
-    let (capacity, hasher) = (Capacity::for_bytes(7), FixedState::new());
-    let made = ThreadedRodeo::with_capacity_and_hasher(rt.alloc(), capacity, hasher);
-    runs_on(&rt, made, &STEPS)
+    runs_by(&rt, Maker::CapacityAndHasher, &STEPS)
 }
 
 #[test]
 fn made_with_all_of_them(rt: HostRuntime) -> Result<(), Fail> {
     static STEPS: [Step; 2] = [Uses(10), IsLimited(15)];
-    let made = ThreadedRodeo::with_capacity_memory_limits_and_hasher(
-        rt.alloc(),
-        Capacity::for_bytes(10),
-        MemoryLimits::new(15),
-        FixedState::new(),
-    );
-    runs_on(&rt, made, &STEPS)
+    runs_by(&rt, Maker::All, &STEPS)
 }
 
 #[test]
@@ -123,9 +154,7 @@ fn kept_as_it_is(rt: HostRuntime) -> Result<(), Fail> {
         Reads(0, Some("a static text")),
         Uses(4),
     ];
-    let (capacity, limits) = (Capacity::for_bytes(4), MemoryLimits::new(4));
-    let made = ThreadedRodeo::with_capacity_and_memory_limits(rt.alloc(), capacity, limits);
-    runs_on(&rt, made, &STEPS)
+    runs_by(&rt, Maker::CapacityAndLimit, &STEPS)
 }
 
 #[test]
@@ -154,8 +183,7 @@ fn no_text(rt: HostRuntime) -> Result<(), Fail> {
 
 #[test]
 fn cells_ahead(rt: HostRuntime) -> Result<(), Fail> {
-    is_so(&rt, has_cells(fresh(rt.alloc()), 50)?, "the cells");
-    Ok(())
+    has_cells(&rt, fresh(rt.alloc()), 50)
 }
 
 fn is_red_and_green(shared: &SpurThreadedRodeo) -> bool {

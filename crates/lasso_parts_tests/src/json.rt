@@ -1,82 +1,14 @@
-//! Arrays and keys as JSON, and the printed errors of values that can't be read.
-mod kinds;
-mod objects;
+//! Lists and keys as JSON, and the printed errors of values that can't be read. Values are read in scripts of
+//! `lasso_replay`.
 
 use crate::checks::is_so;
-use lasso_parts::json::{JsonError, JsonKey, read_array, write_array};
+use lasso_parts::json::{JsonError, JsonKey, read_map, write_array, write_map};
 use lasso_parts::keys::{Key, LargeSpur, MicroSpur, MiniSpur, Spur};
 use lasso_parts::util::LassoErrorKind;
-use serde_json::{Number, Value};
+use serde_json::Value;
 use std::alloc::Global;
 use std::process::Abort;
 use std::test::Fail;
-
-// What was read: each text followed by a slash, or the error.
-fn told(alloc: Global, read: Result<Vec<&str>, JsonError>) -> Result<String, Fail> {
-    match read {
-        Ok(texts) => {
-            let mut all = String::new(alloc);
-            for text in &texts {
-                all.push_str(text)?;
-                all.push('/')?;
-            }
-            Ok(all)
-        }
-        Err(fault) => Ok(format!(in alloc; "{fault:?}")?),
-    }
-}
-
-// Whether the array that is read from the JSON text, as `told` shows it, is the one wanted.
-fn is_array<K: Key>(alloc: Global, text: &str, distinct: bool, wanted: &str) -> Result<bool, Fail> {
-    let value = Value::from_str(alloc, text)?;
-    let read = told(alloc, read_array::<K, Global>(alloc, &value, distinct))?;
-    Ok(read.as_str() == wanted)
-}
-
-// Reads each JSON text as an array, of distinct texts if so asked.
-fn read_arrays<R: Abort + AllocGlobal>(
-    rt: &R,
-    rows: &[(&str, &str)],
-    distinct: bool,
-) -> Result<(), Fail> {
-    for (text, wanted) in rows {
-        assert!(rt;
-            is_array::<Spur>(rt.alloc(), text, distinct, wanted)?,
-            "{text}"
-        );
-    }
-    Ok(())
-}
-
-static DISTINCT: [(&str, &str); 11] = [
-    ("[]", ""),
-    (r#"["b", "a"]"#, "b/a/"),
-    (r#"["a", "b", "a"]"#, "Doubled(2)"),
-    (r#"["a", 1]"#, "NotText(1)"),
-    (r#"{"a": 1}"#, "NotAnArray"),
-    ("null", "NotAnArray"),
-    (r#"["a", "a", null]"#, "Doubled(1)"),
-    (r#"["a", null, "a"]"#, "NotText(1)"),
-    (r#"["a", 1, "a"]"#, "NotText(1)"),
-    ("[[]]", "NotText(0)"),
-    (r#"["a", {}]"#, "NotText(1)"),
-];
-
-#[test]
-fn arrays_of_distinct_texts(rt: HostRuntime) -> Result<(), Fail> {
-    read_arrays(&rt, &DISTINCT, true)
-}
-
-static EQUAL: [(&str, &str); 3] = [
-    (r#"["a", "b", "a"]"#, "a/b/a/"),
-    (r#"["a", "a", null]"#, "NotText(2)"),
-    (r#"["a", {}]"#, "NotText(1)"),
-];
-
-#[test]
-fn arrays_with_equal_texts(rt: HostRuntime) -> Result<(), Fail> {
-    read_arrays(&rt, &EQUAL, false)
-}
 
 // Whether the value is written as this JSON text.
 fn is_written(alloc: Global, value: &Value, wanted: &str) -> Result<bool, Fail> {
@@ -92,47 +24,59 @@ fn written_texts(rt: HostRuntime) -> Result<(), Fail> {
     Ok(())
 }
 
-// Whether the value is read as the key of this position, or is no key if that is `None`.
-fn is_key<K: JsonKey>(value: Value, wanted: Option<usize>) -> bool {
-    match K::key_from_json(&value) {
-        Ok(key) => Some(key.into_usize()) == wanted,
-        Err(fault) => fault == JsonError::NotAKey && wanted == None,
-    }
-}
-
-// Whether the number has a key, of the position before it.
-fn has_key<K: JsonKey>(number: u64) -> bool {
-    let position = number.wrapping_sub(1) as usize;
-    is_key::<K>(Value::Number(Number::from(number)), Some(position))
-}
-
-// Whether the number has no key.
-fn has_none<K: JsonKey>(number: u64) -> bool {
-    is_key::<K>(Value::Number(Number::from(number)), None)
-}
-
-// Whether the last number is a key, and the next is none.
-fn ends_at<K: JsonKey>(last: u64, next: u64) -> bool {
-    has_key::<K>(last) && has_none::<K>(next)
+// Whether the texts are written as this object.
+fn is_object_written(alloc: Global, texts: &[&str], wanted: &str) -> Result<bool, Fail> {
+    let value = write_map(alloc, &texts, texts.len())?;
+    is_written(alloc, &value, wanted)
 }
 
 #[test]
-fn keys_of_numbers(rt: HostRuntime) {
-    is_so(&rt, has_none::<Spur>(0), "0");
-    is_so(&rt, has_key::<Spur>(1), "1");
-    is_so(&rt, ends_at::<Spur>(4294967295, 4294967296), "32 bits");
-    is_so(&rt, ends_at::<MiniSpur>(65535, 65536), "16 bits");
-    is_so(&rt, ends_at::<MicroSpur>(255, 256), "8 bits");
-    is_so(&rt, has_key::<LargeSpur>(u64::MAX), "64 bits");
-    is_so(&rt, has_none::<LargeSpur>(0), "0 in 64 bits");
-    other_values(&rt);
+fn written_objects(rt: HostRuntime) -> Result<(), Fail> {
+    let none: [&str; 0] = [];
+    let rows = [
+        (none.as_slice(), "{}"),
+        ([""].as_slice(), r#"{"":1}"#),
+        (["b", "a"].as_slice(), r#"{"a":2,"b":1}"#),
+        (["b", "a", "c"].as_slice(), r#"{"a":2,"b":1,"c":3}"#),
+        (
+            ["abc", "defghijk", "x", "yz"].as_slice(),
+            r#"{"abc":1,"defghijk":2,"x":3,"yz":4}"#,
+        ),
+    ];
+    for (texts, wanted) in rows {
+        assert!(rt; is_object_written(rt.alloc(), texts, wanted)?, "{wanted}");
+    }
+    Ok(())
 }
 
-// Reads values that are no keys.
-fn other_values(rt: &impl Abort) {
-    is_so(rt, is_key::<Spur>(Value::from(-1i64), None), "-1");
-    is_so(rt, is_key::<Spur>(Value::from(1.0f64), None), "1.0");
-    is_so(rt, is_key::<Spur>(Value::Null, None), "null");
+// Whether the array is no object.
+fn is_no_object(alloc: Global, text: &str) -> Result<bool, Fail> {
+    let value = Value::from_str(alloc, text)?;
+    Ok(read_map::<Spur, Global>(alloc, &value).err() == Some(JsonError::NotAnObject))
+}
+
+// An interner that threads share reads an array as a list, so no script can show this.
+#[test]
+fn arrays_are_no_objects(rt: HostRuntime) -> Result<(), Fail> {
+    is_so(&rt, is_no_object(rt.alloc(), "[]")?, "no text");
+    let two = is_no_object(rt.alloc(), r#"["b", "a"]"#)?;
+    is_so(&rt, two, "two texts");
+    Ok(())
+}
+
+// Whether the value is no key of any width.
+fn is_no_key(value: &Value) -> bool {
+    Spur::key_from_json(value) == Err(JsonError::NotAKey)
+        && MiniSpur::key_from_json(value) == Err(JsonError::NotAKey)
+        && MicroSpur::key_from_json(value) == Err(JsonError::NotAKey)
+        && LargeSpur::key_from_json(value) == Err(JsonError::NotAKey)
+}
+
+#[test]
+fn a_text_of_a_million_bytes_is_no_key(rt: HostRuntime) -> Result<(), Fail> {
+    let long = Value::String("1".repeat(rt.alloc(), 1_000_000)?);
+    is_so(&rt, is_no_key(&long), "the text");
+    Ok(())
 }
 
 // The number that key 0 of this type is written as.

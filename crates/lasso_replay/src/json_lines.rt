@@ -90,8 +90,8 @@ fn parse_form(word: &str) -> Option<Form> {
     }
 }
 
-// Parses a JSON text that is written in hexadecimal digits. The inner error says why it is bad.
-fn parse_value(alloc: Global, word: &str) -> Result<Result<Value, Reason>, AllocError> {
+/// Parses a JSON text that is written in hexadecimal digits. The inner error says why it is bad.
+pub fn parse_value(alloc: Global, word: &str) -> Result<Result<Value, Reason>, AllocError> {
     let Some(text) = parse_text(alloc, word)? else {
         return Ok(Err(Reason::NotHexadecimal));
     };

@@ -1,7 +1,7 @@
 //! Key types by their names, and replaying with keys of a type that is known at run time.
 
 use lasso::{Key, LargeSpur, MicroSpur, MiniSpur, Spur};
-use lasso_testing::keys::{BelowTwo, WithoutTwo};
+use lasso_testing::keys::{BelowTwo, WithoutTwo, WithoutZero};
 use std::alloc::Global;
 use std::io;
 use std::io::Write;
@@ -16,6 +16,7 @@ pub enum KeyType {
     LargeSpur,
     BelowTwo,
     WithoutTwo,
+    WithoutZero,
 }
 
 /// What can be replayed with keys of any type.
@@ -48,6 +49,7 @@ impl KeyType {
             KeyType::LargeSpur => replayed.replay_with::<R, LargeSpur, W>(rt, alloc, out),
             KeyType::BelowTwo => replayed.replay_with::<R, BelowTwo, W>(rt, alloc, out),
             KeyType::WithoutTwo => replayed.replay_with::<R, WithoutTwo, W>(rt, alloc, out),
+            KeyType::WithoutZero => replayed.replay_with::<R, WithoutZero, W>(rt, alloc, out),
         }
     }
 }
@@ -70,6 +72,7 @@ pub fn parse_key_type(word: &str) -> Option<KeyType> {
         "large" => Some(KeyType::LargeSpur),
         "below2" => Some(KeyType::BelowTwo),
         "hole2" => Some(KeyType::WithoutTwo),
+        "hole0" => Some(KeyType::WithoutZero),
         _ => None,
     }
 }

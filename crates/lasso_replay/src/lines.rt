@@ -35,17 +35,6 @@ pub enum Call {
     Extend(Vec<String>),
 }
 
-/// A command for a `Rodeo`, with its arguments.
-#[derive(Drop)]
-pub enum ScriptCommand {
-    /// A call.
-    Call(Call),
-    /// `clear`.
-    Clear,
-    /// `clone_from` an interner with these texts.
-    CloneFrom(Vec<String>),
-}
-
 // Parses the words of a line as a question of a text. `None` if they are none.
 fn parse_text_question(alloc: Global, words: &[&str]) -> Result<Option<Question>, AllocError> {
     match words {
@@ -95,15 +84,6 @@ pub fn parse_call(alloc: Global, words: &[&str]) -> Result<Option<Call>, AllocEr
     }
 }
 
-/// Parses the words of a line as a command. `None` if they are not a command.
-pub fn parse_command(alloc: Global, words: &[&str]) -> Result<Option<ScriptCommand>, AllocError> {
-    match words {
-        ["clear"] => Ok(Some(ScriptCommand::Clear)),
-        ["clonefrom", texts @ ..] => Ok(parse_texts(alloc, texts)?.map(ScriptCommand::CloneFrom)),
-        _ => Ok(parse_call(alloc, words)?.map(ScriptCommand::Call)),
-    }
-}
-
 /// Parses a number of bytes; `max` is the greatest.
 pub fn parse_limit(word: &str) -> Option<usize> {
     if word == "max" {
@@ -122,7 +102,8 @@ pub fn parse_number(word: &str) -> Option<usize> {
     }
 }
 
-fn parse_texts(alloc: Global, words: &[&str]) -> Result<Option<Vec<String>>, AllocError> {
+/// Parses texts. `None` if one of the words is none.
+pub fn parse_texts(alloc: Global, words: &[&str]) -> Result<Option<Vec<String>>, AllocError> {
     let mut texts = Vec::with_capacity(alloc, words.len())?;
     for word in words {
         let Some(text) = parse_text(alloc, word)? else {

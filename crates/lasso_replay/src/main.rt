@@ -5,7 +5,9 @@
 //! status 3 and no output.
 #![tactic(auto)]
 
+mod compared;
 mod errors;
+mod frozen;
 mod json_lines;
 mod key_types;
 mod lines;
@@ -14,7 +16,9 @@ mod read_json;
 mod replay;
 mod replay_shared;
 mod replies;
+mod rodeo_lines;
 mod scripts;
+mod walks;
 
 use errors::InputError;
 use parts::{Part, parse_parts};

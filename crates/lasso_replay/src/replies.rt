@@ -1,8 +1,10 @@
 //! Writes replies, each as a line.
 
-use lasso::{JsonError, Key, LassoErrorKind, LassoResult, Strings};
-use std::io;
+use lasso::{Iter, JsonError, Key, LassoErrorKind, LassoResult, Strings};
+use serde_json::Value;
+use std::alloc::Global;
 use std::io::Write;
+use std::{fmt, io};
 
 /// `key N`, or the refusal.
 pub fn write_interned<K: Key, W: Write>(out: &mut W, outcome: LassoResult<K>) -> io::Result<()> {
@@ -65,6 +67,81 @@ pub fn write_text<W: Write>(out: &mut W, text: Option<&str>) -> io::Result<()> {
     write!(out, "text ")?;
     write_digits(out, text)?;
     writeln!(out)
+}
+
+/// The text by each of two calls, or `text none`.
+pub fn write_resolved<W: Write>(out: &mut W, texts: Option<(&str, &str)>) -> io::Result<()> {
+    match texts {
+        Some((first, second)) => {
+            write_text(out, Some(first))?;
+            write_text(out, Some(second))
+        }
+        None => write_text(out, None),
+    }
+}
+
+/// `pair`, the key's number and the text in hexadecimal digits, or `pair none`.
+pub fn write_pair<K: Key, W: Write>(out: &mut W, pair: Option<(K, &str)>) -> io::Result<()> {
+    let Some((key, text)) = pair else {
+        return writeln!(out, "pair none");
+    };
+    let number = key.into_usize();
+    write!(out, "pair {number}")?;
+    write_item(out, text)?;
+    writeln!(out)
+}
+
+/// The pairs of a loop, each as a line.
+pub fn write_pairs<K: Key, W: Write>(out: &mut W, pairs: Iter<'_, K>) -> io::Result<()> {
+    for (key, text) in pairs {
+        write_pair(out, Some((key, text)))?;
+    }
+    Ok(())
+}
+
+/// `left`, the length of a walk, and its size hint.
+pub fn write_left<W: Write>(
+    out: &mut W,
+    len: usize,
+    hint: (usize, Option<usize>),
+) -> io::Result<()> {
+    match hint {
+        (low, Some(high)) => writeln!(out, "left {len} {low} {high}"),
+        (low, None) => writeln!(out, "left {len} {low} none"),
+    }
+}
+
+/// `flags`, and each flag.
+pub fn write_flags<W: Write>(out: &mut W, flags: (bool, bool, bool, bool)) -> io::Result<()> {
+    let (first, second, third, fourth) = flags;
+    writeln!(out, "flags {first} {second} {third} {fourth}")
+}
+
+/// `no call`: this form of interner has no such call.
+pub fn write_no_call<W: Write>(out: &mut W) -> io::Result<()> {
+    writeln!(out, "no call")
+}
+
+/// The debug output, as a text.
+pub fn write_debug<T: fmt::Debug, W: Write>(
+    alloc: Global,
+    out: &mut W,
+    form: &T,
+) -> io::Result<()> {
+    let printed = format!(in alloc; "{form:?}")?;
+    write_text(out, Some(printed.as_str()))
+}
+
+/// The JSON text of the value, as a text, or the error.
+pub fn write_saved<W: Write>(
+    alloc: Global,
+    out: &mut W,
+    value: Result<Value, JsonError>,
+) -> io::Result<()> {
+    match value {
+        Ok(value) => write_text(out, Some(value.to_string(alloc)?.as_str())),
+        Err(error) => write_json_error(out, error),
+    }
 }
 
 /// `list`, and each text in hexadecimal digits after a space.

@@ -2,11 +2,14 @@
 
 use crate::errors::Reason;
 use crate::key_types::{KeyType, Replayed, parse_key_type};
-use crate::lines::{Call, ScriptCommand, parse_call, parse_command, parse_limit, parse_number};
-use crate::replay::replay_command;
+use crate::lines::{Call, parse_call, parse_limit, parse_number};
+use crate::replay::replay_rodeo;
 use crate::replay_shared::replay_shared_call;
+use crate::rodeo_lines::{RodeoCommand, parse_command};
 use lasso::{Capacity, FixedState, Key, LassoResult, MemoryLimits, Rodeo, ThreadedRodeo};
+use lasso_testing::hashers::SameState;
 use std::alloc::{AllocError, Global};
+use std::hash::BuildHasher;
 use std::io;
 use std::io::Write;
 use std::sync::Wait;
@@ -14,7 +17,9 @@ use std::sync::Wait;
 /// The commands of a script, in order, by its kind of interner.
 #[derive(Drop)]
 enum Commands {
-    OneThread(Vec<ScriptCommand>),
+    OneThread(Vec<RodeoCommand>),
+    /// Of a `Rodeo` whose hasher gives all texts one hash.
+    OneHash(Vec<RodeoCommand>),
     Shared(Vec<Call>),
 }
 
@@ -57,6 +62,7 @@ pub fn parse_header(alloc: Global, words: &[&str]) -> Result<Result<Script, Reas
 fn no_commands(alloc: Global, kind: &str) -> Option<Commands> {
     match kind {
         "rodeo" => Some(Commands::OneThread(Vec::new(alloc))),
+        "onehash" => Some(Commands::OneHash(Vec::new(alloc))),
         "threaded" => Some(Commands::Shared(Vec::new(alloc))),
         _ => None,
     }
@@ -80,7 +86,7 @@ fn parse_sizes(
 // Parses the words of a line as a command for a `Rodeo`, and adds it. Returns whether they are one.
 fn add_script_command(
     alloc: Global,
-    commands: &mut Vec<ScriptCommand>,
+    commands: &mut Vec<RodeoCommand>,
     words: &[&str],
 ) -> Result<bool, AllocError> {
     let Some(command) = parse_command(alloc, words)? else {
@@ -107,7 +113,9 @@ impl Script {
         words: &[&str],
     ) -> Result<Option<Reason>, AllocError> {
         let is_known = match &mut self.commands {
-            Commands::OneThread(commands) => add_script_command(alloc, commands, words)?,
+            Commands::OneThread(commands) | Commands::OneHash(commands) => {
+                add_script_command(alloc, commands, words)?
+            }
             Commands::Shared(calls) => add_call(alloc, calls, words)?,
         };
         Ok(if is_known {
@@ -125,9 +133,16 @@ impl Script {
         self.key_type.replay(self, rt, alloc, out)
     }
 
-    fn make_rodeo<K: Key>(&self, alloc: Global) -> io::Result<Rodeo<K, FixedState, Global>> {
-        let made: LassoResult<Rodeo<K, FixedState, Global>> =
-            Rodeo::with_capacity_and_memory_limits(alloc, self.capacity, self.limits);
+    fn make_rodeo<K: Key, S: BuildHasher + Default + Drop>(
+        &self,
+        alloc: Global,
+    ) -> io::Result<Rodeo<K, S, Global>> {
+        let made: LassoResult<Rodeo<K, S, Global>> = Rodeo::with_capacity_memory_limits_and_hasher(
+            alloc,
+            self.capacity,
+            self.limits,
+            S::default(),
+        );
         made.map_err(|_| io::Error::from(AllocError))
     }
 
@@ -149,26 +164,26 @@ impl Replayed for Script {
         writeln!(out, "script {name}")?;
         match &self.commands {
             Commands::OneThread(commands) => {
-                replay_commands(alloc, &mut self.make_rodeo::<K>(alloc)?, commands, out)
+                replay_rodeo(
+                    alloc,
+                    self.make_rodeo::<K, FixedState>(alloc)?,
+                    commands,
+                    out,
+                )
+            }
+            Commands::OneHash(commands) => {
+                replay_rodeo(
+                    alloc,
+                    self.make_rodeo::<K, SameState>(alloc)?,
+                    commands,
+                    out,
+                )
             }
             Commands::Shared(calls) => {
                 replay_calls(rt, &self.make_threaded::<K>(alloc)?, calls, out)
             }
         }
     }
-}
-
-// Runs the commands, and writes their replies.
-fn replay_commands<K: Key, W: Write>(
-    alloc: Global,
-    rodeo: &mut Rodeo<K, FixedState, Global>,
-    commands: &[ScriptCommand],
-    out: &mut W,
-) -> io::Result<()> {
-    for command in commands {
-        replay_command(alloc, rodeo, command, out)?;
-    }
-    Ok(())
 }
 
 // Makes the calls, and writes their replies.

@@ -45,10 +45,6 @@ pub fn frozen(rodeo: Small) -> SpurReader {
     rodeo.into_reader()
 }
 
-pub fn thawed(reader: SpurReader) -> SpurResolver {
-    reader.into_resolver()
-}
-
 pub fn resolving(rodeo: Small) -> SpurResolver {
     rodeo.into_resolver()
 }
@@ -99,44 +95,10 @@ pub fn lacks<K: Key, S: BuildHasher, A: Allocator>(rodeo: &Rodeo<K, S, A>, text:
     !rodeo.contains(text) && rodeo.get(text).is_none()
 }
 
-// Whether the key stands for the text, by each call that says so.
-pub fn stands_for<K: Key, S: BuildHasher, A: Allocator>(
-    rodeo: &Rodeo<K, S, A>,
-    key: K,
-    text: &str,
-) -> bool {
-    rodeo.contains_key(key)
-        && rodeo.resolve(key) == text
-        && rodeo.resolve_unchecked(key) == text
-        && is_text(rodeo.try_resolve(key), text)
-}
-
-pub fn stands_for_nothing<K: Key, S: BuildHasher, A: Allocator>(
-    rodeo: &Rodeo<K, S, A>,
-    key: K,
-) -> bool {
-    !rodeo.contains_key(key) && rodeo.try_resolve(key).is_none()
-}
-
-// Whether the key of this number stands for the text, and the text for the key.
-pub fn has_at<K: Key, S: BuildHasher, A: Allocator>(
-    rodeo: &Rodeo<K, S, A>,
-    position: usize,
-    text: &str,
-) -> bool {
+// Whether the text is there with the key of this number.
+pub fn has_key(rodeo: &Small, text: &str, number: usize) -> bool {
     match rodeo.get(text) {
-        Some(key) => key.into_usize() == position && stands_for(rodeo, key, text),
-        None => false,
-    }
-}
-
-// Whether there is a key of this number that stands for no text.
-pub fn has_nothing_at<K: Key, S: BuildHasher, A: Allocator>(
-    rodeo: &Rodeo<K, S, A>,
-    position: usize,
-) -> bool {
-    match K::try_from_usize(position) {
-        Some(key) => stands_for_nothing(rodeo, key),
+        Some(key) => key.into_usize() == number,
         None => false,
     }
 }
@@ -189,32 +151,6 @@ pub fn interns_numbers<K: Key, S: BuildHasher>(
 ) -> bool {
     for number in 0..count {
         if !interns_number(alloc, rodeo, number, usage) {
-            return false;
-        }
-    }
-    true
-}
-
-// Whether the number in decimal and the key of this number stand for each other.
-fn finds_number<K: Key, S: BuildHasher>(
-    alloc: Global,
-    rodeo: &Rodeo<K, S, Global>,
-    number: usize,
-) -> bool {
-    match number.to_string(alloc) {
-        Ok(text) => has_at(rodeo, number, text.as_str()),
-        Err(_refusal) => false,
-    }
-}
-
-// The same for each of the numbers below `count`.
-pub fn finds_numbers<K: Key, S: BuildHasher>(
-    alloc: Global,
-    rodeo: &Rodeo<K, S, Global>,
-    count: usize,
-) -> bool {
-    for number in 0..count {
-        if !finds_number(alloc, rodeo, number) {
             return false;
         }
     }

@@ -17,5 +17,3 @@ mod refusals;
 mod resolver;
 #[cfg(test)]
 mod rodeo;
-#[cfg(test)]
-mod steps;

@@ -169,11 +169,42 @@ fn takes_text<S: BuildHasher>(
     )
 }
 
+// Looks for the texts of these indices by one call of a reader.
+fn reader_finds_all(
+    reader: &SpurReader,
+    alloc: Global,
+    texts: &[&str],
+    indices: &[usize],
+) -> Result<bool, Fail> {
+    let list = picked(alloc, texts, indices)?;
+    let mut keys = Vec::new(alloc);
+    reader.get_all(list.as_slice(), &mut keys)?;
+    Ok(are_found(keys.as_slice(), indices, reader.len()))
+}
+
+// Looks for batches of the texts in a reader that has all of them.
+fn reads_batches<R: AllocGlobal + Abort>(
+    rt: &R,
+    reader: &SpurReader,
+    texts: &[&str],
+) -> Result<(), Fail> {
+    for size in 0..SIZES.len() {
+        let indices = far(rt.alloc(), SIZES[size], &TURNS)?;
+        let holds = reader_finds_all(reader, rt.alloc(), texts, indices.as_slice())?;
+        is_so_at(rt, holds, size);
+    }
+    Ok(())
+}
+
+// The batches come again after a clear.
 #[test]
 fn batches_of_texts(rt: HostRuntime) -> Result<(), Fail> {
     let mut rodeo: Small = Rodeo::default(rt.alloc())?;
     let texts = texts_of(rt.alloc())?;
-    batches(&rt, &mut rodeo, texts.as_slice())
+    batches(&rt, &mut rodeo, texts.as_slice())?;
+    rodeo.clear();
+    batches(&rt, &mut rodeo, texts.as_slice())?;
+    reads_batches(&rt, &frozen(rodeo), texts.as_slice())
 }
 
 type Same = Rodeo<Spur, SameState, Global>;
@@ -222,30 +253,42 @@ fn lacks_next(rodeo: &Small, text: &str, batch: &mut Batch) -> bool {
 }
 
 // The texts of 32 indices from this one on.
-fn batch_from<'t, 'a>(texts: &'t [&'a str], from: usize) -> &'t [&'a str] {
-    match texts.get(from..from.saturating_add(32)) {
-        Some(batch) => batch,
-        None => &[],
-    }
+fn batch_from<'t, 'a>(texts: &'t [&'a str], from: usize) -> Result<&'t [&'a str], Fail> {
+    Ok(
+        texts
+            .get(from..from.saturating_add(32))
+            .ok_or("too few texts")?,
+    )
 }
 
 // Takes other texts than were looked ahead at.
-fn takes_others(rt: &impl Abort, rodeo: &mut Small, texts: &[&str], batch: &mut Batch) {
+fn takes_others(
+    rt: &impl Abort,
+    rodeo: &mut Small,
+    texts: &[&str],
+    batch: &mut Batch,
+) -> Result<(), Fail> {
     for index in 0..96 {
         is_so_at(rt, takes_text(rodeo, texts, index), index);
     }
     is_so(rt, !batch.is_due(), "a first batch");
-    look_ahead(rodeo, batch_from(texts, 0), batch);
+    look_ahead(rodeo, batch_from(texts, 0)?, batch);
     for index in 64..96 {
         let text = text_at(texts, index);
         is_so_at(rt, is_next(rodeo, text, batch, index), index);
     }
     is_so(rt, batch.is_due(), "a batch of far texts");
+    Ok(())
 }
 
 // Clears the interner between a look ahead and the texts.
-fn takes_cleared(rt: &impl Abort, rodeo: &mut Small, texts: &[&str], batch: &mut Batch) {
-    look_ahead(rodeo, batch_from(texts, 64), batch);
+fn takes_cleared(
+    rt: &impl Abort,
+    rodeo: &mut Small,
+    texts: &[&str],
+    batch: &mut Batch,
+) -> Result<(), Fail> {
+    look_ahead(rodeo, batch_from(texts, 64)?, batch);
     rodeo.clear();
     let first = text_at(texts, 64);
     is_so(rt, lacks_next(rodeo, first, batch), "a cleared text");
@@ -254,6 +297,7 @@ fn takes_cleared(rt: &impl Abort, rodeo: &mut Small, texts: &[&str], batch: &mut
         is_so_at(rt, is_next(rodeo, text, batch, index), index);
     }
     is_so(rt, !batch.is_due(), "a batch of new texts");
+    Ok(())
 }
 
 #[test]
@@ -261,9 +305,8 @@ fn other_texts_than_those_looked_ahead_at(rt: HostRuntime) -> Result<(), Fail> {
     let mut rodeo: Small = Rodeo::default(rt.alloc())?;
     let texts = texts_of(rt.alloc())?;
     let mut batch = Batch::new();
-    takes_others(&rt, &mut rodeo, texts.as_slice(), &mut batch);
-    takes_cleared(&rt, &mut rodeo, texts.as_slice(), &mut batch);
-    Ok(())
+    takes_others(&rt, &mut rodeo, texts.as_slice(), &mut batch)?;
+    takes_cleared(&rt, &mut rodeo, texts.as_slice(), &mut batch)
 }
 
 type Counted<'a> = Rodeo<Spur, CountingState<'a>, Global>;

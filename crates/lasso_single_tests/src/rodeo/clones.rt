@@ -1,106 +1,12 @@
-//! `clone` and `clone_from`, and interners filled from items.
+//! A copy that runs out of memory.
 
-use crate::checks::{LIMIT, MEMORY, is_refused, is_so, refusal_of};
-use crate::interners::{Small, are_equal, has_count, interner, interns, lacks, of_texts};
-use crate::steps::Step::{Counts, Fills, Gives, Has, HasLimit, Keeps, Takes};
-use crate::steps::{Step, runs, script, script_on};
-use lasso_parts::keys::Spur;
-use lasso_parts::util::{Capacity, LassoErrorKind, LassoResult};
+use crate::checks::{MEMORY, is_so};
+use crate::interners::{Small, are_equal, has_count, interns, lacks};
+use lasso_parts::util::Capacity;
 use lasso_single::rodeo::Rodeo;
 use std::alloc::Global;
 use std::process::Abort;
 use std::test::Fail;
-
-#[test]
-fn a_clone_copies_static_texts(rt: HostRuntime) -> Result<(), Fail> {
-    static FIRST: [Step; 2] = [Gives("abc", Ok(0), 10), Keeps("gdfg", Ok(1), 10)];
-    static OF_COPY: [Step; 4] = [
-        Takes(7),
-        HasLimit(7),
-        Gives("x", Err(LIMIT), 7),
-        Gives("gdfg", Ok(1), 7),
-    ];
-    static LAST: [Step; 1] = [Gives("x", Ok(2), 10)];
-    let mut rodeo = interner::<Spur>(rt.alloc(), 10, 5)?;
-    runs(&rt, &mut rodeo, &FIRST);
-    script_on(&rt, rodeo.try_clone(), &OF_COPY)?;
-    runs(&rt, &mut rodeo, &LAST);
-    Ok(())
-}
-
-#[test]
-fn a_clone_of_no_text(rt: HostRuntime) -> Result<(), Fail> {
-    static STEPS: [Step; 2] = [Takes(4096), HasLimit(4096)];
-    let rodeo = interner::<Spur>(rt.alloc(), 10, 100)?;
-    script_on(&rt, rodeo.clone(), &STEPS)
-}
-
-// Whether a copy over the target is refused so, or not at all.
-fn copy_ends(target: &mut Small, source: &Small, refusal: Option<LassoErrorKind>) -> bool {
-    match refusal {
-        Some(kind) => is_refused(target.try_clone_from(source), kind),
-        None => refusal_of(target.clone_from(source)).is_none(),
-    }
-}
-
-// Copies an interner of two texts over the target, which has to be refused so, or not at all. Then takes the
-// steps on the target.
-fn copy_of_two<R: AllocGlobal + Abort>(
-    rt: &R,
-    made: LassoResult<Small>,
-    refusal: Option<LassoErrorKind>,
-    steps: &[Step],
-) -> Result<(), Fail> {
-    let source = of_texts(rt.alloc(), &["abc", "defg"])?;
-    let mut target = made?;
-    is_so(rt, copy_ends(&mut target, &source, refusal), "the copy");
-    runs(rt, &mut target, steps);
-    Ok(())
-}
-
-#[test]
-fn a_copy_past_the_limit_leaves_nothing(rt: HostRuntime) -> Result<(), Fail> {
-    static STEPS: [Step; 2] = [Counts(0), Gives("wxyz", Ok(0), 4)];
-    let target = interner::<Spur>(rt.alloc(), 4, 4);
-    copy_of_two(&rt, target, Some(LIMIT), &STEPS)
-}
-
-#[test]
-fn a_copy_goes_on(rt: HostRuntime) -> Result<(), Fail> {
-    static STEPS: [Step; 4] = [
-        Fills(&["wxyz", "abc"], None),
-        Gives("abc", Ok(0), 12),
-        Gives("defg", Ok(1), 12),
-        Gives("wxyz", Ok(2), 12),
-    ];
-    let target = interner::<Spur>(rt.alloc(), 4, usize::MAX);
-    copy_of_two(&rt, target, None, &STEPS)
-}
-
-#[test]
-fn items_before_a_refused_one_stay(rt: HostRuntime) -> Result<(), Fail> {
-    static STEPS: [Step; 4] = [
-        Fills(&["ab", "cd", "e", "f"], Some(LIMIT)),
-        Counts(2),
-        Gives("ab", Ok(0), 4),
-        Gives("cd", Ok(1), 4),
-    ];
-    script::<Spur, _>(&rt, 4, 4, &STEPS)
-}
-
-const STRINGS: [&str; 4] = ["one string", "two string", "red string", "blue string"];
-
-#[test]
-fn an_interner_of_items(rt: HostRuntime) -> Result<(), Fail> {
-    static STEPS: [Step; 5] = [
-        Has("one string"),
-        Has("two string"),
-        Has("red string"),
-        Has("blue string"),
-        Counts(4),
-    ];
-    script_on(&rt, Small::from_iter(rt.alloc(), STRINGS), &STEPS)
-}
 
 fn of_100_numbers(alloc: Global) -> Result<Small, Fail> {
     let mut source = Rodeo::new(alloc)?;

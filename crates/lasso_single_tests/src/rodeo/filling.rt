@@ -1,10 +1,8 @@
-//! Interners filled from items, also where the keys or the limit refuse one, or where the size hint is huge.
+//! Interners filled from items, where the limit or the keys refuse one.
 
 use crate::checks::{KEYS, LIMIT, is_refused, is_so, is_text};
 use crate::interners::{Small, has_count, interner};
-use crate::steps::Step::{Counts, Fills};
-use crate::steps::{Step, script};
-use lasso_parts::keys::{MicroSpur, Spur};
+use lasso_parts::keys::Spur;
 use lasso_parts::util::{FixedState, LassoResult};
 use lasso_single::rodeo::Rodeo;
 use lasso_testing::keys::Gap;
@@ -12,25 +10,7 @@ use std::alloc::Global;
 use std::iter::repeat_n;
 use std::test::Fail;
 
-type Micro = Rodeo<MicroSpur, FixedState, Global>;
-
 type Keyless = Rodeo<Gap<0>, FixedState, Global>;
-
-fn number_texts(alloc: Global, count: usize) -> Result<Vec<String>, Fail> {
-    let mut texts: Vec<String> = Vec::new(alloc);
-    for number in 0..count {
-        texts.push(format!(in alloc; "{number}")?)?;
-    }
-    Ok(texts)
-}
-
-#[test]
-fn items_past_the_keys(rt: HostRuntime) -> Result<(), Fail> {
-    let texts = number_texts(rt.alloc(), 256)?;
-    let made = Micro::from_iter(rt.alloc(), texts);
-    is_so(&rt, is_refused(made, KEYS), "256 texts for 255 keys");
-    Ok(())
-}
 
 fn fill_without_end(rodeo: &mut Small) -> LassoResult<()> {
     rodeo.extend(repeat_n("abcde", usize::MAX))
@@ -68,10 +48,4 @@ fn items_behind_a_refused_one_are_not_taken(rt: HostRuntime) -> Result<(), Fail>
     is_so(&rt, is_filled_to_the_limit(&mut rodeo), "the next item");
     is_so(&rt, has_count(&rodeo, 1), "one text");
     Ok(())
-}
-
-#[test]
-fn texts_of_a_lent_array(rt: HostRuntime) -> Result<(), Fail> {
-    static STEPS: [Step; 2] = [Fills(&["ab", "c", "ab"], None), Counts(2)];
-    script::<Spur, _>(&rt, 4, 4, &STEPS)
 }
