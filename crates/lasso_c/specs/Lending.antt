@@ -1,7 +1,6 @@
 -- What a slot and a handle end as that have lent their interner.
-use Rattle.std.specs.Prelude.{◌≡◌, ⊤, true, refl, Option, Some}
-use Rattle.std.specs.Borrow.{Lends, LendsIf, follows_so, MutBor, Fml}
-use mathlib.Core.Option.{none}
+use Rattle.std.specs.Prelude.{◌≡◌, true, refl, Option, Some}
+use Rattle.std.specs.Borrow.{Lends, LendsIf, MutBor, Fml}
 use Rattle.lasso_c.specs.declared.slot.Slot.{Slot}
 use Rattle.lasso_c.specs.declared.handle.Lasso.{Lasso}
 use Rattle.lasso_c.specs.contracts.slot.Slot as slot
