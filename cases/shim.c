@@ -4,7 +4,7 @@
    SHORT_READ, SHORT_WRITE      a read, or a write, moves at most this number of bytes
    LINE_READ                    a read gives at most one line
    FAIL_READ, FAIL_WRITE        the call of this number fails, and a further one ends the program by SIGABRT
-   FAIL_WITH                    how: EIO (unless given), ENOSPC, EPIPE, or NOTHING: a write that takes no byte
+   FAIL_WITH                    how: by EIO (unless given) or one of `errors`, or by NOTHING: a write that takes no byte
    EINTR_READ, EINTR_WRITE      the call of this number is interrupted
    FAIL_SAY                     writes to standard error are made, but report EIO
    CLOCK_STEP, CLOCK_GOOD       the clock moves by this number of milliseconds each time it is read, and fails after this number of times
@@ -69,12 +69,20 @@ struct stream {
 static struct stream input = {'r', "SHORT_READ", "FAIL_READ", "EINTR_READ", 0, 0};
 static struct stream output = {'w', "SHORT_WRITE", "FAIL_WRITE", "EINTR_WRITE", 0, 0};
 
+/* The errors by which a call may fail. */
+static const struct { const char *name; int number; } errors[] = {
+    {"ENOSPC", ENOSPC}, {"EPIPE", EPIPE}, {"EDQUOT", EDQUOT}, {"EFBIG", EFBIG}, {"EAGAIN", EAGAIN}, {"ECONNRESET", ECONNRESET},
+};
+
 /* What a call that fails returns. */
 static ssize_t failed(struct stream *stream)
 {
     stream->has_failed = 1;
     trace(stream->call == 'r' ? "r-" : "w-");
-    errno = is_word("FAIL_WITH", "ENOSPC") ? ENOSPC : is_word("FAIL_WITH", "EPIPE") ? EPIPE : EIO;
+    errno = EIO;
+    for (size_t at = 0; at < sizeof errors / sizeof *errors; at++)
+        if (is_word("FAIL_WITH", errors[at].name))
+            errno = errors[at].number;
     return is_word("FAIL_WITH", "NOTHING") ? 0 : -1;
 }
 
