@@ -1,10 +1,13 @@
 //! JSON values of each kind in each role: alone, as an item, as the number of a text, and as its name.
 use super::{Wrong, insert, is_fault, is_wrong_with};
-use crate::checks::is_so;
-use crate::reading::read;
+use crate::checks::{is_so, runs_in};
+use crate::looks::Look;
+use crate::origins::read;
 use lasso_parts::json::JsonError;
 use lasso_parts::keys::{Key, MicroSpur, MiniSpur, Spur};
-use lasso_shared_testing::calls::{Shared, len, usage};
+use lasso_shared_testing::calls::Shared;
+use lasso_shared_testing::cases::PLAIN;
+use lasso_shared_testing::steps::Step;
 use serde_json::{Map, Number, Value};
 use std::alloc::Global;
 use std::process::Abort;
@@ -350,17 +353,11 @@ fn a_text_of_a_million_bytes(rt: HostRuntime) -> Result<(), Fail> {
     nested_ends(&rt)
 }
 
-// The interner has to have one text, in a bucket of a million bytes.
-fn shows_a_million(rt: &(impl Wait + Abort), shared: &Shared) {
-    is_so(rt, len(shared) == 1, "length");
-    is_so(rt, usage(rt, shared) == 1_000_000, "usage");
-}
-
 // One text of a million bytes is read into a bucket of its size.
 fn reads_one<R: AllocGlobal + Wait + Abort>(rt: &R) -> Result<(), Fail> {
-    let one = long_array(rt.alloc())?;
-    shows_a_million(rt, &read(rt.alloc(), &one)?);
-    Ok(())
+    static LOOKS: [Look; 1] = [Look::Does(&[Step::Counts(1), Step::Uses(1_000_000)])];
+    let shared: Shared = read(rt.alloc(), Ok(long_array(rt.alloc())?))?;
+    runs_in(rt, &shared, &LOOKS, PLAIN)
 }
 
 // Two such texts are equal, which is an error.

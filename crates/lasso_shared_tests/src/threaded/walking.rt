@@ -1,14 +1,16 @@
 //! Walks, the iterators of an interner that threads share.
 ghost use Rattle.std.specs.Prelude.{◌≡◌};
 
-use super::FIRST;
-use crate::checks::{is_so, runs};
+use crate::checks::{is_so, runs_in};
 use lasso_log::log::Pass;
 use lasso_parts::keys::{Key, Spur};
 use lasso_parts::util::LassoResult;
 use lasso_shared::threaded::{Iter, Strings};
 use lasso_shared_testing::calls::{Shared, copied, kept, kept_as, limited, made, pass_of};
+use lasso_shared_testing::cases::PLAIN;
 use lasso_shared_testing::steps::Step;
+use lasso_shared_testing::texts::List::Numbers;
+use lasso_shared_testing::texts::items_of;
 use std::process::Abort;
 use std::sync::Wait;
 use std::test::*;
@@ -102,15 +104,15 @@ fn give_all(shared: &Shared, texts: &[&str]) -> bool {
 }
 
 // Interns four texts. Fails unless new walks yield them.
-fn give_four<R: Wait + Abort>(rt: &R, shared: &Shared) -> Result<(), Fail> {
-    let steps = [
+fn give_four<R: AllocGlobal + Wait + Abort>(rt: &R, shared: &Shared) -> Result<(), Fail> {
+    static STEPS: [Step; 5] = [
         Step::Takes("abc", Ok(0)),
         Step::Takes("defghijk", Ok(1)),
         Step::Takes("x", Ok(2)),
         Step::Limits(14),
         Step::Takes("yz", Ok(3)),
     ];
-    runs(rt, shared, &steps)?;
+    runs_in(rt, shared, &STEPS, PLAIN)?;
     is_so(
         rt,
         give_all(shared, &["abc", "defghijk", "x", "yz"]),
@@ -247,11 +249,15 @@ fn walks(shared: &Shared, texts: &[&str], times: usize) -> usize {
 }
 
 // Walks 1000 times over the texts while another thread interns them. Returns how many walks were right.
-fn walks_beside_a_writer<R: Threads + Wait + Sync>(rt: &R, shared: &Shared) -> LassoResult<usize> {
+fn walks_beside_a_writer<R: Threads + Wait + Sync>(
+    rt: &R,
+    shared: &Shared,
+    texts: &[&str],
+) -> LassoResult<usize> {
     let (copied, walked) = join(
         rt,
-        || copies(rt, shared, &FIRST),
-        || walks(shared, &FIRST, 1000),
+        || copies(rt, shared, texts),
+        || walks(shared, texts, 1000),
     );
     copied?;
     Ok(walked)
@@ -265,11 +271,9 @@ fn yields_all(shared: &Shared, texts: &[&str]) -> bool {
 #[test]
 fn a_walk_beside_a_writer_gives_a_beginning_of_the_list(rt: HostRuntime) -> Result<(), Fail> {
     let shared = made(rt.alloc())?;
-    is_so(
-        &rt,
-        walks_beside_a_writer(&rt, &shared)? == 1000,
-        "the walks beside it",
-    );
-    is_so(&rt, yields_all(&shared, &FIRST), "the walk at the end");
+    let texts = items_of(rt.alloc(), Numbers(0, 100))?;
+    let walked = walks_beside_a_writer(&rt, &shared, &texts)?;
+    is_so(&rt, walked == 1000, "the walks beside it");
+    is_so(&rt, yields_all(&shared, &texts), "the walk at the end");
     Ok(())
 }
