@@ -1,5 +1,6 @@
-//! Interners that threads share, read from JSON and written as JSON.
-mod kinds;
+//! Interners that threads share, read from JSON and written as JSON. Stored scripts of `lasso_replay` have JSON
+//! values of each kind in each role, and those that are wrong.
+mod large;
 
 use super::checks::{freezes_as, is_so, runs, runs_as};
 use super::looks::{Look, first_wrong};
@@ -7,7 +8,7 @@ use super::origins::{Origin, make_from, value_of};
 use Look::{Compares, Does, Json, Shows};
 use Step::{ByOne, Copies, Counts, Finds, Interns, IsLimited, Uses};
 use lasso_parts::json::JsonError;
-use lasso_parts::keys::{Key, MicroSpur, Spur};
+use lasso_parts::keys::{Key, Spur};
 use lasso_parts::util::{FixedState, LassoResult};
 use lasso_shared::threaded::ThreadedRodeo;
 use lasso_shared_testing::calls::Shared;
@@ -17,7 +18,7 @@ use lasso_shared_testing::texts::List;
 use lasso_shared_testing::texts::List::{Numbers, Texts};
 use lasso_testing::hashers::{FirstState, SameState};
 use lasso_testing::keys::{WithoutTwo, WithoutZero};
-use serde_json::{Map, Number, Value};
+use serde_json::Value;
 use std::alloc::Global;
 use std::process::Abort;
 use std::sync::Wait;
@@ -58,34 +59,6 @@ fn ends<K: Key, R: AllocGlobal + Abort>(rt: &R, json: &str, wanted: Wrong) {
     is_so(rt, is_wrong_with::<K>(rt.alloc(), json, wanted), json);
 }
 
-static FAULTY: [(&str, JsonError); 18] = [
-    (r#"{"a":1,"b":3}"#, JsonError::NotAPosition(1)),
-    (r#"{"a":1,"b":1}"#, JsonError::Taken(1)),
-    (r#"{"a":1,"b":2,"c":1}"#, JsonError::Taken(2)),
-    (r#"{"a":"1"}"#, JsonError::NotAPosition(0)),
-    (r#"{"a":0}"#, JsonError::NotAPosition(0)),
-    (r#"{"a":-1}"#, JsonError::NotAPosition(0)),
-    (r#"{"a":null}"#, JsonError::NotAPosition(0)),
-    (r#"{"a":1.0}"#, JsonError::NotAPosition(0)),
-    (r#"{"a":18446744073709551615}"#, JsonError::NotAPosition(0)),
-    (r#"{"a":2,"b":2}"#, JsonError::Taken(1)),
-    (r#"{"b":2,"a":2,"c":0}"#, JsonError::Taken(1)),
-    (r#"{"a":3,"b":1}"#, JsonError::NotAPosition(0)),
-    (r#"["a","a"]"#, JsonError::Doubled(1)),
-    (r#"["a",1]"#, JsonError::NotText(1)),
-    ("[[]]", JsonError::NotText(0)),
-    ("null", JsonError::NotAnObject),
-    ("1", JsonError::NotAnObject),
-    (r#""a""#, JsonError::NotAnObject),
-];
-
-#[test]
-fn faulty_values(rt: HostRuntime) {
-    for (json, wanted) in FAULTY.iter() {
-        ends::<Spur, _>(&rt, json, Some(*wanted));
-    }
-}
-
 #[test]
 fn a_position_without_a_key(rt: HostRuntime) {
     let (none, one) = (Some(JsonError::TooMany(0)), Some(JsonError::TooMany(2)));
@@ -94,36 +67,6 @@ fn a_position_without_a_key(rt: HostRuntime) {
     ends::<WithoutZero, _>(&rt, r#"{"pp":1}"#, none);
     ends::<WithoutZero, _>(&rt, r#"["pp"]"#, none);
     ends::<WithoutTwo, _>(&rt, r#"{"a":2,"b":1}"#, None);
-}
-
-// Adds the text with this number to the members, or sets its number.
-fn insert(members: &mut Map<String, Value>, text: String, number: u64) -> Result<(), Fail> {
-    members.insert(text, Value::Number(Number::from(number)))?;
-    Ok(())
-}
-
-// An object of `count` texts of three digits, each with its position plus one.
-fn numbered(alloc: Global, count: usize) -> Result<Value, Fail> {
-    let mut members: Map<String, Value> = Map::new(alloc);
-    for position in 0..count {
-        let text = format!(in alloc; "{position:03}")?;
-        insert(&mut members, text, (position as u64).saturating_add(1))?;
-    }
-    Ok(Value::Object(members))
-}
-
-// Whether reading such an object by keys of 8 bits ends so.
-fn is_fault_of(alloc: Global, count: usize, wanted: Wrong) -> Result<bool, Fail> {
-    let value = numbered(alloc, count)?;
-    Ok(is_fault::<MicroSpur>(alloc, &value, wanted))
-}
-
-#[test]
-fn more_members_than_keys(rt: HostRuntime) -> Result<(), Fail> {
-    is_so(&rt, is_fault_of(rt.alloc(), 255, None)?, "255");
-    let too_many = Some(JsonError::TooMany(255));
-    is_so(&rt, is_fault_of(rt.alloc(), 256, too_many)?, "256");
-    Ok(())
 }
 
 // The interner of two texts has a bucket of two bytes, which is full, so a new text takes one of four. It has to
