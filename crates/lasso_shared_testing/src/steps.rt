@@ -450,8 +450,9 @@ fn holds_more<K: Key, S: BuildHasher + Drop, R: AllocGlobal + Wait>(
     }
 }
 
-/// Makes the call, without a pass or with a new one. Returns whether it returned what it has to.
-pub fn holds<K: Key, S: BuildHasher + Drop, R: AllocGlobal + Wait>(
+// Makes a call that is about one text or one number, without a pass or with a new one. Returns whether it returned
+// what it has to.
+fn holds_plainly<K: Key, S: BuildHasher + Drop, R: Wait>(
     rt: &R,
     shared: &ThreadedRodeo<K, S>,
     step: Step,
@@ -468,6 +469,40 @@ pub fn holds<K: Key, S: BuildHasher + Drop, R: AllocGlobal + Wait>(
             Ok(true)
         }
         Step::IsLimited(bytes) => Ok(limit(rt, shared) == bytes),
+        _ => Ok(false),
+    }
+}
+
+/// Makes the call, without a pass or with a new one. Returns whether it returned what it has to.
+pub fn holds<K: Key, S: BuildHasher + Drop, R: AllocGlobal + Wait>(
+    rt: &R,
+    shared: &ThreadedRodeo<K, S>,
+    step: Step,
+) -> LassoResult<bool> {
+    match step {
+        Step::Interns(_, _, _)
+        | Step::Takes(_, _)
+        | Step::Finds(_, _)
+        | Step::Reads(_, _)
+        | Step::Counts(_)
+        | Step::Uses(_)
+        | Step::Limits(_)
+        | Step::IsLimited(_) => holds_plainly(rt, shared, step),
         _ => holds_more(rt, shared, step),
     }
+}
+
+/// Makes calls that are about one text or one number in order, up to the first that returns something else. Returns
+/// how many returned what they have to.
+pub fn first_wrong<K: Key, S: BuildHasher + Drop, R: Wait>(
+    rt: &R,
+    shared: &ThreadedRodeo<K, S>,
+    steps: &[Step],
+) -> LassoResult<usize> {
+    for index in 0..steps.len() {
+        if !holds_plainly(rt, shared, steps[index])? {
+            return Ok(index);
+        }
+    }
+    Ok(steps.len())
 }
