@@ -34,6 +34,14 @@ pub(super) fn is_read<K: Key, S: BuildHasher>(
     }
 }
 
+// Whether the key with this number stands for no text in the reader.
+fn reads_none<K: Key, S: BuildHasher>(reader: &RodeoReader<K, S, Global>, number: usize) -> bool {
+    match K::try_from_usize(number) {
+        Some(key) => reader.try_resolve(key).is_none() && !reader.contains_key(key),
+        None => true,
+    }
+}
+
 /// Whether the reader has exactly these texts. `absent` is not one of them.
 pub(super) fn reads_just<K: Key, S: BuildHasher>(
     reader: &RodeoReader<K, S, Global>,
@@ -45,7 +53,8 @@ pub(super) fn reads_just<K: Key, S: BuildHasher>(
         all &= is_read(reader, position, texts[position]);
     }
     let lacks = reader.get(absent).is_none() && !reader.contains(absent);
-    all && lacks && yields(reader.strings(), texts)
+    let past = reads_none(reader, texts.len()) && reads_none(reader, texts.len().saturating_add(9));
+    all && lacks && past && yields(reader.strings(), texts)
 }
 
 // Whether the resolver has the text at this number, or none.
@@ -66,7 +75,9 @@ pub(super) fn resolves_just<K: Key>(resolver: &RodeoResolver<K, Global>, texts: 
     for position in 0..texts.len() {
         all &= is_resolved(resolver, position, Some(texts[position]));
     }
-    all && is_resolved(resolver, texts.len(), None) && yields(resolver.strings(), texts)
+    all && is_resolved(resolver, texts.len(), None)
+        && is_resolved(resolver, texts.len().saturating_add(9), None)
+        && yields(resolver.strings(), texts)
 }
 
 /// How an interner is frozen.

@@ -7,7 +7,7 @@ mod copied;
 mod hints;
 mod writers;
 
-use crate::checks::{is_so, runs_as, runs_in};
+use crate::checks::{is_so, runs_in};
 use Step::{Counts, Finds, Keeps, Lists};
 use lasso_log::log::Opened;
 use lasso_parts::index::hash_text;
@@ -16,9 +16,8 @@ use lasso_parts::util::{FixedState, LassoErrorKind, LassoResult};
 use lasso_shared::shards::Shards;
 use lasso_shared::shards::tag::number_of;
 use lasso_shared::threaded::ThreadedRodeo;
-use lasso_shared_testing::calls::{answered, hashed};
+use lasso_shared_testing::calls::{answered, found, hashed};
 use lasso_shared_testing::cases::PLAIN;
-use lasso_shared_testing::makers::Maker;
 use lasso_shared_testing::steps::Step;
 use lasso_shared_testing::texts::List::Numbers;
 use lasso_shared_testing::texts::items_of;
@@ -219,6 +218,19 @@ fn has_just(reader: &RodeoReader<Spur, SameState, Global>, texts: &[&str], other
     reader.len() == texts.len() && reader.get(other).is_none()
 }
 
+// Whether each of the texts is found at its position.
+fn are_found<S: BuildHasher + Drop, R: Wait>(
+    rt: &R,
+    shared: &ThreadedRodeo<Spur, S>,
+    texts: &[&'static str],
+) -> bool {
+    let mut all = true;
+    for position in 0..texts.len() {
+        all &= found(rt, shared, texts[position]) == Some(position);
+    }
+    all
+}
+
 // The texts are of one shard, and have one hash.
 #[test]
 fn constant_hash(rt: HostRuntime) -> Result<(), Fail> {
@@ -230,8 +242,9 @@ fn constant_hash(rt: HostRuntime) -> Result<(), Fail> {
     ];
     let shared: ThreadedRodeo<Spur, SameState> = hashed(rt.alloc())?;
     runs_in(&rt, &shared, &STEPS, PLAIN)?;
-    let reader = shared.into_reader(&rt)?;
     let items = items_of(rt.alloc(), Numbers(0, 300))?;
+    is_so(&rt, are_found(&rt, &shared, &items), "the texts");
+    let reader = shared.into_reader(&rt)?;
     is_so(&rt, has_just(&reader, &items, "300"), "the reader");
     Ok(())
 }
@@ -250,7 +263,11 @@ fn texts_of_one_shard_and_of_others(rt: HostRuntime) -> Result<(), Fail> {
         Finds("a", None),
         Counts(300),
     ];
-    runs_as::<Spur, FirstState, _>(&rt, Maker::Default, &STEPS, PLAIN)
+    let shared: ThreadedRodeo<Spur, FirstState> = hashed(rt.alloc())?;
+    runs_in(&rt, &shared, &STEPS, PLAIN)?;
+    let items = items_of(rt.alloc(), Numbers(9850, 10_150))?;
+    is_so(&rt, are_found(&rt, &shared, &items), "the texts");
+    Ok(())
 }
 
 // How many slots the spine keeps for texts to come.
