@@ -99,8 +99,41 @@ fn sized_text(alloc: Global, size: usize, text: &'static str) -> LassoResult<&'s
     }
 }
 
-/// What the text of a row stands for.
-pub fn text_for(alloc: Global, case: Case, text: &'static str) -> LassoResult<&'static str> {
+/// Texts that were formed for rows, each after the one in the row that stands for it.
+pub type Formed = Vec<(&'static str, &'static str)>;
+
+// The text that was formed for this one of a row.
+fn formed_for(formed: &[(&'static str, &'static str)], text: &str) -> Option<&'static str> {
+    for pair in formed.iter() {
+        if pair.0 == text {
+            return Some(pair.1);
+        }
+    }
+    None
+}
+
+// What a text of a row stands for in a case of this size. It is formed once.
+fn text_of_size(
+    alloc: Global,
+    formed: &mut Formed,
+    size: usize,
+    text: &'static str,
+) -> LassoResult<&'static str> {
+    if let Some(known) = formed_for(formed, text) {
+        return Ok(known);
+    }
+    let made = sized_text(alloc, size, text)?;
+    formed.push((text, made))?;
+    Ok(made)
+}
+
+// What the text of a row stands for.
+fn text_for(
+    alloc: Global,
+    formed: &mut Formed,
+    case: Case,
+    text: &'static str,
+) -> LassoResult<&'static str> {
     if text == "@" {
         return Ok(case.pair.0);
     }
@@ -108,7 +141,7 @@ pub fn text_for(alloc: Global, case: Case, text: &'static str) -> LassoResult<&'
         return Ok(case.pair.1);
     }
     match case.size {
-        Some(size) => sized_text(alloc, size, text),
+        Some(size) => text_of_size(alloc, formed, size, text),
         None => Ok(text),
     }
 }
@@ -116,11 +149,12 @@ pub fn text_for(alloc: Global, case: Case, text: &'static str) -> LassoResult<&'
 // The same of a text that there may be.
 fn some_text_for(
     alloc: Global,
+    formed: &mut Formed,
     case: Case,
     text: Option<&'static str>,
 ) -> LassoResult<Option<&'static str>> {
     match text {
-        Some(text) => Ok(Some(text_for(alloc, case, text)?)),
+        Some(text) => Ok(Some(text_for(alloc, formed, case, text)?)),
         None => Ok(None),
     }
 }
@@ -152,9 +186,10 @@ fn list_for(case: Case, list: List) -> List {
 /// The texts that those of the list stand for.
 pub fn items_for(alloc: Global, case: Case, list: List) -> LassoResult<Vec<&'static str>> {
     let items = items_of(alloc, list_for(case, list))?;
+    let mut formed = Vec::new(alloc);
     let mut texts = Vec::new(alloc);
     for text in items.iter() {
-        texts.push(text_for(alloc, case, *text)?)?;
+        texts.push(text_for(alloc, &mut formed, case, *text)?)?;
     }
     Ok(texts)
 }
@@ -168,19 +203,25 @@ fn way_for(case: Case, way: Way) -> Way {
 }
 
 // The call by a pass that the row stands for.
-fn call_of(alloc: Global, case: Case, call: Call) -> LassoResult<Call> {
+fn call_of(alloc: Global, formed: &mut Formed, case: Case, call: Call) -> LassoResult<Call> {
     match call {
         Call::Copies(text, reply) => {
-            Ok(Call::Copies(text_for(alloc, case, text)?, reply_for(case, reply)))
+            Ok(Call::Copies(text_for(alloc, formed, case, text)?, reply_for(case, reply)))
         }
         Call::Keeps(text, reply) => {
-            Ok(Call::Keeps(text_for(alloc, case, text)?, reply_for(case, reply)))
+            Ok(Call::Keeps(text_for(alloc, formed, case, text)?, reply_for(case, reply)))
         }
         Call::Finds(text, number) => {
-            Ok(Call::Finds(text_for(alloc, case, text)?, some_number_for(case, number)))
+            Ok(Call::Finds(
+                text_for(alloc, formed, case, text)?,
+                some_number_for(case, number),
+            ))
         }
         Call::Reads(number, text) => {
-            Ok(Call::Reads(number_for(case, number), some_text_for(alloc, case, text)?))
+            Ok(Call::Reads(
+                number_for(case, number),
+                some_text_for(alloc, formed, case, text)?,
+            ))
         }
         Call::Counts(count) => Ok(Call::Counts(number_for(case, count))),
         Call::Sums(limit, usage) => {
@@ -193,55 +234,65 @@ fn call_of(alloc: Global, case: Case, call: Call) -> LassoResult<Call> {
 }
 
 // The row of sums, of a list or of a call by a pass that this row stands for.
-fn other_step_of(alloc: Global, case: Case, step: Step) -> LassoResult<Step> {
+fn other_step_of(alloc: Global, formed: &mut Formed, case: Case, step: Step) -> LassoResult<Step> {
     match step {
         Step::Counts(count) => Ok(Step::Counts(number_for(case, count))),
         Step::Uses(bytes) => Ok(Step::Uses(number_for(case, bytes))),
         Step::Limits(bytes) => Ok(Step::Limits(number_for(case, bytes))),
         Step::IsLimited(bytes) => Ok(Step::IsLimited(number_for(case, bytes))),
         Step::AllocatesOver(bytes) => Ok(Step::AllocatesOver(number_for(case, bytes))),
-        Step::ByNew(call) => Ok(Step::ByNew(call_of(alloc, case, call)?)),
-        Step::ByOne(call) => Ok(Step::ByOne(call_of(alloc, case, call)?)),
-        Step::ByOther(call) => Ok(Step::ByOther(call_of(alloc, case, call)?)),
+        Step::ByNew(call) => Ok(Step::ByNew(call_of(alloc, formed, case, call)?)),
+        Step::ByOne(call) => Ok(Step::ByOne(call_of(alloc, formed, case, call)?)),
+        Step::ByOther(call) => Ok(Step::ByOther(call_of(alloc, formed, case, call)?)),
         _ => Ok(step),
     }
 }
 
-/// The row that this row stands for.
-pub fn step_of(alloc: Global, case: Case, step: Step) -> LassoResult<Step> {
+/// The row that this row stands for. Its texts are added to `formed`.
+pub fn step_of(alloc: Global, formed: &mut Formed, case: Case, step: Step) -> LassoResult<Step> {
     match step {
         Step::Interns(way, text, reply) => {
-            let text = text_for(alloc, case, text)?;
+            let text = text_for(alloc, formed, case, text)?;
             Ok(Step::Interns(way_for(case, way), text, reply_for(case, reply)))
         }
         Step::Takes(text, reply) => {
-            Ok(Step::Takes(text_for(alloc, case, text)?, reply_for(case, reply)))
+            Ok(Step::Takes(text_for(alloc, formed, case, text)?, reply_for(case, reply)))
         }
         Step::Finds(text, number) => {
-            Ok(Step::Finds(text_for(alloc, case, text)?, some_number_for(case, number)))
+            Ok(Step::Finds(
+                text_for(alloc, formed, case, text)?,
+                some_number_for(case, number),
+            ))
         }
         Step::Reads(number, text) => {
-            Ok(Step::Reads(number_for(case, number), some_text_for(alloc, case, text)?))
+            Ok(Step::Reads(
+                number_for(case, number),
+                some_text_for(alloc, formed, case, text)?,
+            ))
         }
         Step::EachInterns(text, reply) => {
-            Ok(Step::EachInterns(text_for(alloc, case, text)?, reply_for(case, reply)))
+            Ok(Step::EachInterns(text_for(alloc, formed, case, text)?, reply_for(case, reply)))
         }
         Step::EachCopies(text, reply) => {
-            Ok(Step::EachCopies(text_for(alloc, case, text)?, reply_for(case, reply)))
+            Ok(Step::EachCopies(text_for(alloc, formed, case, text)?, reply_for(case, reply)))
         }
         Step::Resolves(way, text) => {
-            Ok(Step::Resolves(way_for(case, way), text_for(alloc, case, text)?))
+            Ok(Step::Resolves(way_for(case, way), text_for(alloc, formed, case, text)?))
         }
-        Step::New(way, text) => Ok(Step::New(way_for(case, way), text_for(alloc, case, text)?)),
-        _ => other_step_of(alloc, case, step),
+        Step::New(way, text) => Ok(Step::New(
+            way_for(case, way),
+            text_for(alloc, formed, case, text)?,
+        )),
+        _ => other_step_of(alloc, formed, case, step),
     }
 }
 
 /// The rows that these rows stand for.
 pub fn steps_of(alloc: Global, case: Case, steps: &[Step]) -> LassoResult<Vec<Step>> {
+    let mut formed = Vec::new(alloc);
     let mut all = Vec::new(alloc);
     for step in steps.iter() {
-        all.push(step_of(alloc, case, *step)?)?;
+        all.push(step_of(alloc, &mut formed, case, *step)?)?;
     }
     Ok(all)
 }

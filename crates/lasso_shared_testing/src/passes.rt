@@ -216,8 +216,9 @@ fn first_wrong_with<K: Key, S: BuildHasher + Drop, R: AllocGlobal + Wait>(
 ) -> LassoResult<usize>
     requires of { (one.old.of ≡ shared.now) × (other.old.of ≡ shared.now) }
 {
+    let mut formed = Vec::new(rt.alloc());
     for index in 0..steps.len() {
-        let step = step_of(rt.alloc(), case, steps[index])?;
+        let step = step_of(rt.alloc(), &mut formed, case, steps[index])?;
         if !holds_each_time(rt, shared, one, other, step, case.times)? {
             return Ok(index);
         }

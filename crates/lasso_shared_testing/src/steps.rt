@@ -180,9 +180,11 @@ pub enum Step {
     /// Interns the numbers of five digits from the first one on and below the second one, by four calls in turn.
     /// Each is the number of its key.
     Grows(usize, usize),
-    /// Interns texts of the letter and the numbers below the count by the call, and in turn with each, those of
-    /// the other letter. The key of each resolves to it.
-    Fills(Way, &'static str, &'static str, usize),
+    /// Interns texts of the letters and the numbers below the count by the call, for each number those of all
+    /// letters. The key of each resolves to it.
+    Fills(Way, &'static [&'static str], usize),
+    /// Looks the same texts up by `get`. The key of each resolves to it.
+    Shows(&'static [&'static str], usize),
     /// Makes the call by a new pass.
     ByNew(Call),
     /// Makes the call by the first pass of the run.
@@ -298,18 +300,75 @@ pub fn resolves<K: Key, S: BuildHasher + Drop, R: Wait>(
     Ok(reads(shared, number, Some(text)) && finds(rt, shared, text, Some(number)))
 }
 
-// Interns texts of the two letters, in turn. Returns whether the key of each resolves to it.
+// Whether `resolve` gives the text for the key with this number.
+fn is_resolved<K: Key, S: BuildHasher + Drop>(
+    shared: &ThreadedRodeo<K, S>,
+    number: usize,
+    text: &str,
+) -> bool {
+    match K::try_from_usize(number) {
+        Some(key) => shared.resolve(key) == Some(text),
+        None => false,
+    }
+}
+
+// Interns texts of the letters and the number by the call. Returns whether the key of each resolves to it.
+fn fills_at<K: Key, S: BuildHasher + Drop, R: AllocGlobal + Wait>(
+    rt: &R,
+    shared: &ThreadedRodeo<K, S>,
+    way: Way,
+    letters: &[&'static str],
+    number: usize,
+) -> LassoResult<bool> {
+    let mut all = true;
+    for letter in letters.iter() {
+        let text = counted(rt.alloc(), *letter, number)?;
+        all &= is_resolved(shared, interned(rt, shared, way, text)?, text);
+    }
+    Ok(all)
+}
+
+// The same of each number below the count.
 fn fills<K: Key, S: BuildHasher + Drop, R: AllocGlobal + Wait>(
     rt: &R,
     shared: &ThreadedRodeo<K, S>,
     way: Way,
-    letters: (&str, &str),
+    letters: &[&'static str],
     count: usize,
 ) -> LassoResult<bool> {
     let mut all = true;
     for number in 0..count {
-        all &= resolves(rt, shared, way, counted(rt.alloc(), letters.0, number)?)?;
-        all &= resolves(rt, shared, way, counted(rt.alloc(), letters.1, number)?)?;
+        all &= fills_at(rt, shared, way, letters, number)?;
+    }
+    Ok(all)
+}
+
+// Looks texts of the letters and the number up by `get`. Returns whether the key of each resolves to it.
+fn shows_at<K: Key, S: BuildHasher + Drop, R: AllocGlobal + Wait>(
+    rt: &R,
+    shared: &ThreadedRodeo<K, S>,
+    letters: &[&'static str],
+    number: usize,
+) -> LassoResult<bool> {
+    let mut all = true;
+    for letter in letters.iter() {
+        let text = counted(rt.alloc(), *letter, number)?;
+        let found = found(rt, shared, text).unwrap_or(usize::MAX);
+        all &= is_resolved(shared, found, text);
+    }
+    Ok(all)
+}
+
+// The same of each number below the count.
+fn shows<K: Key, S: BuildHasher + Drop, R: AllocGlobal + Wait>(
+    rt: &R,
+    shared: &ThreadedRodeo<K, S>,
+    letters: &[&'static str],
+    count: usize,
+) -> LassoResult<bool> {
+    let mut all = true;
+    for number in 0..count {
+        all &= shows_at(rt, shared, letters, number)?;
     }
     Ok(all)
 }
@@ -327,7 +386,8 @@ pub fn extends<K: Key, S: BuildHasher + Drop, R: Wait>(
     }
 }
 
-/// Interns each text by one of the two calls, in turn, and again by the other. Returns whether each has its position as its number.
+/// Interns each text by one of the two calls, in turn, and again by the other. Returns whether each has its
+/// position as its number.
 pub fn takes_in_turn<K: Key, S: BuildHasher + Drop, R: Wait>(
     rt: &R,
     shared: &ThreadedRodeo<K, S>,
@@ -419,7 +479,8 @@ fn holds_many<K: Key, S: BuildHasher + Drop, R: AllocGlobal + Wait>(
         }
         Step::NonePast(count) => Ok(none_past(shared, count)),
         Step::Grows(first, end) => grows(rt, shared, first, end),
-        Step::Fills(way, one, other, count) => fills(rt, shared, way, (one, other), count),
+        Step::Fills(way, letters, count) => fills(rt, shared, way, letters, count),
+        Step::Shows(letters, count) => shows(rt, shared, letters, count),
         _ => Ok(false),
     }
 }

@@ -9,9 +9,20 @@ pub static LENGTHS: [usize; 41] = [
     200_001,
 ];
 
+// 64 bytes `-`.
+const DASHES: &str = "----------------------------------------------------------------";
+
+// So many bytes `-`. Most are put in by 64.
+fn dashes(alloc: Global, count: usize) -> Result<String, AllocError> {
+    let mut text = DASHES.repeat(alloc, count / 64)?;
+    let rest = "-".repeat(alloc, count % 64)?;
+    text.push_str(rest.as_str())?;
+    Ok(text)
+}
+
 /// The letter and then `length - 1` bytes `-`: `length` bytes, at least one, if the letter has one byte.
 pub fn lettered(alloc: Global, letter: &str, length: usize) -> Result<String, AllocError> {
-    let rest = "-".repeat(alloc, length.saturating_sub(1))?;
+    let rest = dashes(alloc, length.saturating_sub(1))?;
     let rest = rest.as_str();
     format!(in alloc; "{letter}{rest}")
 }
@@ -57,7 +68,7 @@ pub fn numeral(alloc: Global, number: usize) -> LassoResult<&'static str> {
 
 /// The number in five digits and `-` after it, of `length` bytes, as a static text. It is never freed.
 pub fn numeral_of(alloc: Global, number: usize, length: usize) -> LassoResult<&'static str> {
-    let rest = "-".repeat(alloc, length.saturating_sub(5))?;
+    let rest = dashes(alloc, length.saturating_sub(5))?;
     let rest = rest.as_str();
     leaked(format!(in alloc; "{number:05}{rest}")?)
 }

@@ -1,6 +1,6 @@
 //! Threads that intern texts of their own, and texts that all of them intern.
 use crate::checks::{is_so, runs_in, runs_in_two};
-use Step::{Counts, Fills, UsesAtMost};
+use Step::{Counts, Fills, Shows, UsesAtMost};
 use lasso_parts::util::LassoResult;
 use lasso_shared_testing::calls::{Shared, made};
 use lasso_shared_testing::cases::PLAIN;
@@ -14,16 +14,16 @@ use std::thread::{Threads, join};
 #[test]
 fn two_threads_intern_by_each_call(rt: HostRuntime) -> Result<(), Fail> {
     static COPIED: [[Step; 1]; 2] = [
-        [Fills(Way::Copied, "a", "a", 10_000)],
-        [Fills(Way::Copied, "b", "b", 10_000)],
+        [Fills(Way::Copied, &["a"], 10_000)],
+        [Fills(Way::Copied, &["b"], 10_000)],
     ];
     static TRY_STATIC: [[Step; 1]; 2] = [
-        [Fills(Way::TryStatic, "a", "a", 10_000)],
-        [Fills(Way::TryStatic, "b", "b", 10_000)],
+        [Fills(Way::TryStatic, &["a"], 10_000)],
+        [Fills(Way::TryStatic, &["b"], 10_000)],
     ];
     static STATIC: [[Step; 1]; 2] = [
-        [Fills(Way::Static, "a", "a", 10_000)],
-        [Fills(Way::Static, "b", "b", 10_000)],
+        [Fills(Way::Static, &["a"], 10_000)],
+        [Fills(Way::Static, &["b"], 10_000)],
     ];
     static LAST: [Step; 1] = [Counts(20_000)];
     for [a, b] in [&COPIED, &TRY_STATIC, &STATIC] {
@@ -34,10 +34,10 @@ fn two_threads_intern_by_each_call(rt: HostRuntime) -> Result<(), Fail> {
 
 // Texts of five letters. All threads intern those of the last one, in turn with their own.
 static EACH: [[Step; 1]; 4] = [
-    [Fills(Way::TryCopied, "a", "e", 10_000)],
-    [Fills(Way::TryCopied, "b", "e", 10_000)],
-    [Fills(Way::TryCopied, "c", "e", 10_000)],
-    [Fills(Way::TryCopied, "d", "e", 10_000)],
+    [Fills(Way::TryCopied, &["a", "e"], 10_000)],
+    [Fills(Way::TryCopied, &["b", "e"], 10_000)],
+    [Fills(Way::TryCopied, &["c", "e"], 10_000)],
+    [Fills(Way::TryCopied, &["d", "e"], 10_000)],
 ];
 
 // Four threads intern a list each, and the common one. Returns whether each key resolves to its text.
@@ -61,14 +61,9 @@ fn share_half<R: AllocGlobal + Threads + Wait + Sync + Abort>(
     shared: &Shared,
 ) -> Result<(), Fail> {
     // each list of 10000 texts has 38890 digits and 10000 letters: 244,450 bytes in all
-    static LAST: [Step; 8] = [
+    static LAST: [Step; 4] = [
         Counts(50_000),
-        UsesAtMost(4096 + 4 * 244_450),
-        // each text is there: none is added
-        Fills(Way::TryCopied, "a", "b", 10_000),
-        Fills(Way::TryCopied, "c", "d", 10_000),
-        Fills(Way::TryCopied, "e", "e", 10_000),
-        Counts(50_000),
+        Shows(&["a", "b", "c", "d", "e"], 10_000),
         UsesAtMost(4096 + 4 * 244_450),
         Step::EqualsItself,
     ];
