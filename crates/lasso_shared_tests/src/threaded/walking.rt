@@ -190,7 +190,7 @@ fn begins(mut walk: Strings<'_, Spur>, texts: &[&str]) -> bool {
 
 // Walks `times` times, and stops at a walk that yields no prefix of the texts or is shorter than an earlier
 // one. Returns how many walks came before.
-fn walks(shared: &Shared, texts: &[&str], times: usize) -> usize {
+fn walks_before(shared: &Shared, texts: &[&str], times: usize) -> usize {
     let mut least = 0;
     for time in 0..times {
         let walk = shared.strings();
@@ -212,7 +212,7 @@ fn walks_beside_a_writer<R: Threads + Wait + Sync>(
     let (copied, walked) = join(
         rt,
         || copies(rt, shared, texts),
-        || walks(shared, texts, 1000),
+        || walks_before(shared, texts, 1000),
     );
     copied?;
     Ok(walked)
