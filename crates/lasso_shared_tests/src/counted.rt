@@ -94,16 +94,20 @@ fn bytes_of_list_and_index(rt: HostRuntime) -> Result<(), Fail> {
 // Room for texts is made in cells alone, of which a chunk has 32, 32, 64, 128 and so on.
 #[test]
 fn bytes_of_room_for_texts(rt: HostRuntime) -> Result<(), Fail> {
-    static ROOMS: [(usize, [Step; 1]); 6] = [
-        (0, [Allocates(10)]),
-        (1, [Allocates(10 + 32 * 32)]),
-        (32, [Allocates(10 + 32 * 32)]),
-        (33, [Allocates(10 + 64 * 32)]),
-        (65, [Allocates(10 + 128 * 32)]),
-        (300, [Allocates(10 + 512 * 32)]),
+    static ROOMS: [(usize, usize); 6] = [
+        (0, 10),
+        (1, 10 + 32 * 32),
+        (32, 10 + 32 * 32),
+        (33, 10 + 64 * 32),
+        (65, 10 + 128 * 32),
+        (300, 10 + 512 * 32),
     ];
-    for (texts, steps) in ROOMS.iter() {
-        runs(&rt, Maker::Sized(*texts, 10, usize::MAX), steps)?;
+    for (texts, bytes) in ROOMS.iter() {
+        runs(
+            &rt,
+            Maker::Sized(*texts, 10, usize::MAX),
+            &[Allocates(*bytes)],
+        )?;
     }
     // the default is room for 50 texts, and 4096 bytes
     static DEFAULT: [Step; 1] = [Allocates(6144)];
