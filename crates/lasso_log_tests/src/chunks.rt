@@ -10,11 +10,16 @@ use std::sync::Wait;
 use std::test::*;
 use std::thread::{Threads, join};
 
-const TEXTS: [&str; 4] = ["", "a", "Bär", "long enough to tell from the others"];
+static TEXTS: [&str; 4] = ["", "a", "Bär", "long enough to tell from the others"];
+
+// Whether the position is in this chunk, at this offset.
+fn is_at(position: u64, chunk: usize, offset: usize) -> bool {
+    chunk_and_offset(position) == (chunk, offset)
+}
 
 #[test]
 fn positions_lie_in_chunks_that_double(rt: HostRuntime) {
-    let worked = [
+    static WORKED: [(u64, usize, usize); 9] = [
         (0, 0, 0),
         (31, 0, 31),
         (32, 1, 0),
@@ -25,11 +30,8 @@ fn positions_lie_in_chunks_that_double(rt: HostRuntime) {
         (1_000_000, 15, 475_712),
         (u64::MAX, 59, 0x7fff_ffff_ffff_ffff),
     ];
-    for (position, chunk, offset) in worked {
-        assert!(rt;
-            chunk_and_offset(position) == (chunk, offset),
-            "at {position}"
-        );
+    for (position, chunk, offset) in WORKED.iter() {
+        assert!(rt; is_at(*position, *chunk, *offset), "at {position}");
     }
 }
 
@@ -66,15 +68,15 @@ fn fill_each<R: Wait + Abort>(
 #[test]
 fn a_filled_cell_lends_its_text(rt: HostRuntime) -> Result<(), Fail> {
     let chunks = Chunks::new(rt.alloc(), "")?;
-    let cells = [
-        (0, TEXTS[0]),
-        (31, TEXTS[1]),
-        (32, TEXTS[2]),
-        (63, TEXTS[3]),
-        (64, TEXTS[0]),
-        (700, TEXTS[1]),
+    static CELLS: [(u64, &str); 6] = [
+        (0, ""),
+        (31, "a"),
+        (32, "Bär"),
+        (63, "long enough to tell from the others"),
+        (64, ""),
+        (700, "a"),
     ];
-    fill_each(&rt, rt.alloc(), &chunks, &cells)
+    fill_each(&rt, rt.alloc(), &chunks, &CELLS)
 }
 
 // Fills a cell and asks for the chunk of another position. Returns whether that was made, or else refused,

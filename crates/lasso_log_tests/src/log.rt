@@ -148,15 +148,16 @@ fn append_each_length<R: Abort + Wait>(
 ) -> Result<(), Fail>
     requires { (spine.old.of ≡ log.now) × (list_of log.now spine.old.notes ≡ []) }
 {
-    let appended = append_all(rt, alloc, log, spine, &OF_EACH_LENGTH[..31]);
+    static TEXTS: [&str; 33] = OF_EACH_LENGTH;
+    let appended = append_all(rt, alloc, log, spine, &TEXTS[..31]);
     is_so(rt, appended == 31, "31 texts");
     is_so(rt, keeps_none(spine, 31), "31 texts and no slot");
     // the first chunk has 32 cells: of the slots of positions 31, 32 and 33 it has the first alone
-    let last = [OF_EACH_LENGTH[31], OF_EACH_LENGTH[32]];
+    let last = [TEXTS[31], TEXTS[32]];
     let are_appended = append_ahead(rt, alloc, log, spine, last)?;
     is_so(rt, are_appended, "three slots, and two texts");
     is_so(rt, keeps_none(spine, 33), "33 texts and no slot");
-    reads(rt, log, &mut log.pass(), &OF_EACH_LENGTH);
+    reads(rt, log, &mut log.pass(), &TEXTS);
     Ok(())
 }
 

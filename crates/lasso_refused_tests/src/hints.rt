@@ -10,7 +10,7 @@ use std::process::Abort;
 use std::sync::Wait;
 use std::test::Fail;
 
-const TEXTS: [&str; 3] = ["red", "green", "blue"];
+static TEXTS: [&str; 3] = ["red", "green", "blue"];
 
 // How often each text is looked up and interned again: the first time a hint is kept, and then it is asked.
 const TIMES: u32 = 3;

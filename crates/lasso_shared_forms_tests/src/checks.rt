@@ -1,54 +1,76 @@
-//! The assertion of each check, and comparisons of what calls return. Each stands in a function of its own, so
-//! that a test of many checks is proved as fast as one of few.
-use lasso_parts::util::{LassoErrorKind, LassoResult};
+//! The assertions of these tests. Each stands here once, and says what was checked.
+use super::frozen::FROZEN;
+use super::looks::{Look, first_wrong, freezes};
+use super::origins::{Origin, make_from};
+use lasso_parts::keys::{Key, Spur};
+use lasso_parts::util::FixedState;
+use lasso_shared::threaded::ThreadedRodeo;
+use lasso_shared_testing::cases::{Case, PLAIN};
+use lasso_shared_testing::texts::List;
+use std::hash::BuildHasher;
 use std::process::Abort;
+use std::sync::Wait;
+use std::test::*;
 
 /// Ends the test if a check does not hold. `what` names the check, or the text that it looks at.
 pub(super) fn is_so(rt: &impl Abort, holds: bool, what: &str) {
     assert!(rt; holds, "{what}");
 }
 
-/// The same for a check of a count, a length or a number.
-pub(super) fn is_so_at(rt: &impl Abort, holds: bool, number: usize) {
-    assert!(rt; holds, "{number}");
+// Fails unless all rows were right. `right` is the number of the first wrong one.
+fn all_right(rt: &impl Abort, right: usize, rows: usize, case: Case) {
+    let (size, text) = (case.size.unwrap_or(0), case.pair.0);
+    assert!(rt; right == rows, "row {right} at {size} of {text}");
 }
 
-/// Whether this number was found.
-pub(super) fn is_number(found: Option<usize>, number: usize) -> bool {
-    match found {
-        Some(found) => found == number,
-        None => false,
-    }
+/// Goes through the rows. Fails unless all are right.
+pub(super) fn runs_in<K: Key, S: BuildHasher + Default + Drop, R: AllocGlobal + Wait + Abort>(
+    rt: &R,
+    shared: &ThreadedRodeo<K, S>,
+    looks: &[Look],
+    case: Case,
+) -> Result<(), Fail> {
+    let right = first_wrong(rt, shared, looks, case)?;
+    all_right(rt, right, looks.len(), case);
+    Ok(())
 }
 
-/// Whether this text was found.
-pub(super) fn is_text(found: Option<&str>, text: &str) -> bool {
-    match found {
-        Some(found) => found == text,
-        None => false,
-    }
+/// The same with a new interner.
+pub(super) fn runs_as<K: Key, S: BuildHasher + Default + Drop, R: AllocGlobal + Wait + Abort>(
+    rt: &R,
+    origin: Origin,
+    looks: &[Look],
+    case: Case,
+) -> Result<(), Fail> {
+    let shared: ThreadedRodeo<K, S> = make_from(rt, origin, case)?;
+    runs_in(rt, &shared, looks, case)
 }
 
-/// Whether the call returned this number, and no error.
-pub(super) fn is_given(reply: LassoResult<usize>, number: usize) -> bool {
-    match reply {
-        Ok(given) => given == number,
-        Err(_) => false,
-    }
+/// The same with the default keys and hasher.
+pub(super) fn runs<R: AllocGlobal + Wait + Abort>(
+    rt: &R,
+    origin: Origin,
+    looks: &[Look],
+) -> Result<(), Fail> {
+    runs_as::<Spur, FixedState, R>(rt, origin, looks, PLAIN)
 }
 
-/// Whether the call was refused by the limit alone.
-pub(super) fn is_over_limit(reply: LassoResult<usize>) -> bool {
-    match reply {
-        Ok(_) => false,
-        Err(error) => error.kind() == LassoErrorKind::MemoryLimitReached,
+/// Goes through the rows with a new interner, and freezes it, in each way. Fails unless all rows are right, and
+/// each frozen form has exactly the texts of the list and lacks the absent one.
+pub(super) fn freezes_as<K: Key, S: BuildHasher + Default + Drop, R: AllocGlobal + Wait + Abort>(
+    rt: &R,
+    origin: Origin,
+    looks: &[Look],
+    frozen: (List, &str),
+    case: Case,
+) -> Result<(), Fail> {
+    for form in FROZEN.iter() {
+        let frozen = (*form, frozen.0, frozen.1);
+        is_so(
+            rt,
+            freezes::<K, S, R>(rt, origin, looks, frozen, case)?,
+            frozen.2,
+        );
     }
-}
-
-/// Whether the call returned `true`, and no error.
-pub(super) fn is_true(reply: LassoResult<bool>) -> bool {
-    match reply {
-        Ok(holds) => holds,
-        Err(_) => false,
-    }
+    Ok(())
 }

@@ -1,208 +1,144 @@
 //! What each plain call returns for few texts and for many.
-use super::checks::{is_given, is_so, is_so_at, is_text, is_true};
-use super::forms::shared_of;
-use super::frozen::{is_read_as, is_resolved_as};
-use super::looking::{has_just, is_absent, is_found, reads, reads_none};
-use super::texts::{first_of, listed};
-use super::walking::{are_walked, have_left};
-use super::writing::{are_printed, are_written};
-use lasso_parts::util::LassoResult;
-use lasso_shared_testing::calls::{Shared, copied, copied_so, len, roomless};
-use std::alloc::Global;
-use std::process::Abort;
-use std::sync::Wait;
+use super::checks::{freezes_as, runs, runs_as};
+use super::looks::Look;
+use super::origins::Origin;
+use Look::{Does, Shows, Walks, Writes};
+use Step::{Copies, Counts, Finds, Holds, Interns, Reads};
+use lasso_parts::keys::Spur;
+use lasso_parts::util::FixedState;
+use lasso_shared_testing::cases::{PLAIN, SIZE, sized};
+use lasso_shared_testing::makers::Maker;
+use lasso_shared_testing::steps::{Step, Way};
+use lasso_shared_testing::texts::List::Numbers;
 use std::test::*;
 
-// Numbers of texts, and of the cells that the interner then has.
-//
 // Each text needs the cells of sixteen positions, its own and the next ones. Cells come in chunks of 32, 32,
-// 64, 128 and so on, each as large as all earlier ones.
-static STATES: [(usize, usize); 18] = [
-    (0, 0),
-    (1, 32),
-    (2, 32),
-    (16, 32),
-    (17, 32),
-    (18, 64),
-    (49, 64),
-    (50, 128),
-    (64, 128),
-    (113, 128),
-    (114, 256),
-    (241, 256),
-    (242, 512),
-    (300, 512),
-    (1000, 1024),
-    (1009, 1024),
-    (1010, 2048),
-    (3000, 4096),
-];
-
-// An absent text, which begins and ends like a present one.
-const ABSENT: &str = "000000";
-
-/// Whether keys with numbers from `count` on stand for no text.
-pub(super) fn none_past(shared: &Shared, count: usize) -> bool {
-    let mut all = true;
-    for more in [0usize, 1, 2, 15, 16, 17, 31, 32, 33, 1000, 70_000] {
-        all &= reads_none(shared, count.saturating_add(more));
-    }
-    all
-}
-
-// Whether each call that reads shows exactly these texts.
-fn shows_just<R: Wait>(rt: &R, shared: &Shared, texts: &[&str]) -> bool {
-    has_just(rt, shared, texts)
-        && is_absent(rt, shared, ABSENT)
-        && are_walked(shared, texts)
-        && none_past(shared, texts.len())
-}
-
-// Interns a new text by one call and again by the other. Returns whether both return this number.
-fn is_taken_twice<R: Wait>(rt: &R, shared: &Shared, text: &str, number: usize) -> bool {
-    if number % 2 == 0 {
-        return is_given(copied(rt, shared, text), number)
-            && is_given(copied_so(rt, shared, text), number);
-    }
-    is_given(copied_so(rt, shared, text), number) && is_given(copied(rt, shared, text), number)
-}
-
-// The same with the text of this number.
-fn is_next<R: Wait>(rt: &R, shared: &Shared, texts: &[&str], number: usize) -> bool {
-    match texts.get(number) {
-        Some(text) => is_taken_twice(rt, shared, text, number),
-        None => false,
-    }
-}
-
-// Interns the texts from number `have` on. The interner then has to show exactly these texts, and to have this
-// number of cells.
-fn grow<R: Wait + Abort>(rt: &R, shared: &Shared, texts: &[&str], have: usize, cells: usize) {
-    for number in have..texts.len() {
-        is_so_at(rt, is_next(rt, shared, texts, number), number);
-    }
-    is_so_at(rt, shows_just(rt, shared, texts), texts.len());
-    is_so_at(rt, shared.capacity() == cells, texts.len());
-}
-
-// The same of the first texts, for each number of them in `STATES`.
-fn grow_by_states<R: Wait + Abort>(rt: &R, shared: &Shared, texts: &[&str]) -> Result<(), Fail> {
-    let mut have: usize = 0;
-    for (count, cells) in STATES.iter() {
-        grow(rt, shared, first_of(texts, *count)?, have, *cells);
-        have = *count;
-    }
-    Ok(())
-}
-
+// 64, 128 and so on, each as large as all earlier ones. The absent text begins and ends like a present one.
 #[test]
 fn each_call_tells_of_each_count(rt: HostRuntime) -> Result<(), Fail> {
-    let texts = listed(rt.alloc(), 3000)?;
-    let shared: Shared = roomless(rt.alloc())?;
-    grow_by_states(&rt, &shared, &texts)
+    static LOOKS: [Look; 36] = [
+        Does(&[Copies(Numbers(0, 0)), Holds(0), Finds("000000", None)]),
+        Shows(Numbers(0, 0)),
+        Does(&[Copies(Numbers(0, 1)), Holds(32), Finds("000000", None)]),
+        Shows(Numbers(0, 1)),
+        Does(&[Copies(Numbers(0, 2)), Holds(32), Finds("000000", None)]),
+        Shows(Numbers(0, 2)),
+        Does(&[Copies(Numbers(0, 16)), Holds(32), Finds("000000", None)]),
+        Shows(Numbers(0, 16)),
+        Does(&[Copies(Numbers(0, 17)), Holds(32), Finds("000000", None)]),
+        Shows(Numbers(0, 17)),
+        Does(&[Copies(Numbers(0, 18)), Holds(64), Finds("000000", None)]),
+        Shows(Numbers(0, 18)),
+        Does(&[Copies(Numbers(0, 49)), Holds(64), Finds("000000", None)]),
+        Shows(Numbers(0, 49)),
+        Does(&[Copies(Numbers(0, 50)), Holds(128), Finds("000000", None)]),
+        Shows(Numbers(0, 50)),
+        Does(&[Copies(Numbers(0, 64)), Holds(128), Finds("000000", None)]),
+        Shows(Numbers(0, 64)),
+        Does(&[Copies(Numbers(0, 113)), Holds(128), Finds("000000", None)]),
+        Shows(Numbers(0, 113)),
+        Does(&[Copies(Numbers(0, 114)), Holds(256), Finds("000000", None)]),
+        Shows(Numbers(0, 114)),
+        Does(&[Copies(Numbers(0, 241)), Holds(256), Finds("000000", None)]),
+        Shows(Numbers(0, 241)),
+        Does(&[Copies(Numbers(0, 242)), Holds(512), Finds("000000", None)]),
+        Shows(Numbers(0, 242)),
+        Does(&[Copies(Numbers(0, 300)), Holds(512), Finds("000000", None)]),
+        Shows(Numbers(0, 300)),
+        Does(&[Copies(Numbers(0, 1000)), Holds(1024), Finds("000000", None)]),
+        Shows(Numbers(0, 1000)),
+        Does(&[Copies(Numbers(0, 1009)), Holds(1024), Finds("000000", None)]),
+        Shows(Numbers(0, 1009)),
+        Does(&[Copies(Numbers(0, 1010)), Holds(2048), Finds("000000", None)]),
+        Shows(Numbers(0, 1010)),
+        Does(&[Copies(Numbers(0, 3000)), Holds(4096), Finds("000000", None)]),
+        Shows(Numbers(0, 3000)),
+    ];
+    runs(&rt, Origin::Made(Maker::Sized(0, 10, usize::MAX)), &LOOKS)
 }
 
-/// Whether a reader and a resolver of these texts have exactly them.
-pub(super) fn are_frozen<R: Wait>(rt: &R, alloc: Global, texts: &[&str]) -> LassoResult<bool> {
-    let read = is_read_as(rt, shared_of(rt, alloc, texts)?, texts, ABSENT);
-    Ok(is_resolved_as(rt, shared_of(rt, alloc, texts)?, texts) && read)
-}
-
-// The first texts have to be frozen, for each number of them in `STATES`.
-fn freeze_each<R: AllocGlobal + Wait + Abort>(rt: &R, texts: &[&str]) -> Result<(), Fail> {
-    for (count, _) in STATES.iter() {
-        let frozen = are_frozen(rt, rt.alloc(), first_of(texts, *count)?);
-        is_so_at(rt, is_true(frozen), *count);
-    }
-    Ok(())
-}
+// Numbers of texts.
+static COUNTS: [usize; 18] = [
+    0, 1, 2, 16, 17, 18, 49, 50, 64, 113, 114, 241, 242, 300, 1000, 1009, 1010, 3000,
+];
 
 #[test]
 fn a_frozen_form_has_each_count_of_texts(rt: HostRuntime) -> Result<(), Fail> {
-    let texts = listed(rt.alloc(), 3000)?;
-    freeze_each(&rt, &texts)
-}
-
-// Whether an interner of these texts is written as the JSON object and the debug text of them.
-fn is_written<R: Wait>(rt: &R, alloc: Global, texts: &[&str]) -> bool {
-    match shared_of(rt, alloc, texts) {
-        Ok(shared) => are_written(alloc, &shared, texts) && are_printed(alloc, &shared, texts),
-        Err(_) => false,
-    }
-}
-
-// The first texts have to be written, for each number of them in `STATES`.
-fn write_each<R: AllocGlobal + Wait + Abort>(rt: &R, texts: &[&str]) -> Result<(), Fail> {
-    for (count, _) in STATES.iter() {
-        let written = is_written(rt, rt.alloc(), first_of(texts, *count)?);
-        is_so_at(rt, written, *count);
+    for count in COUNTS.iter() {
+        let (origin, frozen) = (
+            Origin::Items(Numbers(0, *count)),
+            (Numbers(0, *count), "000000"),
+        );
+        freezes_as::<Spur, FixedState, _>(&rt, origin, &[], frozen, PLAIN)?;
     }
     Ok(())
 }
 
 #[test]
 fn each_count_of_texts_is_written(rt: HostRuntime) -> Result<(), Fail> {
-    let texts = listed(rt.alloc(), 3000)?;
-    write_each(&rt, &texts)
-}
-
-// More texts than 16 bits count.
-const MANY: usize = 66_000;
-
-// Whether each call finds or resolves the text, and interns it as this number.
-fn has_at<R: Wait>(rt: &R, shared: &Shared, text: &str, number: usize) -> bool {
-    is_found(rt, shared, text, number)
-        && reads(shared, number, text)
-        && is_given(copied(rt, shared, text), number)
-        && is_given(copied_so(rt, shared, text), number)
-}
-
-// The text at the end of a walk over many texts.
-fn last_walked(shared: &Shared) -> Option<&str> {
-    shared.strings().nth(65_999)
-}
-
-// The interner has to have the many texts.
-fn has_many<R: Abort>(rt: &R, shared: &Shared) {
-    is_so(rt, len(shared) == MANY, "length");
-    is_so(rt, shared.capacity() == 131_072, "capacity");
-    is_so(rt, have_left(shared, MANY), "lengths of walks");
-    is_so(rt, none_past(shared, MANY), "keys past the texts");
-    is_so(rt, is_text(last_walked(shared), "65999"), "last text");
-}
-
-// Numbers next to those that fill 8, 15 and 16 bits, and the last one, with their texts.
-static NUMBERS: [(usize, &str); 11] = [
-    (0, "00000"),
-    (1, "00001"),
-    (255, "00255"),
-    (256, "00256"),
-    (32_767, "32767"),
-    (32_768, "32768"),
-    (65_534, "65534"),
-    (65_535, "65535"),
-    (65_536, "65536"),
-    (65_537, "65537"),
-    (65_999, "65999"),
-];
-
-// Each call has to find, to resolve and to intern these texts.
-fn has_each<R: Wait + Abort>(rt: &R, shared: &Shared) {
-    for (number, text) in NUMBERS.iter() {
-        is_so(rt, has_at(rt, shared, text, *number), text);
+    static LOOKS: [Look; 1] = [Writes(Numbers(0, SIZE))];
+    for count in COUNTS.iter() {
+        let origin = Origin::Items(Numbers(0, SIZE));
+        runs_as::<Spur, FixedState, _>(&rt, origin, &LOOKS, sized(*count))?;
     }
-}
-
-// The interner of all these texts.
-fn has_all<R: AllocGlobal + Wait + Abort>(rt: &R, texts: &[&str]) -> Result<(), Fail> {
-    let shared = shared_of(rt, rt.alloc(), texts)?;
-    has_many(rt, &shared);
-    has_each(rt, &shared);
     Ok(())
 }
 
+// Numbers next to those that fill 8, 15 and 16 bits, and the last one.
 #[test]
 fn more_texts_than_16_bits_count(rt: HostRuntime) -> Result<(), Fail> {
-    let texts = listed(rt.alloc(), MANY)?;
-    has_all(&rt, &texts)
+    static LOOKS: [Look; 3] = [
+        Does(&[
+            Counts(66_000),
+            Holds(131_072),
+            Finds("00000", Some(0)),
+            Reads(0, Some("00000")),
+            Interns(Way::TryCopied, "00000", Ok(0)),
+            Interns(Way::Copied, "00000", Ok(0)),
+            Finds("00001", Some(1)),
+            Reads(1, Some("00001")),
+            Interns(Way::TryCopied, "00001", Ok(1)),
+            Interns(Way::Copied, "00001", Ok(1)),
+            Finds("00255", Some(255)),
+            Reads(255, Some("00255")),
+            Interns(Way::TryCopied, "00255", Ok(255)),
+            Interns(Way::Copied, "00255", Ok(255)),
+            Finds("00256", Some(256)),
+            Reads(256, Some("00256")),
+            Interns(Way::TryCopied, "00256", Ok(256)),
+            Interns(Way::Copied, "00256", Ok(256)),
+            Finds("32767", Some(32767)),
+            Reads(32767, Some("32767")),
+            Interns(Way::TryCopied, "32767", Ok(32767)),
+            Interns(Way::Copied, "32767", Ok(32767)),
+            Finds("32768", Some(32768)),
+            Reads(32768, Some("32768")),
+            Interns(Way::TryCopied, "32768", Ok(32768)),
+            Interns(Way::Copied, "32768", Ok(32768)),
+            Finds("65534", Some(65534)),
+            Reads(65534, Some("65534")),
+            Interns(Way::TryCopied, "65534", Ok(65534)),
+            Interns(Way::Copied, "65534", Ok(65534)),
+            Finds("65535", Some(65535)),
+            Reads(65535, Some("65535")),
+            Interns(Way::TryCopied, "65535", Ok(65535)),
+            Interns(Way::Copied, "65535", Ok(65535)),
+            Finds("65536", Some(65536)),
+            Reads(65536, Some("65536")),
+            Interns(Way::TryCopied, "65536", Ok(65536)),
+            Interns(Way::Copied, "65536", Ok(65536)),
+            Finds("65537", Some(65537)),
+            Reads(65537, Some("65537")),
+            Interns(Way::TryCopied, "65537", Ok(65537)),
+            Interns(Way::Copied, "65537", Ok(65537)),
+            Finds("65999", Some(65999)),
+            Reads(65999, Some("65999")),
+            Interns(Way::TryCopied, "65999", Ok(65999)),
+            Interns(Way::Copied, "65999", Ok(65999)),
+            Counts(66_000),
+        ]),
+        Shows(Numbers(0, 66_000)),
+        Walks(65_999, "65999"),
+    ];
+    runs(&rt, Origin::Items(Numbers(0, 66_000)), &LOOKS)
 }

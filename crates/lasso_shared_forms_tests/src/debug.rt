@@ -1,18 +1,16 @@
 //! Debug output of an interner that threads share, and of its iterators.
-use super::checks::{is_given, is_so};
+use super::checks::{is_so, runs_in};
+use super::looks::Look;
 use super::writing::prints;
+use Look::{Does, Prints};
+use Step::Interns;
 use lasso_parts::keys::Spur;
 use lasso_shared::threaded::{Iter, Strings, ThreadedRodeo};
-use lasso_shared_testing::calls::{Shared, copied, kept};
-use std::alloc::Global;
+use lasso_shared_testing::calls::Shared;
+use lasso_shared_testing::cases::PLAIN;
+use lasso_shared_testing::steps::{Step, Way};
 use std::process::Abort;
-use std::sync::Wait;
 use std::test::*;
-
-// An interner made by `new`.
-fn of_none(alloc: Global) -> Result<Shared, Fail> {
-    Ok(ThreadedRodeo::new(alloc)?)
-}
 
 // Takes the next text of both walks. Returns whether each has one.
 fn has_next(strings: &mut Strings<'_, Spur>, walk: &mut Iter<'_, Spur>) -> bool {
@@ -51,20 +49,18 @@ fn print_walks<R: AllocGlobal + Abort>(rt: &R, shared: &Shared) {
     print_each(rt, &mut strings, &mut walk);
 }
 
-// The debug text of the empty interner, and of two texts that it takes then.
-fn print_texts<R: AllocGlobal + Wait + Abort>(rt: &R, shared: &Shared) {
-    let none = "ThreadedRodeo { strings: [], .. }";
-    is_so(rt, prints(rt.alloc(), shared, none), "no texts");
-    is_so(rt, is_given(copied(rt, shared, "red"), 0), "red");
-    is_so(rt, is_given(kept(rt, shared, "a\"b"), 1), "a\"b");
-    let both = r#"ThreadedRodeo { strings: ["red", "a\"b"], .. }"#;
-    is_so(rt, prints(rt.alloc(), shared, both), "two texts");
-}
-
 #[test]
 fn debug_text_of_texts(rt: HostRuntime) -> Result<(), Fail> {
-    let shared = of_none(rt.alloc())?;
-    print_texts(&rt, &shared);
+    static LOOKS: [Look; 3] = [
+        Prints("ThreadedRodeo { strings: [], .. }"),
+        Does(&[
+            Interns(Way::TryCopied, "red", Ok(0)),
+            Interns(Way::TryStatic, "a\"b", Ok(1)),
+        ]),
+        Prints(r#"ThreadedRodeo { strings: ["red", "a\"b"], .. }"#),
+    ];
+    let shared = ThreadedRodeo::new(rt.alloc())?;
+    runs_in(&rt, &shared, &LOOKS, PLAIN)?;
     print_walks(&rt, &shared);
     Ok(())
 }

@@ -1,136 +1,134 @@
-//! How many of the comparisons of an interner that threads share with other forms of a list are true.
-use lasso_parts::keys::{Key, Spur};
-use lasso_parts::util::{Capacity, FixedState, LassoResult, MemoryLimits};
+//! An interner that threads share, compared with each form of a list of texts.
+use lasso_parts::keys::Key;
+use lasso_parts::util::{FixedState, LassoResult};
 use lasso_shared::threaded::ThreadedRodeo;
-use lasso_shared_testing::calls::Shared;
+use lasso_shared_testing::calls::{limit, usage};
+use lasso_shared_testing::makers::{Maker, make};
+use lasso_shared_testing::steps::{FULL, Way, extends, interned, is_reply};
 use lasso_single::reader::RodeoReader;
 use lasso_single::rodeo::Rodeo;
+use lasso_testing::hashers::FirstState;
 use std::alloc::Global;
 use std::hash::BuildHasher;
 use std::sync::Wait;
 
-/// An interner for one thread, with the default keys and hasher.
-pub(super) type Single = Rodeo<Spur, FixedState, Global>;
-
-/// An interner that threads share, of these texts.
-pub(super) fn shared_of<R: Wait>(rt: &R, alloc: Global, texts: &[&str]) -> LassoResult<Shared> {
-    ThreadedRodeo::from_iter(alloc, rt, texts.iter().copied())
-}
-
-/// An interner with a first bucket of this many bytes, but at least one, and under this limit.
-pub(super) fn limited<K: Key, S: BuildHasher + Default + Drop>(
-    alloc: Global,
-    bytes: usize,
-    limit: usize,
-) -> LassoResult<ThreadedRodeo<K, S>> {
-    let room = Capacity::for_bytes(bytes.max(1));
-    let limits = MemoryLimits::new(limit);
-    ThreadedRodeo::with_capacity_memory_limits_and_hasher(alloc, room, limits, S::default())
-}
-
-/// Interns these texts too.
-pub(super) fn extend<K: Key, S: BuildHasher + Drop, R: Wait>(
-    rt: &R,
-    shared: &ThreadedRodeo<K, S>,
-    texts: &[&str],
-) -> LassoResult<()> {
-    shared.extend(rt, texts.iter().copied())
-}
-
 /// An interner for one thread, of these texts.
 pub(super) fn single_of<K: Key, S: BuildHasher + Default + Drop>(
     alloc: Global,
-    texts: &[&str],
+    texts: &[&'static str],
 ) -> LassoResult<Rodeo<K, S, Global>> {
     Rodeo::from_iter(alloc, texts.iter().copied())
 }
 
-// 1 if the comparison is true, and else 0.
-fn counted(same: bool) -> usize {
-    if same { 1 } else { 0 }
+// Whether the comparison of the interner with the reader, and with its resolver, gives this.
+fn compares_frozen<K: Key, S: BuildHasher + Drop, T: BuildHasher + Drop, R: Wait>(
+    rt: &R,
+    shared: &ThreadedRodeo<K, S>,
+    reader: RodeoReader<K, T, Global>,
+    wanted: bool,
+) -> bool {
+    let read = shared.eq_reader(rt, &reader) == wanted;
+    shared.eq_resolver(rt, &reader.into_resolver()) == wanted && read
 }
 
-/// Whether the interner is equal to the other.
-pub(super) fn is_equal<K: Key, S: BuildHasher + Drop, T: BuildHasher + Drop, R: Wait>(
+/// Whether the comparison of the interner with one for one thread of these texts, with its reader and with its
+/// resolver gives this.
+pub(super) fn compares_single<K: Key, S: BuildHasher + Default + Drop, R: Wait>(
+    rt: &R,
+    alloc: Global,
+    shared: &ThreadedRodeo<K, S>,
+    texts: &[&'static str],
+    wanted: bool,
+) -> LassoResult<bool> {
+    let rodeo: Rodeo<K, S, Global> = single_of(alloc, texts)?;
+    let same = shared.eq_rodeo(rt, &rodeo) == wanted;
+    Ok(compares_frozen(rt, shared, rodeo.into_reader(), wanted) && same)
+}
+
+/// How many bytes the texts have.
+pub(super) fn bytes_of(texts: &[&str]) -> usize {
+    let mut bytes: usize = 0;
+    for text in texts.iter() {
+        bytes = bytes.saturating_add(text.len());
+    }
+    bytes
+}
+
+// Whether limit and usage are these bytes, and the interner takes exactly one more byte.
+fn has_room_for_one<K: Key, S: BuildHasher + Drop, R: Wait>(
+    rt: &R,
+    shared: &ThreadedRodeo<K, S>,
+    count: usize,
+    bytes: usize,
+) -> LassoResult<bool> {
+    let sums = limit(rt, shared) == bytes && usage(rt, shared) == bytes;
+    let fits = is_reply(interned(rt, shared, Way::TryCopied, "\u{1}"), Ok(count))?;
+    let full = is_reply(interned(rt, shared, Way::TryCopied, "\u{2}"), FULL)?;
+    Ok(sums && fits && full && limit(rt, shared) == bytes)
+}
+
+// Whether the comparisons of the two interners, each with the other, give this. The other has these texts and room
+// for one more byte, which no comparison may take.
+fn compares_both<K: Key, S: BuildHasher + Drop, T: BuildHasher + Drop, R: Wait>(
     rt: &R,
     shared: &ThreadedRodeo<K, S>,
     other: &ThreadedRodeo<K, T>,
-) -> bool {
-    shared.eq_threaded(rt, other)
+    texts: &[&'static str],
+    wanted: bool,
+) -> LassoResult<bool> {
+    let here = shared.eq_threaded(rt, other) == wanted;
+    let there = other.eq_threaded(rt, shared) == wanted;
+    let bytes = bytes_of(texts).saturating_add(1);
+    Ok(has_room_for_one(rt, other, texts.len(), bytes)? && here && there)
 }
 
-/// Whether the interner is equal to the one for one thread.
-pub(super) fn is_rodeo<K: Key, S: BuildHasher + Drop, R: Wait>(
+// An interner of these texts, with another hasher. Its bucket has their bytes and one more, which are its limit.
+fn full_of<K: Key, T: BuildHasher + Default + Drop, R: AllocGlobal + Wait>(
+    rt: &R,
+    texts: &[&'static str],
+) -> LassoResult<ThreadedRodeo<K, T>> {
+    let shared = make(rt, Maker::Full(bytes_of(texts).saturating_add(1)))?;
+    extends(rt, &shared, texts)?;
+    Ok(shared)
+}
+
+// Whether the comparisons of the interner with another of these texts give this, and leave that as it is.
+fn compares_shared<
+    K: Key,
+    S: BuildHasher + Drop,
+    T: BuildHasher + Default + Drop,
+    R: AllocGlobal + Wait,
+>(rt: &R, shared: &ThreadedRodeo<K, S>, texts: &[&'static str], wanted: bool) -> LassoResult<bool> {
+    let other: ThreadedRodeo<K, T> = full_of(rt, texts)?;
+    let both = compares_both(rt, shared, &other, texts, wanted)?;
+    let frozen: ThreadedRodeo<K, T> = full_of(rt, texts)?;
+    Ok(compares_frozen(rt, shared, frozen.into_reader(rt)?, wanted) && both)
+}
+
+/// Whether the comparison of the interner with each form of these texts gives this, and leaves the form as it is.
+pub(super) fn compares<K: Key, S: BuildHasher + Default + Drop, R: AllocGlobal + Wait>(
     rt: &R,
     shared: &ThreadedRodeo<K, S>,
-    rodeo: &Rodeo<K, S, Global>,
-) -> bool {
-    shared.eq_rodeo(rt, rodeo)
+    texts: &[&'static str],
+    wanted: bool,
+) -> LassoResult<bool> {
+    let other: ThreadedRodeo<K, S> = full_of(rt, texts)?;
+    Ok(
+        compares_both(rt, shared, &other, texts, wanted)?
+            && compares_single(rt, rt.alloc(), shared, texts, wanted)?,
+    )
 }
 
-/// Compares the interner with the reader, and with its resolver. Returns how many of these two comparisons are
-/// true.
-pub(super) fn equal_to_frozen<K: Key, S: BuildHasher + Drop, R: Wait>(
+/// The same with forms of two more hashers, and with frozen forms of interners that threads share.
+pub(super) fn compares_all<K: Key, S: BuildHasher + Default + Drop, R: AllocGlobal + Wait>(
     rt: &R,
     shared: &ThreadedRodeo<K, S>,
-    reader: RodeoReader<K, S, Global>,
-) -> usize {
-    let read = counted(shared.eq_reader(rt, &reader));
-    let resolved = counted(shared.eq_resolver(rt, &reader.into_resolver()));
-    read.saturating_add(resolved)
-}
-
-// Compares the interner with the one for one thread, its reader and its resolver. Returns how many of these
-// three comparisons are true.
-fn equal_to_three<K: Key, S: BuildHasher + Drop, R: Wait>(
-    rt: &R,
-    shared: &ThreadedRodeo<K, S>,
-    rodeo: Rodeo<K, S, Global>,
-) -> usize {
-    let same = counted(is_rodeo(rt, shared, &rodeo));
-    same.saturating_add(equal_to_frozen(rt, shared, rodeo.into_reader()))
-}
-
-/// The same with an interner for one thread of these texts, or `usize::MAX` if memory runs out.
-pub(super) fn equal_to_single_forms<K: Key, S: BuildHasher + Default + Drop, R: Wait>(
-    rt: &R,
-    alloc: Global,
-    shared: &ThreadedRodeo<K, S>,
-    texts: &[&str],
-) -> usize {
-    match single_of(alloc, texts) {
-        Ok(rodeo) => equal_to_three(rt, shared, rodeo),
-        Err(_) => usize::MAX,
-    }
-}
-
-/// Compares two interners that threads share, each with the other. Returns how many of these two comparisons
-/// are true.
-pub(super) fn equal_both_ways<S: BuildHasher + Drop, T: BuildHasher + Drop, R: Wait>(
-    rt: &R,
-    shared: &ThreadedRodeo<Spur, S>,
-    other: &ThreadedRodeo<Spur, T>,
-) -> usize {
-    let here = counted(is_equal(rt, shared, other));
-    here.saturating_add(counted(is_equal(rt, other, shared)))
-}
-
-// The same with an interner of these texts, or `usize::MAX` if memory runs out.
-fn equal_to_shared_form<R: Wait>(rt: &R, alloc: Global, shared: &Shared, texts: &[&str]) -> usize {
-    match shared_of(rt, alloc, texts) {
-        Ok(other) => equal_both_ways(rt, shared, &other),
-        Err(_) => usize::MAX,
-    }
-}
-
-/// Compares the interner with each of four forms of these texts, and the form that threads share with the
-/// interner. Returns how many of these five comparisons are true, or `usize::MAX` if memory runs out.
-pub(super) fn equal_forms<R: Wait>(
-    rt: &R,
-    alloc: Global,
-    shared: &Shared,
-    texts: &[&str],
-) -> usize {
-    let threaded = equal_to_shared_form(rt, alloc, shared, texts);
-    threaded.saturating_add(equal_to_single_forms(rt, alloc, shared, texts))
+    texts: &[&'static str],
+    wanted: bool,
+) -> LassoResult<bool> {
+    Ok(
+        compares(rt, shared, texts, wanted)?
+            && compares_shared::<K, S, FixedState, R>(rt, shared, texts, wanted)?
+            && compares_shared::<K, S, FirstState, R>(rt, shared, texts, wanted)?,
+    )
 }

@@ -1,16 +1,20 @@
 //! Frozen forms of an interner that threads share.
 ghost use Rattle.std.specs.Prelude.{◌≡◌};
 
-use super::checks::{is_given, is_so, is_text};
-use super::frozen::{has, is_read, key_of};
+use super::checks::{freezes_as, is_so};
+use super::frozen::{is_read, reads_just, resolves_just};
+use super::looks::Look;
+use super::origins::Origin;
+use Look::Does;
+use Step::{Limits, Takes};
 use lasso_log::log::Pass;
-use lasso_parts::keys::{Key, Spur};
-use lasso_parts::util::{FixedState, LassoErrorKind, LassoResult};
-use lasso_shared::threaded::ThreadedRodeo;
-use lasso_shared_testing::calls::{
-    Reader, Shared, copied, kept_as, limited, made, number, pass_of, set_limit,
-};
-use lasso_single::reader::RodeoReader;
+use lasso_parts::keys::Spur;
+use lasso_parts::util::{FixedState, LassoResult};
+use lasso_shared_testing::calls::{Reader, Shared, copied, kept_as, made, pass_of};
+use lasso_shared_testing::cases::PLAIN;
+use lasso_shared_testing::makers::Maker;
+use lasso_shared_testing::steps::{FULL, NO_KEY, Step};
+use lasso_shared_testing::texts::List::Texts;
 use lasso_single::resolver::RodeoResolver;
 use lasso_testing::keys::WithoutTwo;
 use std::alloc::Global;
@@ -21,173 +25,80 @@ use std::thread::{Threads, join};
 
 type Resolver = RodeoResolver<Spur, Global>;
 
-type Numbered = Result<usize, LassoErrorKind>;
-
-fn reader<K: Key, R: Wait>(
-    rt: &R,
-    shared: ThreadedRodeo<K, FixedState>,
-) -> LassoResult<RodeoReader<K, FixedState, Global>> {
-    shared.into_reader(rt)
-}
-
-fn resolver<R: Wait>(rt: &R, shared: Shared) -> LassoResult<Resolver> {
-    shared.into_resolver(rt)
-}
-
-// How many texts the reader has.
-fn len<K: Key>(reader: &RodeoReader<K, FixedState, Global>) -> usize {
-    reader.len()
-}
-
-// Whether this number has no text in the reader.
-fn reads_none(reader: &Reader, number: usize) -> bool {
-    match Spur::try_from_usize(number) {
-        Some(key) => reader.try_resolve(key).is_none(),
-        None => false,
-    }
-}
-
-// The text of the default key in the reader.
-fn first_of(reader: &Reader) -> Option<&str> {
-    reader.try_resolve(Spur::default())
-}
-
-// The text of this number in the resolver.
-fn resolved(resolver: &Resolver, number: usize) -> Option<&str> {
-    match Spur::try_from_usize(number) {
-        Some(key) => resolver.try_resolve(key),
-        None => Some("no key"),
-    }
-}
-
-// Whether the call returns this number, or is refused for this reason.
-fn gives<K: Key, R: Wait>(
-    rt: &R,
-    shared: &ThreadedRodeo<K, FixedState>,
-    text: &str,
-    wanted: Numbered,
-) -> bool {
-    match (number(rt, shared, text), wanted) {
-        (Ok(given), Ok(wanted)) => given == wanted,
-        (Err(given), Err(wanted)) => given == wanted,
-        _ => false,
-    }
-}
-
-// Interns each text, which has to give its number, or to be refused for its reason.
-fn intern_each<K: Key, R: Wait + Abort>(
-    rt: &R,
-    shared: &ThreadedRodeo<K, FixedState>,
-    rows: &[(&str, Numbered)],
-) {
-    for (text, wanted) in rows.iter() {
-        is_so(rt, gives(rt, shared, text, *wanted), text);
-    }
-}
-
-// The reader has to have four texts.
-fn show_four<R: Abort>(rt: &R, reader: &Reader) {
-    is_so(rt, len(reader) == 4, "length");
-    is_so(rt, is_read(reader, 3, "yz"), "yz");
-    is_so(rt, !has(reader, "abcd"), "abcd");
-}
-
-// Interns four texts in three buckets.
-fn fill_three_buckets<R: Wait + Abort>(rt: &R, shared: &Shared) {
-    intern_each(
-        rt,
-        shared,
-        &[("abc", Ok(0)), ("defghijk", Ok(1)), ("x", Ok(2))],
-    );
-    set_limit(rt, shared, 14);
-    intern_each(rt, shared, &[("yz", Ok(3))]);
-}
-
 #[test]
 fn a_reader_of_texts_in_three_buckets(rt: HostRuntime) -> Result<(), Fail> {
-    let shared: Shared = limited(rt.alloc(), 4, 12)?;
-    fill_three_buckets(&rt, &shared);
-    show_four(&rt, &reader(&rt, shared)?);
-    Ok(())
+    static LOOKS: [Look; 1] = [Does(&[
+        Takes("abc", Ok(0)),
+        Takes("defghijk", Ok(1)),
+        Takes("x", Ok(2)),
+        Limits(14),
+        Takes("yz", Ok(3)),
+    ])];
+    let origin = Origin::Made(Maker::Sized(50, 4, 12));
+    let frozen = (Texts(&["abc", "defghijk", "x", "yz"]), "abcd");
+    freezes_as::<Spur, FixedState, _>(&rt, origin, &LOOKS, frozen, PLAIN)
 }
 
-// Interns two texts, and one that the key type and the limit refuse.
-fn intern_and_refuse<R: Wait + Abort>(rt: &R, shared: &ThreadedRodeo<WithoutTwo, FixedState>) {
-    let rows = [
-        ("p", Ok(0)),
-        ("q", Ok(1)),
-        ("r", Err(LassoErrorKind::KeySpaceExhaustion)),
-        ("r", Err(LassoErrorKind::KeySpaceExhaustion)),
-        ("r", Err(LassoErrorKind::MemoryLimitReached)),
-        ("q", Ok(1)),
-    ];
-    intern_each(rt, shared, &rows);
-}
-
-// The reader has to have the two texts.
-fn show_two<R: Abort>(rt: &R, reader: &RodeoReader<WithoutTwo, FixedState, Global>) {
-    is_so(rt, len(reader) == 2, "length");
-    is_so(rt, has(reader, "p"), "p");
-    is_so(rt, has(reader, "q"), "q");
-    is_so(rt, !has(reader, "r"), "r");
+// The key type and the limit refuse a text.
+#[test]
+fn refused_texts_are_not_in_a_frozen_form(rt: HostRuntime) -> Result<(), Fail> {
+    static LOOKS: [Look; 1] = [Does(&[
+        Takes("p", Ok(0)),
+        Takes("q", Ok(1)),
+        Takes("r", NO_KEY),
+        Takes("r", NO_KEY),
+        Takes("r", FULL),
+        Takes("q", Ok(1)),
+    ])];
+    let (origin, frozen) = (Origin::Made(Maker::Full(4)), (Texts(&["p", "q"]), "r"));
+    freezes_as::<WithoutTwo, FixedState, _>(&rt, origin, &LOOKS, frozen, PLAIN)
 }
 
 #[test]
-fn refused_texts_are_not_in_a_frozen_form(rt: HostRuntime) -> Result<(), Fail> {
-    let shared: ThreadedRodeo<WithoutTwo, FixedState> = limited(rt.alloc(), 4, 4)?;
-    intern_and_refuse(&rt, &shared);
-    show_two(&rt, &reader(&rt, shared)?);
-    Ok(())
-}
-
-// Whether a thread finds in the reader that `A` has number 0, `F` has none, and number 10 has no text.
-fn looks(reader: &Reader) -> bool {
-    is_read(reader, 0, "A") && key_of(reader, "F").is_none() && reads_none(reader, 10)
-}
-
-// Whether two threads find the same in the reader.
-fn look_both<R: Threads>(rt: &R, reader: &Reader) -> bool {
-    let (here, there) = join(rt, || looks(reader), || looks(reader));
-    here && there
+fn an_interner_without_texts_is_frozen(rt: HostRuntime) -> Result<(), Fail> {
+    let (origin, frozen) = (Origin::Made(Maker::Default), (Texts(&[]), ""));
+    freezes_as::<Spur, FixedState, _>(&rt, origin, &[], frozen, PLAIN)
 }
 
 // An interner of `A` alone.
-fn of_one<R: AllocGlobal + Wait + Abort>(rt: &R) -> Result<Shared, Fail> {
+fn of_one<R: AllocGlobal + Wait>(rt: &R) -> Result<Shared, Fail> {
     let shared = made(rt.alloc())?;
-    is_so(rt, is_given(copied(rt, &shared, "A"), 0), "A");
+    copied(rt, &shared, "A")?;
     Ok(shared)
+}
+
+// Whether two threads find that the reader has `A` alone.
+fn both_read<R: Threads>(rt: &R, reader: &Reader) -> bool {
+    let (here, there) = join(
+        rt,
+        || reads_just(reader, &["A"], "F"),
+        || reads_just(reader, &["A"], "F"),
+    );
+    here && there
 }
 
 #[test]
 fn two_threads_read_a_reader(rt: HostRuntime) -> Result<(), Fail> {
-    let reader = reader(&rt, of_one(&rt)?)?;
-    is_so(&rt, look_both(&rt, &reader), "two threads");
+    let reader = of_one(&rt)?.into_reader(&rt)?;
+    is_so(&rt, both_read(&rt, &reader), "two threads");
     Ok(())
 }
 
-// Whether number 0 is `A`, and number 10 has no text.
-fn resolves(resolver: &Resolver) -> bool {
-    is_text(resolved(resolver, 0), "A") && resolved(resolver, 10).is_none()
-}
-
-// Whether two threads find the same in the resolver.
-fn resolve_both<R: Threads>(rt: &R, resolver: &Resolver) -> bool {
-    let (here, there) = join(rt, || resolves(resolver), || resolves(resolver));
+// Whether two threads find that the resolver has `A` alone.
+fn both_resolve<R: Threads>(rt: &R, resolver: &Resolver) -> bool {
+    let (here, there) = join(
+        rt,
+        || resolves_just(resolver, &["A"]),
+        || resolves_just(resolver, &["A"]),
+    );
     here && there
 }
 
 #[test]
 fn two_threads_read_a_resolver(rt: HostRuntime) -> Result<(), Fail> {
-    let resolver = resolver(&rt, of_one(&rt)?)?;
-    is_so(&rt, resolve_both(&rt, &resolver), "two threads");
+    let resolver = of_one(&rt)?.into_resolver(&rt)?;
+    is_so(&rt, both_resolve(&rt, &resolver), "two threads");
     Ok(())
-}
-
-// The reader of the interner by the pass.
-fn reader_as<R: Wait>(rt: &R, shared: Shared, pass: &mut Pass<Spur>) -> LassoResult<Reader>
-    requires { pass.old.of ≡ shared }
-{
-    shared.into_reader_as(rt, pass)
 }
 
 // Interns two texts in two threads. Returns their numbers.
@@ -196,30 +107,26 @@ fn intern_both<R: Threads + Wait + Sync>(rt: &R, shared: &Shared) -> LassoResult
     Ok((first?, second?))
 }
 
-// The reader has to have the static text, and two texts with these numbers.
-fn show_three<R: Abort>(rt: &R, reader: &Reader, red: usize, empty: usize) {
-    is_so(rt, len(reader) == 3, "length");
-    is_so(rt, is_read(reader, red, "red"), "red");
-    is_so(rt, is_read(reader, empty, ""), "no bytes");
-    is_so(
-        rt,
-        is_text(first_of(reader), "a static text"),
-        "default key",
-    );
+// Whether the reader has the static text, and two texts with these numbers.
+fn has_three(reader: &Reader, numbers: (usize, usize)) -> bool {
+    reader.len() == 3
+        && is_read(reader, numbers.0, "red")
+        && is_read(reader, numbers.1, "")
+        && is_read(reader, 0, "a static text")
+        && reader.try_resolve(Spur::default()) == Some("a static text")
 }
 
-// Freezes the interner of a static text and two others by the pass. Its reader has to have all three.
-fn freeze_three<R: Wait + Abort>(
+// Freezes the interner of a static text and two others by the pass. Returns whether its reader has all three.
+fn freezes_three<R: Wait>(
     rt: &R,
     shared: Shared,
     pass: &mut Pass<Spur>,
     numbers: (usize, usize),
-) -> LassoResult<()>
+) -> LassoResult<bool>
     requires { pass.old.of ≡ shared }
 {
-    let reader = reader_as(rt, shared, pass)?;
-    show_three(rt, &reader, numbers.0, numbers.1);
-    Ok(())
+    let reader = shared.into_reader_as(rt, pass)?;
+    Ok(has_three(&reader, numbers))
 }
 
 #[test]
@@ -228,28 +135,10 @@ fn static_texts_and_texts_of_other_passes_are_frozen(rt: HostRuntime) -> Result<
     let mut pass = pass_of(&shared);
     kept_as(&rt, &shared, &mut pass, "a static text")?;
     let numbers = intern_both(&rt, &shared)?;
-    freeze_three(&rt, shared, &mut pass, numbers)?;
-    Ok(())
-}
-
-// Whether the reader has no text.
-fn is_empty(reader: &Reader) -> bool {
-    reader.is_empty() && key_of(reader, "").is_none()
-}
-
-// Freezes an interner without texts. Returns whether its reader has none.
-fn none_is_read<R: Wait>(rt: &R, alloc: Global) -> Result<bool, Fail> {
-    Ok(is_empty(&reader(rt, made(alloc)?)?))
-}
-
-// Freezes an interner without texts. Returns whether its resolver has none.
-fn none_is_resolved<R: Wait>(rt: &R, alloc: Global) -> Result<bool, Fail> {
-    Ok(resolver(rt, made(alloc)?)?.len() == 0)
-}
-
-#[test]
-fn an_interner_without_texts_is_frozen(rt: HostRuntime) -> Result<(), Fail> {
-    is_so(&rt, none_is_read(&rt, rt.alloc())?, "reader");
-    is_so(&rt, none_is_resolved(&rt, rt.alloc())?, "resolver");
+    is_so(
+        &rt,
+        freezes_three(&rt, shared, &mut pass, numbers)?,
+        "three texts",
+    );
     Ok(())
 }

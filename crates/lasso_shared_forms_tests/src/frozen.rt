@@ -1,5 +1,4 @@
 //! Whether readers and resolvers have a list of texts.
-use super::checks::is_text;
 use lasso_parts::iter::Strings;
 use lasso_parts::keys::Key;
 use lasso_parts::util::LassoResult;
@@ -10,36 +9,13 @@ use std::alloc::Global;
 use std::hash::BuildHasher;
 use std::sync::Wait;
 
-// Whether the walk's next text is this one.
-fn is_next<K: Key>(strings: &mut Strings<'_, K>, text: &str) -> bool {
-    is_text(strings.next(), text)
-}
-
 // Whether the walk yields exactly these texts, in order.
 fn yields<K: Key>(mut strings: Strings<'_, K>, texts: &[&str]) -> bool {
     let mut all = true;
-    for text in texts.iter() {
-        all &= is_next(&mut strings, text);
+    for position in 0..texts.len() {
+        all &= strings.next() == Some(texts[position]);
     }
     all && strings.next().is_none()
-}
-
-/// The key of the text in the reader.
-pub(super) fn key_of<K: Key, S: BuildHasher>(
-    reader: &RodeoReader<K, S, Global>,
-    text: &str,
-) -> Option<K> {
-    reader.get(text)
-}
-
-// Whether the key has this number, and stands for the text.
-fn key_reads<K: Key, S: BuildHasher>(
-    reader: &RodeoReader<K, S, Global>,
-    key: K,
-    number: usize,
-    text: &str,
-) -> bool {
-    key.into_usize() == number && is_text(reader.try_resolve(key), text)
 }
 
 /// Whether the text is in the reader, with this number.
@@ -48,26 +24,22 @@ pub(super) fn is_read<K: Key, S: BuildHasher>(
     number: usize,
     text: &str,
 ) -> bool {
-    match key_of(reader, text) {
-        Some(key) => key_reads(reader, key, number, text),
+    match reader.get(text) {
+        Some(key) => {
+            key.into_usize() == number
+                && reader.try_resolve(key) == Some(text)
+                && reader.contains(text)
+        }
         None => false,
     }
 }
 
-/// Whether the reader has the text by `contains`.
-pub(super) fn has<K: Key, S: BuildHasher>(reader: &RodeoReader<K, S, Global>, text: &str) -> bool {
-    reader.contains(text)
-}
-
-// Whether each of the texts is found and resolved at its position.
-fn are_read<K: Key, S: BuildHasher>(reader: &RodeoReader<K, S, Global>, texts: &[&str]) -> bool {
-    let mut all = true;
-    let mut position: usize = 0;
-    for text in texts.iter() {
-        all &= has(reader, text) && is_read(reader, position, text);
-        position = position.saturating_add(1);
+// Whether the key with this number stands for no text in the reader.
+fn reads_none<K: Key, S: BuildHasher>(reader: &RodeoReader<K, S, Global>, number: usize) -> bool {
+    match K::try_from_usize(number) {
+        Some(key) => reader.try_resolve(key).is_none() && !reader.contains_key(key),
+        None => true,
     }
-    all
 }
 
 /// Whether the reader has exactly these texts. `absent` is not one of them.
@@ -76,14 +48,48 @@ pub(super) fn reads_just<K: Key, S: BuildHasher>(
     texts: &[&str],
     absent: &str,
 ) -> bool {
-    let counted = reader.len() == texts.len() && key_of(reader, absent).is_none();
-    counted && are_read(reader, texts) && yields(reader.strings(), texts)
+    let mut all = reader.len() == texts.len() && reader.is_empty() == texts.is_empty();
+    for position in 0..texts.len() {
+        all &= is_read(reader, position, texts[position]);
+    }
+    let lacks = reader.get(absent).is_none() && !reader.contains(absent);
+    let past = reads_none(reader, texts.len()) && reads_none(reader, texts.len().saturating_add(9));
+    all && lacks && past && yields(reader.strings(), texts)
+}
+
+// Whether the resolver has the text at this number, or none.
+fn is_resolved<K: Key>(
+    resolver: &RodeoResolver<K, Global>,
+    number: usize,
+    text: Option<&str>,
+) -> bool {
+    match K::try_from_usize(number) {
+        Some(key) => resolver.try_resolve(key) == text,
+        None => text.is_none(),
+    }
 }
 
 /// Whether the resolver has exactly these texts.
 pub(super) fn resolves_just<K: Key>(resolver: &RodeoResolver<K, Global>, texts: &[&str]) -> bool {
-    resolver.len() == texts.len() && yields(resolver.strings(), texts)
+    let mut all = resolver.len() == texts.len();
+    for position in 0..texts.len() {
+        all &= is_resolved(resolver, position, Some(texts[position]));
+    }
+    all && is_resolved(resolver, texts.len(), None)
+        && is_resolved(resolver, texts.len().saturating_add(9), None)
+        && yields(resolver.strings(), texts)
 }
+
+/// How an interner is frozen.
+#[derive(Clone, Copy)]
+pub(super) enum Frozen {
+    Reader,
+    ReaderByPass,
+    Resolver,
+}
+
+/// Each of them.
+pub(super) static FROZEN: [Frozen; 3] = [Frozen::Reader, Frozen::ReaderByPass, Frozen::Resolver];
 
 // The reader of the interner by a new pass.
 fn reader_as<K: Key, S: BuildHasher + Drop, R: Wait>(
@@ -94,40 +100,17 @@ fn reader_as<K: Key, S: BuildHasher + Drop, R: Wait>(
     shared.into_reader_as(rt, &mut pass)
 }
 
-/// Freezes the interner to a reader. Returns whether it has exactly these texts. `absent` is not one of them.
-pub(super) fn is_read_as<K: Key, S: BuildHasher + Drop, R: Wait>(
+/// Freezes the interner. Returns whether it then has exactly these texts. `absent` is not one of them.
+pub(super) fn is_frozen<K: Key, S: BuildHasher + Drop, R: Wait>(
     rt: &R,
     shared: ThreadedRodeo<K, S>,
+    frozen: Frozen,
     texts: &[&str],
     absent: &str,
-) -> bool {
-    match shared.into_reader(rt) {
-        Ok(reader) => reads_just(&reader, texts, absent),
-        Err(_) => false,
-    }
-}
-
-/// The same by a pass.
-pub(super) fn is_read_as_by_pass<K: Key, S: BuildHasher + Drop, R: Wait>(
-    rt: &R,
-    shared: ThreadedRodeo<K, S>,
-    texts: &[&str],
-    absent: &str,
-) -> bool {
-    match reader_as(rt, shared) {
-        Ok(reader) => reads_just(&reader, texts, absent),
-        Err(_) => false,
-    }
-}
-
-/// Freezes the interner to a resolver. Returns whether it has exactly these texts.
-pub(super) fn is_resolved_as<K: Key, S: BuildHasher + Drop, R: Wait>(
-    rt: &R,
-    shared: ThreadedRodeo<K, S>,
-    texts: &[&str],
-) -> bool {
-    match shared.into_resolver(rt) {
-        Ok(resolver) => resolves_just(&resolver, texts),
-        Err(_) => false,
+) -> LassoResult<bool> {
+    match frozen {
+        Frozen::Reader => Ok(reads_just(&shared.into_reader(rt)?, texts, absent)),
+        Frozen::ReaderByPass => Ok(reads_just(&reader_as(rt, shared)?, texts, absent)),
+        Frozen::Resolver => Ok(resolves_just(&shared.into_resolver(rt)?, texts)),
     }
 }

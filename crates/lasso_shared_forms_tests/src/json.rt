@@ -1,22 +1,25 @@
-//! Interners that threads share, read from JSON and written as JSON.
-mod hints;
-mod kinds;
+//! Interners that threads share, read from JSON and written as JSON. Stored scripts of `lasso_replay` have JSON
+//! values of each kind in each role, and those that are wrong.
+mod large;
 
-use super::checks::{is_given, is_number, is_so};
-use super::forms::{Single, is_rodeo, single_of};
-use super::frozen::is_read;
-use super::reading::{read, read_from, value_of};
-use super::writing::is_written_as;
+use super::checks::{freezes_as, is_so, runs, runs_as};
+use super::looks::{Look, first_wrong};
+use super::origins::{Origin, make_from, value_of};
+use Look::{Compares, Does, Json, Shows};
+use Step::{ByOne, Copies, Counts, Finds, Interns, IsLimited, Uses};
 use lasso_parts::json::JsonError;
-use lasso_parts::keys::{Key, MicroSpur, Spur};
+use lasso_parts::keys::{Key, Spur};
 use lasso_parts::util::{FixedState, LassoResult};
 use lasso_shared::threaded::ThreadedRodeo;
-use lasso_shared_testing::calls::{Reader, Shared, contains, copied, found, len, limit, usage};
+use lasso_shared_testing::calls::Shared;
+use lasso_shared_testing::cases::{HINTED, PLAIN};
+use lasso_shared_testing::steps::{Call, Step, Way};
+use lasso_shared_testing::texts::List;
+use lasso_shared_testing::texts::List::{Numbers, Texts};
 use lasso_testing::hashers::{FirstState, SameState};
 use lasso_testing::keys::{WithoutTwo, WithoutZero};
-use serde_json::{Map, Number, Value};
+use serde_json::Value;
 use std::alloc::Global;
-use std::hash::BuildHasher;
 use std::process::Abort;
 use std::sync::Wait;
 use std::test::*;
@@ -46,42 +49,14 @@ fn is_fault<K: Key>(alloc: Global, value: &Value, wanted: Wrong) -> bool {
 // Whether reading the JSON text ends so.
 fn is_wrong_with<K: Key>(alloc: Global, json: &str, wanted: Wrong) -> bool {
     match value_of(alloc, json) {
-        Some(value) => is_fault::<K>(alloc, &value, wanted),
-        None => false,
+        Ok(value) => is_fault::<K>(alloc, &value, wanted),
+        Err(_) => false,
     }
 }
 
 // Reading the JSON text has to end so.
 fn ends<K: Key, R: AllocGlobal + Abort>(rt: &R, json: &str, wanted: Wrong) {
     is_so(rt, is_wrong_with::<K>(rt.alloc(), json, wanted), json);
-}
-
-static FAULTY: [(&str, JsonError); 18] = [
-    (r#"{"a":1,"b":3}"#, JsonError::NotAPosition(1)),
-    (r#"{"a":1,"b":1}"#, JsonError::Taken(1)),
-    (r#"{"a":1,"b":2,"c":1}"#, JsonError::Taken(2)),
-    (r#"{"a":"1"}"#, JsonError::NotAPosition(0)),
-    (r#"{"a":0}"#, JsonError::NotAPosition(0)),
-    (r#"{"a":-1}"#, JsonError::NotAPosition(0)),
-    (r#"{"a":null}"#, JsonError::NotAPosition(0)),
-    (r#"{"a":1.0}"#, JsonError::NotAPosition(0)),
-    (r#"{"a":18446744073709551615}"#, JsonError::NotAPosition(0)),
-    (r#"{"a":2,"b":2}"#, JsonError::Taken(1)),
-    (r#"{"b":2,"a":2,"c":0}"#, JsonError::Taken(1)),
-    (r#"{"a":3,"b":1}"#, JsonError::NotAPosition(0)),
-    (r#"["a","a"]"#, JsonError::Doubled(1)),
-    (r#"["a",1]"#, JsonError::NotText(1)),
-    ("[[]]", JsonError::NotText(0)),
-    ("null", JsonError::NotAnObject),
-    ("1", JsonError::NotAnObject),
-    (r#""a""#, JsonError::NotAnObject),
-];
-
-#[test]
-fn faulty_values(rt: HostRuntime) {
-    for (json, wanted) in FAULTY.iter() {
-        ends::<Spur, _>(&rt, json, Some(*wanted));
-    }
 }
 
 #[test]
@@ -94,120 +69,74 @@ fn a_position_without_a_key(rt: HostRuntime) {
     ends::<WithoutTwo, _>(&rt, r#"{"a":2,"b":1}"#, None);
 }
 
-// Adds the text with this number to the members, or sets its number.
-fn insert(members: &mut Map<String, Value>, text: String, number: u64) -> Result<(), Fail> {
-    members.insert(text, Value::Number(Number::from(number)))?;
-    Ok(())
-}
-
-// An object of `count` texts of three digits, each with its position plus one.
-fn numbered(alloc: Global, count: usize) -> Result<Value, Fail> {
-    let mut members: Map<String, Value> = Map::new(alloc);
-    for position in 0..count {
-        let text = format!(in alloc; "{position:03}")?;
-        insert(&mut members, text, (position as u64).saturating_add(1))?;
-    }
-    Ok(Value::Object(members))
-}
-
-// Whether reading such an object by keys of 8 bits ends so.
-fn is_fault_of(alloc: Global, count: usize, wanted: Wrong) -> Result<bool, Fail> {
-    let value = numbered(alloc, count)?;
-    Ok(is_fault::<MicroSpur>(alloc, &value, wanted))
-}
-
-#[test]
-fn more_members_than_keys(rt: HostRuntime) -> Result<(), Fail> {
-    is_so(&rt, is_fault_of(rt.alloc(), 255, None)?, "255");
-    let too_many = Some(JsonError::TooMany(255));
-    is_so(&rt, is_fault_of(rt.alloc(), 256, too_many)?, "256");
-    Ok(())
-}
-
-// The interner as a JSON value.
-fn written(alloc: Global, shared: &Shared) -> Result<Value, Fail> {
-    Ok(shared.serialize(alloc)?)
-}
-
 // The interner of two texts has a bucket of two bytes, which is full, so a new text takes one of four. It has to
 // go last.
-fn takes_a_last_text<R: AllocGlobal + Wait + Abort>(rt: &R, shared: &Shared, what: &str) {
-    is_so(rt, is_given(copied(rt, shared, "c"), 2), what);
-    is_so(rt, usage(rt, shared) == 6, what);
-    let json = r#"{"a":2,"b":1,"c":3}"#;
-    is_so(rt, is_written_as(rt.alloc(), shared, json), what);
-}
-
-// The same of the interner that is read from this JSON text.
-fn reads_two<R: AllocGlobal + Wait + Abort>(rt: &R, json: &str) {
-    match read_from(rt.alloc(), json) {
-        Some(shared) => takes_a_last_text(rt, &shared, json),
-        None => is_so(rt, false, json),
-    }
+#[test]
+fn a_new_text_goes_last(rt: HostRuntime) -> Result<(), Fail> {
+    static LOOKS: [Look; 2] = [
+        Does(&[Interns(Way::TryCopied, "c", Ok(2)), Uses(6)]),
+        Json(r#"{"a":2,"b":1,"c":3}"#),
+    ];
+    runs(&rt, Origin::Json(r#"{"a":2,"b":1}"#), &LOOKS)?;
+    runs(&rt, Origin::Json(r#"["b","a"]"#), &LOOKS)
 }
 
 #[test]
-fn a_new_text_goes_last(rt: HostRuntime) {
-    reads_two(&rt, r#"{"a":2,"b":1}"#);
-    reads_two(&rt, r#"["b","a"]"#);
-}
-
-// The interner has to have `count` texts, of no bytes, and a bucket of 4096 bytes.
-fn takes_4096<R: Wait + Abort>(rt: &R, shared: &Shared, count: usize, what: &str) {
-    is_so(rt, len(shared) == count, what);
-    is_so(rt, contains(rt, shared, "") == (count == 1), what);
-    is_so(rt, usage(rt, shared) == 4096, what);
-    is_so(rt, limit(rt, shared) == usize::MAX, what);
-}
-
-// The same of the interner that is read from this JSON text.
-fn reads_no_bytes<R: AllocGlobal + Wait + Abort>(rt: &R, json: &str, count: usize) {
-    match read_from(rt.alloc(), json) {
-        Some(shared) => takes_4096(rt, &shared, count, json),
-        None => is_so(rt, false, json),
-    }
-}
-
-#[test]
-fn no_bytes_make_a_bucket_of_4096(rt: HostRuntime) {
-    reads_no_bytes(&rt, "[]", 0);
-    reads_no_bytes(&rt, "{}", 0);
-    reads_no_bytes(&rt, r#"{"":1}"#, 1);
-    reads_no_bytes(&rt, r#"[""]"#, 1);
-}
-
-// An interner for one thread as a JSON value.
-fn written_by(alloc: Global, rodeo: &Single) -> Result<Value, Fail> {
-    Ok(rodeo.serialize(alloc)?)
-}
-
-// The reader has to have x and y.
-fn has_two<R: Abort>(rt: &R, reader: &Reader) {
-    is_so(rt, is_read(reader, 0, "x"), "x");
-    is_so(rt, is_read(reader, 1, "y"), "y");
-}
-
-// The interner has to be equal to the one for one thread, and its reader to have x and y.
-fn equals_and_has<R: Wait + Abort>(rt: &R, shared: Shared, rodeo: &Single) -> LassoResult<()> {
-    is_so(rt, is_rodeo(rt, &shared, rodeo), "equal");
-    has_two(rt, &shared.into_reader(rt)?);
-    Ok(())
-}
-
-// The same of an interner that is read from what the one for one thread wrote.
-fn equals_what_wrote<R: AllocGlobal + Wait + Abort>(rt: &R, rodeo: &Single) -> Result<(), Fail> {
-    let value = written_by(rt.alloc(), rodeo)?;
-    equals_and_has(rt, read(rt.alloc(), &value)?, rodeo)?;
-    Ok(())
+fn no_bytes_make_a_bucket_of_4096(rt: HostRuntime) -> Result<(), Fail> {
+    static NONE: [Look; 1] = [Does(&[
+        Counts(0),
+        Finds("", None),
+        Uses(4096),
+        IsLimited(usize::MAX),
+    ])];
+    static EMPTY: [Look; 1] = [Does(&[
+        Counts(1),
+        Finds("", Some(0)),
+        Uses(4096),
+        IsLimited(usize::MAX),
+    ])];
+    runs(&rt, Origin::Json("[]"), &NONE)?;
+    runs(&rt, Origin::Json("{}"), &NONE)?;
+    runs(&rt, Origin::Json(r#"{"":1}"#), &EMPTY)?;
+    runs(&rt, Origin::Json(r#"[""]"#), &EMPTY)
 }
 
 #[test]
 fn what_one_thread_wrote(rt: HostRuntime) -> Result<(), Fail> {
-    let rodeo = single_of(rt.alloc(), &["x", "y"])?;
-    equals_what_wrote(&rt, &rodeo)
+    static LOOKS: [Look; 2] = [
+        Shows(Texts(&["x", "y"])),
+        Compares(Texts(&["x", "y"]), true),
+    ];
+    let (origin, frozen) = (
+        Origin::Written(Texts(&["x", "y"])),
+        (Texts(&["x", "y"]), "z"),
+    );
+    freezes_as::<Spur, FixedState, _>(&rt, origin, &LOOKS, frozen, PLAIN)
 }
 
-static TEXTS: [&str; 40] = [
+// Looks each text up and interns it, three times, by a pass with hints.
+#[test]
+fn hints_of_an_interner_from_json(rt: HostRuntime) -> Result<(), Fail> {
+    static LOOKS: [Look; 1] = [Does(&[
+        ByOne(Call::Finds("b", Some(0))),
+        ByOne(Call::Copies("b", Ok(0))),
+        ByOne(Call::Finds("a", Some(1))),
+        ByOne(Call::Copies("a", Ok(1))),
+        ByOne(Call::Finds("c", None)),
+        ByOne(Call::Copies("c", Ok(2))),
+        ByOne(Call::Finds("c", Some(2))),
+        ByOne(Call::Takes(Texts(&["b", "a", "c"]), 0)),
+        ByOne(Call::Finds("d", None)),
+    ])];
+    let (object, array) = (
+        Origin::Json(r#"{"a":2,"b":1}"#),
+        Origin::Json(r#"["b","a"]"#),
+    );
+    runs_as::<Spur, FixedState, _>(&rt, object, &LOOKS, HINTED)?;
+    runs_as::<Spur, FixedState, _>(&rt, array, &LOOKS, HINTED)
+}
+
+const TEXTS: List = Texts(&[
     "a0",
     "p1",
     "Q2",
@@ -248,92 +177,79 @@ static TEXTS: [&str; 40] = [
     "v37",
     "E38",
     "",
+]);
+
+// What each thread has to find: the texts at their positions, interned again there, and no other text.
+static FOUND: [Look; 3] = [
+    Shows(TEXTS),
+    Does(&[Copies(TEXTS), Counts(40), Finds("none", None)]),
+    Shows(TEXTS),
 ];
 
-// Whether the text is found with this number, and interned again with it.
-fn is_found_again<S: BuildHasher + Drop, R: Wait>(
-    rt: &R,
-    shared: &ThreadedRodeo<Spur, S>,
-    number: usize,
-    text: &str,
-) -> bool {
-    is_number(found(rt, shared, text), number) && is_given(copied(rt, shared, text), number)
-}
-
-// Whether each text is found at its position, and interned again there.
-fn are_found<S: BuildHasher + Drop, R: Wait>(rt: &R, shared: &ThreadedRodeo<Spur, S>) -> bool {
-    let mut all = true;
-    let mut position: usize = 0;
-    for text in TEXTS.iter() {
-        all &= is_found_again(rt, shared, position, text);
-        position = position.saturating_add(1);
-    }
-    all
-}
-
-// Whether the interner has 40 texts, and lacks another one.
-fn has_no_other<S: BuildHasher + Drop, R: Wait>(rt: &R, shared: &ThreadedRodeo<Spur, S>) -> bool {
-    found(rt, shared, "none").is_none() && len(shared) == 40
-}
-
 // Whether two threads find exactly `TEXTS` in the interner, which are in several shards.
-fn both_find_in_several_shards<R: Threads + Wait + Sync>(
+fn both_find_in_several_shards<R: AllocGlobal + Threads + Wait + Sync>(
     rt: &R,
     shared: &ThreadedRodeo<Spur, FixedState>,
-) -> bool {
-    let (here, there) = join(rt, || are_found(rt, shared), || are_found(rt, shared));
-    here && there && has_no_other(rt, shared)
+) -> LassoResult<bool> {
+    let (here, there) = join(
+        rt,
+        || first_wrong(rt, shared, FOUND.as_slice(), PLAIN),
+        || first_wrong(rt, shared, FOUND.as_slice(), PLAIN),
+    );
+    Ok((here?, there?) == (FOUND.len(), FOUND.len()))
 }
 
 // The same with all texts in one shard.
-fn both_find_in_one_shard<R: Threads + Wait + Sync>(
+fn both_find_in_one_shard<R: AllocGlobal + Threads + Wait + Sync>(
     rt: &R,
     shared: &ThreadedRodeo<Spur, SameState>,
-) -> bool {
-    let (here, there) = join(rt, || are_found(rt, shared), || are_found(rt, shared));
-    here && there && has_no_other(rt, shared)
+) -> LassoResult<bool> {
+    let (here, there) = join(
+        rt,
+        || first_wrong(rt, shared, FOUND.as_slice(), PLAIN),
+        || first_wrong(rt, shared, FOUND.as_slice(), PLAIN),
+    );
+    Ok((here?, there?) == (FOUND.len(), FOUND.len()))
 }
 
 // The same with each text's shard chosen by its first byte.
-fn both_find_by_first_bytes<R: Threads + Wait + Sync>(
+fn both_find_by_first_bytes<R: AllocGlobal + Threads + Wait + Sync>(
     rt: &R,
     shared: &ThreadedRodeo<Spur, FirstState>,
-) -> bool {
-    let (here, there) = join(rt, || are_found(rt, shared), || are_found(rt, shared));
-    here && there && has_no_other(rt, shared)
+) -> LassoResult<bool> {
+    let (here, there) = join(
+        rt,
+        || first_wrong(rt, shared, FOUND.as_slice(), PLAIN),
+        || first_wrong(rt, shared, FOUND.as_slice(), PLAIN),
+    );
+    Ok((here?, there?) == (FOUND.len(), FOUND.len()))
 }
 
 // The texts of the value have to be found in several shards, in one, and where each text's first byte chooses its
 // shard.
 fn found_in_shards<R: Threads + Wait + Sync + AllocGlobal + Abort>(
     rt: &R,
-    value: &Value,
+    origin: Origin,
 ) -> Result<(), Fail> {
-    let several = both_find_in_several_shards(rt, &read(rt.alloc(), value)?);
-    is_so(rt, several, "several shards");
-    let one = both_find_in_one_shard(rt, &read(rt.alloc(), value)?);
-    is_so(rt, one, "one shard");
-    let first = both_find_by_first_bytes(rt, &read(rt.alloc(), value)?);
-    is_so(rt, first, "shards by first bytes");
+    let several = make_from(rt, origin, PLAIN)?;
+    is_so(
+        rt,
+        both_find_in_several_shards(rt, &several)?,
+        "several shards",
+    );
+    let one = make_from(rt, origin, PLAIN)?;
+    is_so(rt, both_find_in_one_shard(rt, &one)?, "one shard");
+    let first = make_from(rt, origin, PLAIN)?;
+    is_so(
+        rt,
+        both_find_by_first_bytes(rt, &first)?,
+        "shards by first bytes",
+    );
     Ok(())
-}
-
-// The array of `TEXTS` as the object of them.
-fn object_from(alloc: Global, array: &Value) -> Result<Value, Fail> {
-    let shared: Shared = read(alloc, array)?;
-    written(alloc, &shared)
-}
-
-// The array of `TEXTS`.
-fn array_of_texts(alloc: Global) -> Result<Value, Fail> {
-    written_by(alloc, &single_of(alloc, &TEXTS)?)
 }
 
 #[test]
 fn each_text_is_found_by_each_thread(rt: HostRuntime) -> Result<(), Fail> {
-    let array = array_of_texts(rt.alloc())?;
-    found_in_shards(&rt, &array)?;
-    let object = object_from(rt.alloc(), &array)?;
-    is_so(&rt, object.as_object().is_some(), "an object");
-    found_in_shards(&rt, &object)
+    found_in_shards(&rt, Origin::Written(TEXTS))?;
+    found_in_shards(&rt, Origin::WrittenAgain(TEXTS))
 }

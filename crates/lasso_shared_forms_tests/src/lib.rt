@@ -21,16 +21,16 @@ mod frozen;
 #[cfg(test)]
 mod json;
 #[cfg(test)]
-mod looking;
+mod looks;
 #[cfg(test)]
 mod many;
 #[cfg(test)]
-mod reading;
+mod origins;
 #[cfg(test)]
 mod showing;
 #[cfg(test)]
-mod texts;
-#[cfg(test)]
 mod walking;
+#[cfg(test)]
+mod words;
 #[cfg(test)]
 mod writing;

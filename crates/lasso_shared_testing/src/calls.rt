@@ -43,24 +43,6 @@ pub fn with_bytes<K: Key>(alloc: Global, bytes: usize) -> Result<ThreadedRodeo<K
     Ok(ThreadedRodeo::with_capacity(alloc, Capacity::for_bytes(bytes))?)
 }
 
-/// An interner with a first bucket of `bytes` bytes, under this limit, with a hasher of `S`.
-pub fn limited_hashed<K: Key, S: BuildHasher + Default + Drop>(
-    alloc: Global,
-    bytes: usize,
-    limit: usize,
-) -> Result<ThreadedRodeo<K, S>, Fail>
-    requires { 0 < bytes }
-{
-    let (room, limits) = (Capacity::for_bytes(bytes), MemoryLimits::new(limit));
-    let made = ThreadedRodeo::with_capacity_memory_limits_and_hasher(
-        alloc,
-        room,
-        limits,
-        S::default(),
-    );
-    Ok(made?)
-}
-
 /// An interner of default capacity and limit, with a hasher of `S`.
 pub fn hashed<K: Key, S: BuildHasher + Default + Drop>(
     alloc: Global,
@@ -68,24 +50,9 @@ pub fn hashed<K: Key, S: BuildHasher + Default + Drop>(
     Ok(ThreadedRodeo::with_hasher(alloc, S::default())?)
 }
 
-/// An interner with a capacity of no texts and a first bucket of ten bytes, with a hasher of `S`.
-pub fn roomless<K: Key, S: BuildHasher + Default + Drop>(
-    alloc: Global,
-) -> Result<ThreadedRodeo<K, S>, Fail> {
-    let capacity = Capacity::new(0, 10);
-    let made = ThreadedRodeo::with_capacity_and_hasher(alloc, capacity, S::default());
-    Ok(made?)
-}
-
 /// How many texts the interner has.
 pub fn len<K: Key, S: BuildHasher + Drop>(shared: &ThreadedRodeo<K, S>) -> usize {
     shared.len()
-}
-
-/// The same by a new pass.
-pub fn len_as<K: Key, S: BuildHasher + Drop>(shared: &ThreadedRodeo<K, S>) -> usize {
-    let mut pass = shared.pass();
-    shared.len_as(&mut pass)
 }
 
 /// How many bytes all buckets take.
@@ -147,37 +114,12 @@ pub fn key<K: Key>(number: usize) -> Result<K, Fail> {
     Ok(K::try_from_usize(number).ok_or("no key")?)
 }
 
-/// Whether the key with this number stands for a text.
-pub fn is_key<K: Key, S: BuildHasher + Drop>(
-    shared: &ThreadedRodeo<K, S>,
-    number: usize,
-) -> Result<bool, Fail> {
-    Ok(shared.contains_key(key(number)?))
-}
-
 /// The text that the key with this number stands for.
 pub fn text_at<K: Key, S: BuildHasher + Drop>(
     shared: &ThreadedRodeo<K, S>,
     number: usize,
 ) -> Result<Option<&str>, Fail> {
     Ok(shared.try_resolve(key(number)?))
-}
-
-/// The same by `resolve`.
-pub fn resolved<K: Key, S: BuildHasher + Drop>(
-    shared: &ThreadedRodeo<K, S>,
-    number: usize,
-) -> Result<Option<&str>, Fail> {
-    Ok(shared.resolve(key(number)?))
-}
-
-/// The same by `try_resolve_as` with a new pass.
-pub fn text_at_as<K: Key, S: BuildHasher + Drop>(
-    shared: &ThreadedRodeo<K, S>,
-    number: usize,
-) -> Result<Option<&str>, Fail> {
-    let mut pass = shared.pass();
-    Ok(shared.try_resolve_as(&mut pass, key(number)?))
 }
 
 /// Interns a copied text, and returns its number.
@@ -319,30 +261,6 @@ pub fn stands_for<K: Key, S: BuildHasher + Drop>(
     ensures { pass.new.of ≡ pass.old.of }
 {
     shared.try_resolve_as(pass, key) == Some(text)
-}
-
-/// The text that the key with this number stands for by the pass.
-pub fn text_seen_by<'a, K: Key, S: BuildHasher + Drop>(
-    shared: &'a ThreadedRodeo<K, S>,
-    pass: &mut Pass<K>,
-    number: usize,
-) -> Result<Option<&'a str>, Fail>
-    requires { pass.old.of ≡ shared.now }
-    ensures { pass.new.of ≡ pass.old.of }
-{
-    Ok(shared.try_resolve_as(pass, key(number)?))
-}
-
-/// Whether the key with this number stands for a text by the pass.
-pub fn is_key_as<K: Key, S: BuildHasher + Drop>(
-    shared: &ThreadedRodeo<K, S>,
-    pass: &mut Pass<K>,
-    number: usize,
-) -> Result<bool, Fail>
-    requires { pass.old.of ≡ shared.now }
-    ensures { pass.new.of ≡ pass.old.of }
-{
-    Ok(shared.contains_key_as(pass, key(number)?))
 }
 
 /// The limit and the usage by the pass.

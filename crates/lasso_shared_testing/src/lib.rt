@@ -3,6 +3,9 @@
 #![tactic(auto)]
 
 pub mod calls;
+pub mod cases;
 pub mod limits;
+pub mod makers;
+pub mod passes;
 pub mod steps;
 pub mod texts;

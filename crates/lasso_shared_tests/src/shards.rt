@@ -7,7 +7,8 @@ mod copied;
 mod hints;
 mod writers;
 
-use crate::checks::{is_so, runs};
+use crate::checks::{is_so, runs_in};
+use Step::{Counts, Finds, Keeps, Lists};
 use lasso_log::log::Opened;
 use lasso_parts::index::hash_text;
 use lasso_parts::keys::{Key, MicroSpur, Spur};
@@ -15,8 +16,11 @@ use lasso_parts::util::{FixedState, LassoErrorKind, LassoResult};
 use lasso_shared::shards::Shards;
 use lasso_shared::shards::tag::number_of;
 use lasso_shared::threaded::ThreadedRodeo;
-use lasso_shared_testing::calls::{answered, found, hashed, kept};
+use lasso_shared_testing::calls::{answered, found, hashed};
+use lasso_shared_testing::cases::PLAIN;
 use lasso_shared_testing::steps::Step;
+use lasso_shared_testing::texts::List::Numbers;
+use lasso_shared_testing::texts::items_of;
 use lasso_single::reader::RodeoReader;
 use lasso_testing::hashers::{FirstState, SameState};
 use std::alloc::Global;
@@ -36,7 +40,7 @@ const OPENED: Opened = Opened {
 // How many times a test looks for a flag before it gives up. It yields after each.
 const TURNS: u32 = 10_000_000;
 
-const TEXTS: [&str; 300] = [
+static TEXTS: [&str; 300] = [
     "000", "001", "002", "003", "004", "005", "006", "007", "008", "009", "010", "011", "012",
     "013", "014", "015", "016", "017", "018", "019", "020", "021", "022", "023", "024", "025",
     "026", "027", "028", "029", "030", "031", "032", "033", "034", "035", "036", "037", "038",
@@ -196,41 +200,8 @@ fn a_text_that_is_there_is_found_beside_readers(rt: HostRuntime) -> Result<(), F
     finds_beside_a_reader(&rt, &shards)
 }
 
-// Interns the static text. Returns whether it gets this number.
-fn is_kept<S: BuildHasher + Drop, R: Wait>(
-    rt: &R,
-    shared: &ThreadedRodeo<Spur, S>,
-    text: &'static str,
-    number: usize,
-) -> LassoResult<bool> {
-    Ok(kept(rt, shared, text)? == number)
-}
-
-// Interns the texts. Returns whether each gets its position as its number, and is found there.
-fn in_order<S: BuildHasher + Drop, R: Wait>(
-    rt: &R,
-    shared: &ThreadedRodeo<Spur, S>,
-    texts: &[&'static str],
-) -> LassoResult<bool> {
-    for position in 0..texts.len() {
-        if !is_kept(rt, shared, texts[position], position)? {
-            return Ok(false);
-        }
-    }
-    for position in 0..texts.len() {
-        if found(rt, shared, texts[position]) != Some(position) {
-            return Ok(false);
-        }
-    }
-    Ok(true)
-}
-
 // Whether the reader has the text under this number.
-fn is_read<S: BuildHasher + Drop>(
-    reader: &RodeoReader<Spur, S, Global>,
-    text: &str,
-    number: usize,
-) -> bool {
+fn is_read(reader: &RodeoReader<Spur, SameState, Global>, text: &str, number: usize) -> bool {
     match reader.get(text) {
         Some(key) => key.into_usize() == number,
         None => false,
@@ -238,11 +209,7 @@ fn is_read<S: BuildHasher + Drop>(
 }
 
 // Whether the reader has exactly these texts, each at its position, and lacks the other.
-fn has_just<S: BuildHasher + Drop>(
-    reader: &RodeoReader<Spur, S, Global>,
-    texts: &[&str],
-    other: &str,
-) -> bool {
+fn has_just(reader: &RodeoReader<Spur, SameState, Global>, texts: &[&str], other: &str) -> bool {
     for position in 0..texts.len() {
         if !is_read(reader, texts[position], position) {
             return false;
@@ -251,38 +218,56 @@ fn has_just<S: BuildHasher + Drop>(
     reader.len() == texts.len() && reader.get(other).is_none()
 }
 
-fn frozen<S: BuildHasher + Drop, R: Wait>(
-    rt: &R,
-    shared: ThreadedRodeo<Spur, S>,
-) -> LassoResult<RodeoReader<Spur, S, Global>> {
-    shared.into_reader(rt)
-}
-
-// Interns the texts. Fails unless each gets its position as its number, and is found there, and the other text
-// is absent.
-fn takes_texts<S: BuildHasher + Drop, R: Wait + Abort>(
+// Whether each of the texts is found at its position.
+fn are_found<S: BuildHasher + Drop, R: Wait>(
     rt: &R,
     shared: &ThreadedRodeo<Spur, S>,
-    other: &'static str,
-) -> Result<(), Fail> {
-    is_so(rt, in_order(rt, shared, &TEXTS)?, "the numbers");
-    runs(rt, shared, &[Step::Finds(other, None), Step::Counts(300)])
+    texts: &[&'static str],
+) -> bool {
+    let mut all = true;
+    for position in 0..texts.len() {
+        all &= found(rt, shared, texts[position]) == Some(position);
+    }
+    all
 }
 
+// The texts are of one shard, and have one hash.
 #[test]
 fn constant_hash(rt: HostRuntime) -> Result<(), Fail> {
+    static STEPS: [Step; 4] = [
+        Keeps(Numbers(0, 300)),
+        Finds("00299", Some(299)),
+        Finds("300", None),
+        Counts(300),
+    ];
     let shared: ThreadedRodeo<Spur, SameState> = hashed(rt.alloc())?;
-    takes_texts(&rt, &shared, "300")?;
-    let reader = frozen(&rt, shared)?;
-    is_so(&rt, has_just(&reader, &TEXTS, "300"), "the reader");
+    runs_in(&rt, &shared, &STEPS, PLAIN)?;
+    let items = items_of(rt.alloc(), Numbers(0, 300))?;
+    is_so(&rt, are_found(&rt, &shared, &items), "the texts");
+    let reader = shared.into_reader(&rt)?;
+    is_so(&rt, has_just(&reader, &items, "300"), "the reader");
     Ok(())
 }
 
+// The texts begin with 0 or 1, and have a hash and a shard for each.
 #[test]
 fn texts_of_one_shard_and_of_others(rt: HostRuntime) -> Result<(), Fail> {
+    static STEPS: [Step; 9] = [
+        Keeps(Numbers(9850, 10_150)),
+        Lists(Numbers(9850, 10_150)),
+        Finds("a", None),
+        Counts(300),
+        Keeps(Numbers(9850, 10_150)),
+        Finds("09850", Some(0)),
+        Finds("10149", Some(299)),
+        Finds("a", None),
+        Counts(300),
+    ];
     let shared: ThreadedRodeo<Spur, FirstState> = hashed(rt.alloc())?;
-    takes_texts(&rt, &shared, "a")?;
-    takes_texts(&rt, &shared, "a")
+    runs_in(&rt, &shared, &STEPS, PLAIN)?;
+    let items = items_of(rt.alloc(), Numbers(9850, 10_150))?;
+    is_so(&rt, are_found(&rt, &shared, &items), "the texts");
+    Ok(())
 }
 
 // How many slots the spine keeps for texts to come.

@@ -14,10 +14,10 @@ use std::sync::Wait;
 use std::test::*;
 
 // The texts of the list, two of its opening and three that are appended.
-const TEXTS: [&str; 5] = ["bc", "", "a", "p", "q"];
+static TEXTS: [&str; 5] = ["bc", "", "a", "p", "q"];
 
 // A hash for each text. All choose the same set, and differ in bits that no position here has.
-const HASHES: [u64; 5] = [1 << 48, 2 << 48, 3 << 48, 4 << 48, 5 << 48];
+static HASHES: [u64; 5] = [1 << 48, 2 << 48, 3 << 48, 4 << 48, 5 << 48];
 
 // How many absent texts are asked for at once.
 const MISSES: u32 = 1000;

@@ -88,15 +88,15 @@ fn fits(texts: &mut OpeningTexts, text: &str) -> bool {
 #[test]
 fn a_bucket_that_is_full_takes_no_text_of_an_opening(rt: HostRuntime) -> Result<(), Fail> {
     let mut texts = OpeningTexts::new(rt.alloc(), 4)?;
-    let rows = [
+    static ROWS: [(&str, bool); 5] = [
         ("abc", true),
         ("de", false),
         ("d", true),
         ("", true),
         ("e", false),
     ];
-    for (text, wanted) in rows {
-        assert!(rt; fits(&mut texts, text) == wanted, "{text}");
+    for (text, wanted) in ROWS.iter() {
+        is_so(&rt, fits(&mut texts, *text) == *wanted, *text);
     }
     Ok(())
 }

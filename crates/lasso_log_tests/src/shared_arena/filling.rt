@@ -21,7 +21,7 @@ use std::test::*;
 use std::thread::{Threads, join};
 
 // What each thread writes, 40 bytes of its own letter.
-const LETTERS: [&str; 4] = [
+static LETTERS: [&str; 4] = [
     "aaaaaaaaaaaaaaaaaaaaaaaaaaaaaaaaaaaaaaaa",
     "bbbbbbbbbbbbbbbbbbbbbbbbbbbbbbbbbbbbbbbb",
     "cccccccccccccccccccccccccccccccccccccccc",

@@ -7,7 +7,7 @@ use crate::checks::is_so;
 use crate::shared_arena::steps::Step::{
     Finds, Fits, FitsAnywhere, HasBucket, HasBuckets, HasCounted, Stores, Walks,
 };
-use crate::shared_arena::steps::run_steps;
+use crate::shared_arena::steps::{Step, run_steps};
 use crate::shared_arena::storing::{bucket_at, fits_anywhere, opens, stores};
 use lasso_log::log::bucket_list::BucketList;
 use lasso_log::log::{Log, Spine};
@@ -21,12 +21,13 @@ use std::thread::{Threads, join};
 
 #[test]
 fn a_new_list_has_the_first_bucket(rt: HostRuntime) -> Result<(), Fail> {
-    run_steps(&rt, 8, u64::MAX, &[HasBuckets(1), Walks(1, 8)])
+    static STEPS: [Step; 2] = [HasBuckets(1), Walks(1, 8)];
+    run_steps(&rt, 8, u64::MAX, &STEPS)
 }
 
 #[test]
 fn a_new_bucket_is_in_the_list(rt: HostRuntime) -> Result<(), Fail> {
-    let steps = [
+    static STEPS: [Step; 6] = [
         Finds(8, false),
         Stores("abcde"),
         Finds(8, true),
@@ -34,12 +35,12 @@ fn a_new_bucket_is_in_the_list(rt: HostRuntime) -> Result<(), Fail> {
         Finds(16, true),
         HasBuckets(3),
     ];
-    run_steps(&rt, 4, u64::MAX, &steps)
+    run_steps(&rt, 4, u64::MAX, &STEPS)
 }
 
 #[test]
 fn a_walk_finds_each_bucket(rt: HostRuntime) -> Result<(), Fail> {
-    let steps = [
+    static STEPS: [Step; 6] = [
         Walks(1, 4),
         Stores("defghijk"),
         Stores("0123456789abcdef0"),
@@ -48,12 +49,12 @@ fn a_walk_finds_each_bucket(rt: HostRuntime) -> Result<(), Fail> {
         HasBuckets(3),
         HasCounted(3),
     ];
-    run_steps(&rt, 4, u64::MAX, &steps)
+    run_steps(&rt, 4, u64::MAX, &STEPS)
 }
 
 #[test]
 fn bytes_are_taken_in_an_earlier_bucket(rt: HostRuntime) -> Result<(), Fail> {
-    let steps = [
+    static STEPS: [Step; 7] = [
         Stores("abc"),
         Stores("defghijk"),
         Fits("xy", false),
@@ -62,12 +63,12 @@ fn bytes_are_taken_in_an_earlier_bucket(rt: HostRuntime) -> Result<(), Fail> {
         HasBucket(0, 4, 4),
         HasBucket(1, 8, 8),
     ];
-    run_steps(&rt, 4, u64::MAX, &steps)
+    run_steps(&rt, 4, u64::MAX, &STEPS)
 }
 
 #[test]
 fn bytes_are_taken_without_the_spine(rt: HostRuntime) -> Result<(), Fail> {
-    let steps = [
+    static STEPS: [Step; 6] = [
         FitsAnywhere("abcde", true),
         FitsAnywhere("1234", false),
         HasBucket(0, 8, 5),
@@ -75,19 +76,19 @@ fn bytes_are_taken_without_the_spine(rt: HostRuntime) -> Result<(), Fail> {
         FitsAnywhere("x", false),
         HasBucket(0, 8, 8),
     ];
-    run_steps(&rt, 8, u64::MAX, &steps)
+    run_steps(&rt, 8, u64::MAX, &STEPS)
 }
 
 #[test]
 fn bytes_are_taken_in_a_later_bucket(rt: HostRuntime) -> Result<(), Fail> {
-    let steps = [
+    static STEPS: [Step; 4] = [
         Stores("abcd"),
         Stores("efg"),
         // the first bucket is full, and the second has five bytes left of eight
         FitsAnywhere("12345", true),
         FitsAnywhere("x", false),
     ];
-    run_steps(&rt, 4, u64::MAX, &steps)
+    run_steps(&rt, 4, u64::MAX, &STEPS)
 }
 
 // How many bytes of all buckets are taken.

@@ -2,8 +2,7 @@
 //! those of the calls, by the laws of `lasso_shared::laws`.
 ghost use Rattle.std.specs.Prelude.{◌≡◌, ◌≢◌, ◌↔◌, Some, IsTrue, IfOk, option_map};
 
-use super::keeps_each;
-use crate::checks::is_so;
+use crate::checks::{is_so, runs};
 use lasso_log::log::Pass;
 use lasso_parts::keys::{Key, Spur};
 use lasso_parts::util::{FixedState, LassoResult};
@@ -12,7 +11,10 @@ use lasso_shared::laws::{
     seen_texts_keep_keys,
 };
 use lasso_shared::threaded::ThreadedRodeo;
-use lasso_shared_testing::calls::{Shared, made, pass_of, text_seen_by};
+use lasso_shared_testing::calls::{Shared, made, pass_of};
+use lasso_shared_testing::makers::Maker;
+use lasso_shared_testing::steps::Step::ByOne;
+use lasso_shared_testing::steps::{Call, Step};
 use std::process::Abort;
 use std::sync::Wait;
 use std::test::*;
@@ -193,29 +195,17 @@ fn two_passes_rely_on_each_other(rt: HostRuntime) -> Result<(), Fail> {
     Ok(())
 }
 
-// Whether the pass reads these texts at positions 2 and 3.
-fn reads_past(
-    shared: &Shared,
-    pass: &mut Pass<Spur>,
-    third: Option<&str>,
-    fourth: Option<&str>,
-) -> Result<bool, Fail>
-    requires { pass.old.of ≡ shared.now }
-{
-    let same = text_seen_by(shared, pass, 2)? == third;
-    Ok(same && text_seen_by(shared, pass, 3)? == fourth)
-}
-
-// Interns five texts, three of them distinct. Returns whether the position after the last is empty.
-fn ends_at_three<R: Wait>(rt: &R, shared: &Shared) -> Result<bool, Fail> {
-    let mut pass = pass_of(shared);
-    keeps_each(rt, shared, &mut pass, &["p", "q", "p", "", "q"])?;
-    reads_past(shared, &mut pass, Some(""), None)
-}
-
+// The pass interns five texts, three of them distinct.
 #[test]
 fn the_position_after_the_last_text_is_empty(rt: HostRuntime) -> Result<(), Fail> {
-    let shared = made(rt.alloc())?;
-    is_so(&rt, ends_at_three(&rt, &shared)?, "positions 2 and 3");
-    Ok(())
+    static STEPS: [Step; 7] = [
+        ByOne(Call::Keeps("p", Ok(0))),
+        ByOne(Call::Keeps("q", Ok(1))),
+        ByOne(Call::Keeps("p", Ok(0))),
+        ByOne(Call::Keeps("", Ok(2))),
+        ByOne(Call::Keeps("q", Ok(1))),
+        ByOne(Call::Reads(2, Some(""))),
+        ByOne(Call::Reads(3, None)),
+    ];
+    runs(&rt, Maker::Default, &STEPS)
 }

@@ -1,117 +1,84 @@
 //! Copied texts: alone, together with static ones, and in two threads.
-use super::{Form, both_meet};
-use crate::checks::{is_so, runs, runs_on};
-use lasso_parts::keys::{MicroSpur, Spur};
-use lasso_parts::util::{FixedState, LassoErrorKind, LassoResult};
-use lasso_shared::threaded::ThreadedRodeo;
-use lasso_shared_testing::calls::{
-    Shared, copied, copied_so, found, len, limited, limited_hashed, made, number, resolved,
-    with_bytes,
-};
-use lasso_shared_testing::steps::{Step, Way};
+use crate::checks::{is_so, runs, runs_as, runs_in, runs_in_two};
+use Step::{Copies, Counts, Finds, Interns, IsLimited, Limits, Reads, Resolves, Takes, Uses};
+use lasso_parts::keys::MicroSpur;
+use lasso_parts::util::FixedState;
+use lasso_shared_testing::calls::{Shared, copied, found, made};
+use lasso_shared_testing::cases::PLAIN;
+use lasso_shared_testing::makers::Maker;
+use lasso_shared_testing::steps::{FULL, NO_KEY, Step, Way};
+use lasso_shared_testing::texts::List::Numbers;
 use lasso_testing::hashers::SameState;
-use std::hash::BuildHasher;
 use std::process::Abort;
 use std::sync::Wait;
 use std::test::*;
-use std::thread::{Threads, join};
 
+// The third text takes the last byte of the first bucket.
 #[test]
 fn usage_grows_by_whole_buckets(rt: HostRuntime) -> Result<(), Fail> {
-    // the third text takes the last byte of the first bucket
-    let steps = [
-        Step::Takes("abc", Ok(0)),
-        Step::Uses(4),
-        Step::Takes("defghijk", Ok(1)),
-        Step::Uses(12),
-        Step::Takes("x", Ok(2)),
-        Step::Uses(12),
+    static STEPS: [Step; 6] = [
+        Takes("abc", Ok(0)),
+        Uses(4),
+        Takes("defghijk", Ok(1)),
+        Uses(12),
+        Takes("x", Ok(2)),
+        Uses(12),
     ];
-    runs_on::<Spur, FixedState, _>(&rt, with_bytes(rt.alloc(), 4), &steps)
+    runs(&rt, Maker::Sized(50, 4, usize::MAX), &STEPS)
 }
 
 #[test]
 fn a_raised_limit_lets_a_text_in(rt: HostRuntime) -> Result<(), Fail> {
-    let steps = [
-        Step::Takes("abc", Ok(0)),
-        Step::Uses(4),
-        Step::Takes("defghijk", Ok(1)),
-        Step::Uses(12),
-        Step::Takes("x", Ok(2)),
-        Step::Uses(12),
-        Step::Takes("yz", Err(LassoErrorKind::MemoryLimitReached)),
-        Step::Uses(12),
-        Step::Limits(14),
-        Step::Uses(12),
-        Step::Takes("yz", Ok(3)),
-        Step::Uses(14),
-        Step::IsLimited(14),
-        Step::Counts(4),
+    static STEPS: [Step; 14] = [
+        Takes("abc", Ok(0)),
+        Uses(4),
+        Takes("defghijk", Ok(1)),
+        Uses(12),
+        Takes("x", Ok(2)),
+        Uses(12),
+        Takes("yz", FULL),
+        Uses(12),
+        Limits(14),
+        Uses(12),
+        Takes("yz", Ok(3)),
+        Uses(14),
+        IsLimited(14),
+        Counts(4),
     ];
-    runs_on::<Spur, FixedState, _>(&rt, limited(rt.alloc(), 4, 12), &steps)
+    runs(&rt, Maker::Sized(50, 4, 12), &STEPS)
 }
 
-// Interns the number as a copied text. Returns whether it gets its own value as its number.
-fn takes_number<S: BuildHasher + Drop, R: AllocGlobal + Wait>(
-    rt: &R,
-    shared: &ThreadedRodeo<MicroSpur, S>,
-    value: usize,
-) -> Result<bool, Fail> {
-    let text = format!(in rt.alloc(); "{value}")?;
-    Ok(number(rt, shared, text.as_str()) == Ok(value))
-}
-
-// Interns the numbers below `count`. Returns whether each gets its own value as its number.
-fn takes_numbers<S: BuildHasher + Drop, R: AllocGlobal + Wait>(
-    rt: &R,
-    shared: &ThreadedRodeo<MicroSpur, S>,
-    count: usize,
-) -> Result<bool, Fail> {
-    let mut all = true;
-    for value in 0..count {
-        all &= takes_number(rt, shared, value)?;
-    }
-    Ok(all)
-}
-
-// 10 numbers of one digit, 90 of two and 155 of three fill the bucket.
-fn uses_keys_up<S: BuildHasher + Default + Drop, R: AllocGlobal + Wait + Abort>(
-    rt: &R,
-) -> Result<(), Fail> {
-    let shared: ThreadedRodeo<MicroSpur, S> = limited_hashed(rt.alloc(), 655, 655)?;
-    is_so(rt, takes_numbers(rt, &shared, 255)?, "the numbers");
-    let steps = [
-        Step::Takes("x", Err(LassoErrorKind::MemoryLimitReached)),
-        Step::Takes("0", Ok(0)),
-        Step::Takes("", Err(LassoErrorKind::KeySpaceExhaustion)),
-        Step::Interns(Way::TryStatic, "x", Err(LassoErrorKind::KeySpaceExhaustion)),
-        Step::Interns(Way::TryStatic, "", Err(LassoErrorKind::KeySpaceExhaustion)),
-        Step::Counts(255),
-        Step::Uses(655),
-    ];
-    runs(rt, &shared, &steps)
-}
-
+// 255 texts of five bytes use up the keys, and fill the bucket.
 #[test]
 fn the_limit_answers_before_the_key_type(rt: HostRuntime) -> Result<(), Fail> {
-    uses_keys_up::<FixedState, HostRuntime>(&rt)?;
-    uses_keys_up::<SameState, HostRuntime>(&rt)
+    static STEPS: [Step; 8] = [
+        Copies(Numbers(0, 255)),
+        Takes("x", FULL),
+        Takes("00000", Ok(0)),
+        Takes("", NO_KEY),
+        Interns(Way::TryStatic, "x", NO_KEY),
+        Interns(Way::TryStatic, "", NO_KEY),
+        Counts(255),
+        Uses(1275),
+    ];
+    runs_as::<MicroSpur, FixedState, _>(&rt, Maker::Full(1275), &STEPS, PLAIN)?;
+    runs_as::<MicroSpur, SameState, _>(&rt, Maker::Full(1275), &STEPS, PLAIN)
 }
 
 #[test]
 fn a_copied_and_a_static_text_have_one_key(rt: HostRuntime) -> Result<(), Fail> {
-    let steps = [
-        Step::Interns(Way::TryCopied, "p", Ok(0)),
-        Step::Interns(Way::TryStatic, "p", Ok(0)),
-        Step::Interns(Way::Static, "q", Ok(1)),
-        Step::Interns(Way::Copied, "q", Ok(1)),
-        Step::Interns(Way::Copied, "", Ok(2)),
-        Step::Interns(Way::Static, "", Ok(2)),
-        Step::Counts(3),
-        Step::Reads(0, Some("p")),
-        Step::Reads(2, Some("")),
+    static STEPS: [Step; 9] = [
+        Interns(Way::TryCopied, "p", Ok(0)),
+        Interns(Way::TryStatic, "p", Ok(0)),
+        Interns(Way::Static, "q", Ok(1)),
+        Interns(Way::Copied, "q", Ok(1)),
+        Interns(Way::Copied, "", Ok(2)),
+        Interns(Way::Static, "", Ok(2)),
+        Counts(3),
+        Reads(0, Some("p")),
+        Reads(2, Some("")),
     ];
-    runs_on(&rt, made(rt.alloc()), &steps)
+    runs(&rt, Maker::Default, &STEPS)
 }
 
 // The bytes as a text.
@@ -130,16 +97,13 @@ fn lacks_bytes<R: Wait>(rt: &R, shared: &Shared, bytes: &[u8]) -> Result<bool, F
 }
 
 // Interns bytes as a copied text, and changes them. Fails unless the text stays.
-fn stays<R: Wait + Abort>(rt: &R, shared: &Shared) -> Result<(), Fail> {
+fn stays<R: AllocGlobal + Wait + Abort>(rt: &R, shared: &Shared) -> Result<(), Fail> {
     let mut bytes = [97u8, 98u8];
     is_so(rt, copies_bytes(rt, shared, &bytes)? == 0, "the number");
     bytes[0] = 122;
     is_so(rt, lacks_bytes(rt, shared, &bytes)?, "the changed text");
-    runs(
-        rt,
-        shared,
-        &[Step::Reads(0, Some("ab")), Step::Finds("ab", Some(0))],
-    )
+    static LAST: [Step; 2] = [Reads(0, Some("ab")), Finds("ab", Some(0))];
+    runs_in(rt, shared, &LAST, PLAIN)
 }
 
 #[test]
@@ -148,34 +112,25 @@ fn a_copy_stays_where_its_source_changes(rt: HostRuntime) -> Result<(), Fail> {
     stays(&rt, &shared)
 }
 
+// There are three texts at the end, and each thread has resolved the keys of its two: so `x` has one key.
 #[test]
 fn a_copied_text_of_two_threads_has_one_key(rt: HostRuntime) -> Result<(), Fail> {
-    let shared = made(rt.alloc())?;
-    is_so(&rt, both_meet(&rt, &shared, Form::Copied)?, "one key");
-    is_so(&rt, len(&shared) == 3, "the count");
-    Ok(())
-}
-
-// Whether the key that was returned resolves to the text.
-fn resolves(shared: &Shared, number: LassoResult<usize>, text: &str) -> Result<bool, Fail> {
-    Ok(resolved(shared, number?)? == Some(text))
-}
-
-// Two threads intern a text each. Returns whether both texts resolve.
-fn both_resolve<R: Threads + Wait + Sync>(rt: &R, shared: &Shared) -> Result<bool, Fail> {
-    let (here, there) = join(
-        rt,
-        || copied_so(rt, shared, "Hello, world!"),
-        || copied_so(rt, shared, "Hello from the thread!"),
-    );
-    let both = resolves(shared, here, "Hello, world!")?;
-    Ok(both && resolves(shared, there, "Hello from the thread!")?)
+    static HERE: [Step; 2] = [
+        Resolves(Way::CopiedByPass, "x"),
+        Resolves(Way::CopiedByPass, "a"),
+    ];
+    static THERE: [Step; 2] = [
+        Resolves(Way::CopiedByPass, "x"),
+        Resolves(Way::CopiedByPass, "b"),
+    ];
+    static LAST: [Step; 1] = [Counts(3)];
+    runs_in_two(&rt, &[], (&HERE, &THERE), &LAST, PLAIN)
 }
 
 #[test]
 fn a_text_of_each_thread_resolves(rt: HostRuntime) -> Result<(), Fail> {
-    let shared = made(rt.alloc())?;
-    is_so(&rt, both_resolve(&rt, &shared)?, "the texts");
-    is_so(&rt, len(&shared) == 2, "the count");
-    Ok(())
+    static HERE: [Step; 1] = [Resolves(Way::Copied, "Hello, world!")];
+    static THERE: [Step; 1] = [Resolves(Way::Copied, "Hello from the thread!")];
+    static LAST: [Step; 1] = [Counts(2)];
+    runs_in_two(&rt, &[], (&HERE, &THERE), &LAST, PLAIN)
 }

@@ -1,94 +1,54 @@
 //! Calls that read, with a pass and without one.
-ghost use Rattle.std.specs.Prelude.{◌≡◌};
-
-use crate::checks::{is_so, runs_on};
-use lasso_log::log::Pass;
-use lasso_parts::keys::Spur;
-use lasso_shared_testing::calls::{
-    Shared, found, found_as, is_key_as, kept, made, pass_of, seen_by, text_seen_by,
-};
-use lasso_shared_testing::steps::{Step, Way, reads};
-use std::process::Abort;
-use std::sync::Wait;
+use crate::checks::{runs, runs_in_two};
+use Step::{ByOne, Counts, Finds, Interns, Reads, Resolves};
+use lasso_shared_testing::cases::PLAIN;
+use lasso_shared_testing::makers::Maker;
+use lasso_shared_testing::steps::{Call, Step, Way};
 use std::test::*;
-use std::thread::{Threads, join};
 
 #[test]
 fn plain_readings_of_two_texts(rt: HostRuntime) -> Result<(), Fail> {
-    let steps = [
-        Step::Counts(0),
-        Step::Interns(Way::Static, "Hello, world!", Ok(0)),
-        Step::Interns(Way::TryStatic, "", Ok(1)),
-        Step::Interns(Way::Static, "Hello, world!", Ok(0)),
-        Step::Finds("", Some(1)),
-        Step::Finds("Hello", None),
-        Step::Finds("Hello, world!", Some(0)),
-        Step::Reads(0, Some("Hello, world!")),
-        Step::Reads(1, Some("")),
-        Step::Counts(2),
-        Step::Reads(2, None),
+    static STEPS: [Step; 11] = [
+        Counts(0),
+        Interns(Way::Static, "Hello, world!", Ok(0)),
+        Interns(Way::TryStatic, "", Ok(1)),
+        Interns(Way::Static, "Hello, world!", Ok(0)),
+        Finds("", Some(1)),
+        Finds("Hello", None),
+        Finds("Hello, world!", Some(0)),
+        Reads(0, Some("Hello, world!")),
+        Reads(1, Some("")),
+        Counts(2),
+        Reads(2, None),
     ];
-    runs_on(&rt, made(rt.alloc()), &steps)
-}
-
-// Whether the pass has seen no text, and does not find `p`.
-fn has_seen_nothing<R: Wait>(rt: &R, shared: &Shared, pass: &mut Pass<Spur>) -> bool
-    requires { pass.old.of ≡ shared.now }
-    ensures { pass.new.of ≡ pass.old.of }
-{
-    found_as(rt, shared, pass, "p").is_none() && seen_by(shared, pass) == 0
-}
-
-// Whether the pass finds `p` as the first text and no `q`.
-fn finds_p<R: Wait>(rt: &R, shared: &Shared, pass: &mut Pass<Spur>) -> bool
-    requires { pass.old.of ≡ shared.now }
-    ensures { pass.new.of ≡ pass.old.of }
-{
-    found_as(rt, shared, pass, "p") == Some(0) && found_as(rt, shared, pass, "q").is_none()
-}
-
-// Whether the pass has seen one text.
-fn has_seen_one(shared: &Shared, pass: &mut Pass<Spur>) -> Result<bool, Fail>
-    requires { pass.old.of ≡ shared.now }
-{
-    let one = is_key_as(shared, pass, 0)? && seen_by(shared, pass) == 1;
-    let no_other = !is_key_as(shared, pass, 1)? && text_seen_by(shared, pass, 1)?.is_none();
-    Ok(one && no_other)
-}
-
-// Interns a text without the pass, which was made before. Fails unless the pass reads it.
-fn reads_by_pass<R: Wait + Abort>(rt: &R, shared: &Shared) -> Result<(), Fail> {
-    let mut pass = pass_of(shared);
-    is_so(rt, has_seen_nothing(rt, shared, &mut pass), "before");
-    is_so(rt, kept(rt, shared, "p")? == 0, "the number");
-    is_so(rt, finds_p(rt, shared, &mut pass), "the text");
-    is_so(rt, has_seen_one(shared, &mut pass)?, "its key");
-    Ok(())
+    runs(&rt, Maker::Default, &STEPS)
 }
 
 #[test]
 fn a_pass_reads_what_another_interned(rt: HostRuntime) -> Result<(), Fail> {
-    let shared = made(rt.alloc())?;
-    reads_by_pass(&rt, &shared)
+    static STEPS: [Step; 8] = [
+        ByOne(Call::Finds("p", None)),
+        ByOne(Call::Counts(0)),
+        Interns(Way::TryStatic, "p", Ok(0)),
+        ByOne(Call::Finds("p", Some(0))),
+        ByOne(Call::Finds("q", None)),
+        ByOne(Call::Reads(0, Some("p"))),
+        ByOne(Call::Counts(1)),
+        ByOne(Call::Reads(1, None)),
+    ];
+    runs(&rt, Maker::Default, &STEPS)
 }
 
-// Interns a text here, and another in another thread, while this one looks the first up. Returns whether it is
-// found, and both texts resolve.
-fn resolves_both<R: Threads + Wait + Sync>(rt: &R, shared: &Shared) -> Result<bool, Fail> {
-    let world = kept(rt, shared, "Hello, world!")?;
-    let (thread, known) = join(
-        rt,
-        || kept(rt, shared, "Hello from the thread!"),
-        || found(rt, shared, "Hello, world!"),
-    );
-    let thread = thread?;
-    let first = known == Some(world) && reads(shared, world, Some("Hello, world!"));
-    Ok(first && reads(shared, thread, Some("Hello from the thread!")))
-}
-
+// A thread interns a text while another looks the first one up.
 #[test]
 fn a_key_of_another_thread_resolves(rt: HostRuntime) -> Result<(), Fail> {
-    let shared = made(rt.alloc())?;
-    is_so(&rt, resolves_both(&rt, &shared)?, "the texts");
-    Ok(())
+    static FIRST: [Step; 1] = [Interns(Way::TryStatic, "Hello, world!", Ok(0))];
+    static HERE: [Step; 1] = [Resolves(Way::TryStatic, "Hello from the thread!")];
+    static THERE: [Step; 1] = [Finds("Hello, world!", Some(0))];
+    static LAST: [Step; 3] = [
+        Reads(0, Some("Hello, world!")),
+        Reads(1, Some("Hello from the thread!")),
+        Counts(2),
+    ];
+    runs_in_two(&rt, &FIRST, (&HERE, &THERE), &LAST, PLAIN)
 }

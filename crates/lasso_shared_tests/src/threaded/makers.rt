@@ -1,109 +1,100 @@
 //! What each maker makes: the usage, the limit and the number of cells.
-use super::{FIRST, fill};
-use crate::checks::{is_so, is_so_at};
+use crate::checks::{is_so, is_so_at, runs, runs_in};
+use Step::{Holds, Interns, Keeps, Uses};
 use lasso_parts::keys::{Key, MicroSpur, Spur};
 use lasso_parts::util::{Capacity, FixedState, LassoResult, MemoryLimits};
 use lasso_shared::threaded::ThreadedRodeo;
-use lasso_shared_testing::calls::{Shared, limit, usage};
+use lasso_shared_testing::calls::{Shared, limit, made, usage};
+use lasso_shared_testing::cases::PLAIN;
+use lasso_shared_testing::makers::Maker;
+use lasso_shared_testing::steps::{Step, Way};
+use lasso_shared_testing::texts::List::Numbers;
 use std::alloc::Global;
+use std::process::Abort;
 use std::sync::Wait;
 use std::test::*;
 
-// Whether the new interner has this usage, this limit and this number of cells, or why none was made.
-fn has<K: Key, R: Wait>(
-    rt: &R,
-    made: LassoResult<ThreadedRodeo<K, FixedState>>,
-    wanted: (usize, usize, usize),
-) -> LassoResult<bool> {
-    let shared = made?;
-    Ok((usage(rt, &shared), limit(rt, &shared), cells(&shared)) == wanted)
+// A call that makes an interner.
+#[derive(Clone, Copy)]
+enum By {
+    New,
+    Capacity,
+    Limits,
+    CapacityAndLimits,
+    Hasher,
+    CapacityAndHasher,
+    All,
 }
 
-// The number of cells, which is the capacity.
-fn cells<K: Key>(shared: &ThreadedRodeo<K, FixedState>) -> usize {
-    shared.capacity()
+// Makes an interner by the call.
+fn made_by<K: Key>(
+    alloc: Global,
+    by: By,
+    room: Capacity,
+    limits: MemoryLimits,
+) -> LassoResult<ThreadedRodeo<K, FixedState>> {
+    let hasher = FixedState::new();
+    match by {
+        By::New => ThreadedRodeo::new(alloc),
+        By::Capacity => ThreadedRodeo::with_capacity(alloc, room),
+        By::Limits => ThreadedRodeo::with_memory_limits(alloc, limits),
+        By::CapacityAndLimits => {
+            ThreadedRodeo::with_capacity_and_memory_limits(alloc, room, limits)
+        }
+        By::Hasher => ThreadedRodeo::with_hasher(alloc, hasher),
+        By::CapacityAndHasher => ThreadedRodeo::with_capacity_and_hasher(alloc, room, hasher),
+        By::All => {
+            ThreadedRodeo::with_capacity_memory_limits_and_hasher(alloc, room, limits, hasher)
+        }
+    }
 }
 
-// Whether `default` makes an interner of these numbers.
-fn by_default<R: Wait>(rt: &R, alloc: Global, wanted: (usize, usize, usize)) -> LassoResult<bool> {
-    has(rt, ThreadedRodeo::default(alloc), wanted)
+// How many bytes all buckets take, the limit, and the number of cells, which is the capacity.
+fn sums<K: Key, R: Wait>(rt: &R, shared: &ThreadedRodeo<K, FixedState>) -> (usize, usize, usize) {
+    (usage(rt, shared), limit(rt, shared), shared.capacity())
 }
 
-// The same for `new`, with 8-bit keys.
-fn by_new<R: Wait>(rt: &R, alloc: Global, wanted: (usize, usize, usize)) -> LassoResult<bool> {
-    has::<MicroSpur, _>(rt, ThreadedRodeo::new(alloc), wanted)
+// What a call makes of a capacity and a limit: usage, limit and number of cells.
+type Row = (By, Capacity, usize, (usize, usize, usize));
+
+// Fails unless the call makes that.
+fn makes<K: Key, R: AllocGlobal + Wait + Abort>(rt: &R, row: Row) -> LassoResult<()> {
+    let (by, room, limit, wanted) = row;
+    let shared: ThreadedRodeo<K, FixedState> = made_by(
+        rt.alloc(),
+        by,
+        room,
+        MemoryLimits::new(limit),
+    )?;
+    is_so_at(rt, sums(rt, &shared) == wanted, wanted.0);
+    Ok(())
 }
 
 #[test]
 fn makers_open_with_defaults(rt: HostRuntime) -> Result<(), Fail> {
     // chunks of 32 and 32 cells for 50 texts
-    is_so(
-        &rt,
-        by_default(&rt, rt.alloc(), (4096, usize::MAX, 64))?,
-        "default",
-    );
-    is_so(&rt, by_new(&rt, rt.alloc(), (4096, usize::MAX, 64))?, "new");
+    let wanted = (4096, usize::MAX, 64);
+    let shared = made(rt.alloc())?;
+    is_so(&rt, sums(&rt, &shared) == wanted, "default");
+    makes::<MicroSpur, _>(&rt, (By::New, Capacity::minimal(), 0, wanted))?;
     Ok(())
-}
-
-// The same for `with_capacity`.
-fn by_capacity<R: Wait>(
-    rt: &R,
-    alloc: Global,
-    room: Capacity,
-    wanted: (usize, usize, usize),
-) -> LassoResult<bool> {
-    has::<Spur, _>(rt, ThreadedRodeo::with_capacity(alloc, room), wanted)
-}
-
-// The same for `with_memory_limits`.
-fn by_limit<R: Wait>(
-    rt: &R,
-    alloc: Global,
-    limits: MemoryLimits,
-    wanted: (usize, usize, usize),
-) -> LassoResult<bool> {
-    has::<Spur, _>(rt, ThreadedRodeo::with_memory_limits(alloc, limits), wanted)
-}
-
-// The same for `with_capacity_and_memory_limits`.
-fn by_both<R: Wait>(
-    rt: &R,
-    alloc: Global,
-    room: Capacity,
-    limits: MemoryLimits,
-    wanted: (usize, usize, usize),
-) -> LassoResult<bool> {
-    let made = ThreadedRodeo::with_capacity_and_memory_limits(alloc, room, limits);
-    has::<Spur, _>(rt, made, wanted)
 }
 
 #[test]
 fn makers_open_with_capacity_and_limit(rt: HostRuntime) -> Result<(), Fail> {
-    let (room, limits) = (Capacity::new(1000, 65536), MemoryLimits::new(10000));
-    is_so(
-        &rt,
-        by_capacity(&rt, rt.alloc(), room, (65536, usize::MAX, 1024))?,
-        "a capacity",
-    );
-    is_so(
-        &rt,
-        by_limit(&rt, rt.alloc(), limits, (4096, 10000, 64))?,
-        "a limit",
-    );
+    let room = Capacity::new(1000, 65536);
+    let sums = (65536, usize::MAX, 1024);
+    makes::<Spur, _>(&rt, (By::Capacity, room, 10000, sums))?;
+    makes::<Spur, _>(&rt, (By::Limits, room, 10000, (4096, 10000, 64)))?;
     // chunks of 32, 32 and 64 cells
-    let (room, limits) = (Capacity::new(70, 4), MemoryLimits::new(12));
-    is_so(
-        &rt,
-        by_both(&rt, rt.alloc(), room, limits, (4, 12, 128))?,
-        "both",
-    );
+    let room = Capacity::new(70, 4);
+    makes::<Spur, _>(&rt, (By::CapacityAndLimits, room, 12, (4, 12, 128)))?;
     Ok(())
 }
 
 // Numbers of texts, of bytes, and of the cells that are made for the texts. There are no cells for no texts,
 // and otherwise a power of two, at least 32.
-const ROOMS: [(usize, usize, usize); 16] = [
+static ROOMS: [(usize, usize, usize); 16] = [
     (0, 1, 0),
     (1, 2, 32),
     (31, 3, 32),
@@ -122,82 +113,42 @@ const ROOMS: [(usize, usize, usize); 16] = [
     (100_000, 16_777_217, 131_072),
 ];
 
-// Whether interners with room for these texts and bytes have it, without a limit and with this one.
-fn have_room<R: Wait>(
+// Fails unless interners with room for these texts and bytes have it, without a limit and with this one.
+fn have_room<R: AllocGlobal + Wait + Abort>(
     rt: &R,
-    alloc: Global,
-    strings: usize,
-    bytes: usize,
-    cells: usize,
+    room: (usize, usize, usize),
     limit: usize,
-) -> LassoResult<bool> {
-    if bytes == 0 {
-        return Ok(false);
-    }
-    let room = Capacity::new(strings, bytes);
-    let plain = by_capacity(rt, alloc, room, (bytes, usize::MAX, cells))?;
-    Ok(
-        plain
-            && by_both(
-                rt,
-                alloc,
-                room,
-                MemoryLimits::new(limit),
-                (bytes, limit, cells),
-            )?,
+) -> LassoResult<()> {
+    let (texts, bytes, cells) = room;
+    let room = Capacity::new(texts, bytes.max(1));
+    makes::<Spur, R>(rt, (By::Capacity, room, limit, (bytes, usize::MAX, cells)))?;
+    makes::<Spur, R>(
+        rt,
+        (By::CapacityAndLimits, room, limit, (bytes, limit, cells)),
     )
 }
 
 #[test]
 fn makers_open_with_each_size(rt: HostRuntime) -> Result<(), Fail> {
-    for (strings, bytes, cells) in ROOMS {
-        for limit in [bytes, bytes.saturating_mul(3), 0x0123_4567_89ab_cdef] {
-            let all = have_room(&rt, rt.alloc(), strings, bytes, cells, limit)?;
-            is_so_at(&rt, all, bytes);
-        }
+    for room in ROOMS.iter() {
+        have_room(&rt, *room, room.1)?;
+        have_room(&rt, *room, room.1.saturating_mul(3))?;
+        have_room(&rt, *room, 0x0123_4567_89ab_cdef)?;
     }
     Ok(())
 }
 
-// The same for `with_capacity_and_hasher`.
-fn by_hasher<R: Wait>(
-    rt: &R,
-    alloc: Global,
-    room: Capacity,
-    wanted: (usize, usize, usize),
-) -> LassoResult<bool> {
-    let made = ThreadedRodeo::with_capacity_and_hasher(alloc, room, FixedState::new());
-    has::<Spur, _>(rt, made, wanted)
-}
-
-// The same for `with_capacity_memory_limits_and_hasher`.
-fn by_all<R: Wait>(
-    rt: &R,
-    alloc: Global,
-    room: Capacity,
-    limits: MemoryLimits,
-    wanted: (usize, usize, usize),
-) -> LassoResult<bool> {
-    let hasher = FixedState::new();
-    let made = ThreadedRodeo::with_capacity_memory_limits_and_hasher(alloc, room, limits, hasher);
-    has::<Spur, _>(rt, made, wanted)
-}
-
 #[test]
 fn makers_take_a_hasher(rt: HostRuntime) -> Result<(), Fail> {
-    let room = Capacity::for_bytes(7);
-    is_so(
+    let (room, limits) = (Capacity::for_bytes(7), 5);
+    makes::<Spur, _>(&rt, (By::Hasher, room, limits, (4096, usize::MAX, 64)))?;
+    makes::<Spur, _>(
         &rt,
-        by_hasher(&rt, rt.alloc(), room, (7, usize::MAX, 64))?,
-        "a hasher",
-    );
+        (By::CapacityAndHasher, room, limits, (7, usize::MAX, 64)),
+    )?;
     // the first bucket is larger than the limit, and is made anyway
-    let (room, limits) = (Capacity::new(0, 10), MemoryLimits::new(5));
-    is_so(
-        &rt,
-        by_all(&rt, rt.alloc(), room, limits, (10, 5, 0))?,
-        "all",
-    );
+    let room = Capacity::new(0, 10);
+    makes::<Spur, _>(&rt, (By::All, room, limits, (10, 5, 0)))?;
     Ok(())
 }
 
@@ -206,50 +157,25 @@ fn with(alloc: Global, room: Capacity) -> LassoResult<Shared> {
     ThreadedRodeo::with_capacity(alloc, room)
 }
 
-// Interns static texts in the new interner. Returns whether the usage and the number of cells are then these.
-fn is_filled<R: Wait>(
-    rt: &R,
-    made: LassoResult<Shared>,
-    texts: &[&'static str],
-    wanted: (usize, usize),
-) -> LassoResult<bool> {
-    let shared = made?;
-    fill(rt, &shared, texts)?;
-    Ok((usage(rt, &shared), cells(&shared)) == wanted)
-}
-
 #[test]
 fn capacity_is_room_for_texts(rt: HostRuntime) -> Result<(), Fail> {
-    let made = with(rt.alloc(), Capacity::for_strings(70));
-    is_so(
-        &rt,
-        is_filled(&rt, made, &FIRST, (4096, 128))?,
-        "room for 70",
-    );
-    let made = with(rt.alloc(), Capacity::minimal());
-    is_so(
-        &rt,
-        is_filled(&rt, made, &["p"], (1, 32))?,
-        "the least room",
-    );
-    Ok(())
+    static ROOM_FOR_70: [Step; 3] = [Keeps(Numbers(0, 100)), Uses(4096), Holds(128)];
+    static LEAST_ROOM: [Step; 3] = [Keeps(Numbers(0, 1)), Uses(1), Holds(32)];
+    let shared = with(rt.alloc(), Capacity::for_strings(70))?;
+    runs_in(&rt, &shared, &ROOM_FOR_70, PLAIN)?;
+    let shared = with(rt.alloc(), Capacity::minimal())?;
+    runs_in(&rt, &shared, &LEAST_ROOM, PLAIN)
 }
 
-// An interner with a first bucket of 10 bytes, under a limit of 5.
-fn over_limit(alloc: Global) -> LassoResult<Shared> {
-    let (room, limits) = (Capacity::for_bytes(10), MemoryLimits::new(5));
-    ThreadedRodeo::with_capacity_and_memory_limits(alloc, room, limits)
-}
-
+// The first bucket has 10 bytes, and the limit is 5.
 #[test]
 fn no_limit_refuses_a_static_text(rt: HostRuntime) -> Result<(), Fail> {
-    let made = over_limit(rt.alloc());
-    is_so(
-        &rt,
-        is_filled(&rt, made, &["0123456789ab"], (10, 64))?,
-        "the sums",
-    );
-    Ok(())
+    static STEPS: [Step; 3] = [
+        Interns(Way::StaticByPass, "0123456789ab", Ok(0)),
+        Uses(10),
+        Holds(64),
+    ];
+    runs(&rt, Maker::Sized(50, 10, 5), &STEPS)
 }
 
 fn is_refused(alloc: Global, capacity: Capacity) -> bool {
@@ -261,14 +187,10 @@ fn is_refused(alloc: Global, capacity: Capacity) -> bool {
 
 #[test]
 fn sizes_that_no_memory_has(rt: HostRuntime) {
-    is_so(
-        &rt,
-        is_refused(rt.alloc(), Capacity::for_bytes(usize::MAX)),
-        "bytes",
+    let (bytes, texts) = (
+        Capacity::for_bytes(usize::MAX),
+        Capacity::for_strings(usize::MAX),
     );
-    is_so(
-        &rt,
-        is_refused(rt.alloc(), Capacity::for_strings(usize::MAX)),
-        "texts",
-    );
+    is_so(&rt, is_refused(rt.alloc(), bytes), "bytes");
+    is_so(&rt, is_refused(rt.alloc(), texts), "texts");
 }

@@ -11,7 +11,7 @@ use std::test::*;
 const TRIES: usize = 100;
 
 // More texts than the first chunk has cells.
-const TEXTS: [&str; 40] = [
+static TEXTS: [&str; 40] = [
     "", "a", "bb", "ccc", "dddd", "eeeee", "f", "gg", "hhh", "iiii", "jjjjj", "k", "ll", "mmm",
     "nnnn", "ooooo", "p", "qq", "rrr", "ssss", "ttttt", "u", "vv", "www", "xxxx", "yyyyy", "z",
     "aa", "bbb", "cccc", "ddddd", "e", "ff", "ggg", "hhhh", "iiiii", "j", "kk", "lll", "mmmm",
