@@ -44,18 +44,16 @@ fn keys_of_a_list_of_texts(rt: HostRuntime) -> Result<(), Fail> {
     Ok(())
 }
 
-// Whether the call adds the texts of the keys of `green`, `red` and `green` again.
+// Whether the call adds the texts of the keys: `green`, `red` and `green` again.
 fn adds_texts<'a>(
     rodeo: &'a SpurRodeo,
-    red: Spur,
-    green: Spur,
+    keys: &[Spur],
     texts: &mut Vec<&'a str>,
 ) -> LassoResult<bool> {
-    let keys = [green, red, green];
-    if !rodeo.contains_keys(&keys) {
+    if !rodeo.contains_keys(keys) {
         return Ok(false);
     }
-    rodeo.resolve_all(&keys, texts)?;
+    rodeo.resolve_all(keys, texts)?;
     Ok(texts.as_slice() == ["green", "red", "green"].as_slice())
 }
 
@@ -65,10 +63,7 @@ fn texts_of_a_list_of_keys(rt: HostRuntime) -> Result<(), Fail> {
     let (red, green) = (Spur::try_from_usize(0), Spur::try_from_usize(1));
     let (red, green) = (red.ok_or("no key")?, green.ok_or("no key")?);
     let mut texts = Vec::new(rt.alloc());
-    is_so(
-        &rt,
-        adds_texts(&rodeo, red, green, &mut texts)?,
-        "the texts",
-    );
+    let keys = [green, red, green];
+    is_so(&rt, adds_texts(&rodeo, &keys, &mut texts)?, "the texts");
     Ok(())
 }
