@@ -64,7 +64,11 @@ fn has_first<R: Wait>(
     };
     let mut all = shows(rt, interner, &TEXTS, state);
     for position in 0..TEXTS.len() {
-        let wanted = if position < count { Some(position) } else { None };
+        let wanted = if position < count {
+            Some(position)
+        } else {
+            None
+        };
         all &= found(rt, interner, pass, TEXTS[position]) == wanted;
     }
     all
