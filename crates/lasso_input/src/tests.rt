@@ -94,13 +94,14 @@ static STRETCHES: [(&[u8], Lines, &[u8]); 8] = [
     ),
     // a letter that is cut by a line feed
     (b"\xc3\n\xa4\n", &[(b"\xc3", false), (b"\xa4", false)], b""),
-    // a letter of which the last line has the beginning
+    // letters of two bytes
     (
-        "ä\nö\n".as_bytes(),
-        &[("ä".as_bytes(), true), ("ö".as_bytes(), true)],
+        b"\xc3\xa4\n\xc3\xb6\n",
+        &[(b"\xc3\xa4", true), (b"\xc3\xb6", true)],
         b"",
     ),
-    (b"\xc3\xa4\n\xc3", &[("ä".as_bytes(), true)], b"\xc3"),
+    // a letter of which the last line has the beginning
+    (b"\xc3\xa4\n\xc3", &[(b"\xc3\xa4", true)], b"\xc3"),
 ];
 
 #[test]
