@@ -1,5 +1,5 @@
 //! Line feeds that are found, and lines that are taken, with positions and lines worked by hand.
-use crate::{Line, Stretch, after_newline, find_newline};
+use crate::{Line, Stretch, after_newline, find_newline, first_line};
 use std::process::Abort;
 use std::test::Fail;
 
@@ -37,8 +37,38 @@ fn the_first_line_feed_is_found(rt: HostRuntime) {
 
 #[test]
 fn the_bytes_after_a_line_feed(rt: HostRuntime) {
-    is_so(&rt, after(b"to be\nor not\n", 5) == b"or not\n", "a line");
+    is_so(
+        &rt,
+        after(b"to be\nor not\n", 5) == b"or not\n".as_slice(),
+        "a line",
+    );
     is_so(&rt, after(b"\n", 0).is_empty(), "nothing");
+}
+
+// Bytes, their first line, and what is left after it.
+static FIRST: [(&[u8], &[u8], &[u8]); 6] = [
+    (b"to be\nor not\n", b"to be", b"or not\n"),
+    (b"or not\n", b"or not", b""),
+    (b"\n\nto be", b"", b"\nto be"),
+    (b"to be\r\n", b"to be\r", b""),
+    (b"to be", b"to be", b""),
+    (b"\0", b"\0", b""),
+];
+
+// Whether this line is cut off the bytes, and the rest is left.
+fn is_cut(bytes: &[u8], line: &[u8], rest: &[u8]) -> bool {
+    match first_line(bytes) {
+        Some(cut) => cut.0 == line && cut.1 == rest,
+        None => false,
+    }
+}
+
+#[test]
+fn the_first_line_is_cut_off(rt: HostRuntime) {
+    for (bytes, line, rest) in &FIRST {
+        is_so(&rt, is_cut(bytes, line, rest), "the first line");
+    }
+    is_so(&rt, first_line(b"").is_none(), "no line");
 }
 
 // Whether the line has these bytes, and is a text just if they are.
