@@ -1,4 +1,5 @@
-use Rattle.std.proofs.Common.{◌≡◌, ℕ, ◌∙◌, subst}
+use Rattle.std.proofs.Common.{◌≡◌, ℕ, ◌∙◌, sym, ap, subst}
+use mathlib.Core.List.{IsPrefix}
 use Rattle.std.proofs.lemmas.Result.{err_from_is_err_and}
 use Rattle.std.specs.Prelude.{Err}
 use Rattle.lasso_parts.specs.Texts.{Text}
@@ -7,9 +8,10 @@ use Rattle.lasso_log.specs.Calls.{IsCall}
 use Rattle.lasso_log.specs.History.{Lacks}
 use Rattle.lasso_log.specs.Notes.{Since}
 use Rattle.lasso_log.specs.Replies.{Intern, Interned}
-use Rattle.lasso_log.specs.Views.{list_of, seen}
+use Rattle.lasso_log.specs.Views.{SnapshotView, list_of, seen}
 use Rattle.lasso_shared.specs.NewTexts.{keeping_of, text_of}
-use Rattle.lasso_shared.specs.Shards.{PutsLast}
+use Rattle.lasso_shared.specs.Shards.{IsShard, PutsLast}
+use Rattle.lasso_log.proofs.Histories.{prefix_trans}
 use Rattle.lasso_shared.proofs.Called.{called_later}
 use Rattle.lasso_shared.proofs.Stored.{called_put, called_wanting}
 use Rattle.lasso_log.proofs.Tickets.{since_trans}
@@ -58,3 +60,71 @@ returns-in_err-piece-clause-call g c =
     let call : IsCall g.K.Key.key_at o (seen c.make_room.new.pass) after p q r = subst (λ (n : ℕ). IsCall g.K.Key.key_at o (seen c.make_room.new.pass) after n q r) same c.in_err-piece.ensures.refused in
     let from = err_from_is_err_and c.from_residual-in_err-piece.result c.from_residual-in_err-piece.ensures.1 in
     rw (from.1, from.2) (called_later g.K.Key.key_at o p c.args.pass.now.notes c.make_room.new.pass.notes after q r since call)
+
+pub make_room-requires-clause-held : goal.make_room-requires-clause-held
+make_room-requires-clause-held g c =
+    let hash_of = text_hash g.S.BuildHasher.build_hasher g.S.Hasher.Hasher.write g.S.Hasher.Hasher.finish c.args.self.now.hasher in
+    let shard = c.args.shard.now in
+    subst (λ (n : ℕ). IsShard hash_of n c.args.self.now.log shard.known shard.index shard.count) (sym c.number_of.ensures.0) c.requires.held
+
+pub store-requires-clause-held : goal.store-requires-clause-held
+store-requires-clause-held g c =
+    let hash_of = text_hash g.S.BuildHasher.build_hasher g.S.Hasher.Hasher.write g.S.Hasher.Hasher.finish c.args.self.now.hasher in
+    let shard = c.make_room.new.shard in
+    subst (λ (n : ℕ). IsShard hash_of n c.args.self.now.log shard.known shard.index shard.count) c.number_of.ensures.0 c.make_room.ensures.held
+
+pub store-requires-clause-begins : goal.store-requires-clause-begins
+store-requires-clause-begins g c = subst (λ (k : SnapshotView). IsPrefix k.notes c.make_room.new.pass.notes) (sym c.make_room.ensures.known) c.make_room.ensures.begins
+
+pub store-requires-clause-lacks : goal.store-requires-clause-lacks
+store-requires-clause-lacks g c =
+    let log = c.args.self.now.log in
+    let lacks : Lacks (list_of log c.args.shard.now.known.notes) (text_of c.args.text) = subst (Lacks (list_of log c.args.shard.now.known.notes)) c.as_str.ensures c.in_default.ensures.missing in
+    subst (λ (k : SnapshotView). Lacks (list_of log k.notes) (text_of c.args.text)) (sym c.make_room.ensures.known) lacks
+
+pub put_last-requires-clause-lasts : goal.put_last-requires-clause-lasts
+put_last-requires-clause-lasts g c = c.in_ok-piece.ensures.piece.1
+
+pub put_last-requires-clause-hashed : goal.put_last-requires-clause-hashed
+put_last-requires-clause-hashed g c =
+    let hash_of = text_hash g.S.BuildHasher.build_hasher g.S.Hasher.Hasher.write g.S.Hasher.Hasher.finish c.args.self.now.hasher in
+    c.requires.hashed ∙ ap hash_of (sym c.in_ok-piece.ensures.piece.0)
+
+pub put_last-requires-clause-held : goal.put_last-requires-clause-held
+put_last-requires-clause-held g c =
+    let hash_of = text_hash g.S.BuildHasher.build_hasher g.S.Hasher.Hasher.write g.S.Hasher.Hasher.finish c.args.self.now.hasher in
+    let shard = c.make_room.new.shard in
+    subst (λ (n : ℕ). IsShard hash_of n c.args.self.now.log shard.known shard.index shard.count) c.number_of.ensures.0 c.make_room.ensures.held
+
+pub put_last-requires-clause-begins : goal.put_last-requires-clause-begins
+put_last-requires-clause-begins g c =
+    let mid = c.make_room.new.pass.notes in
+    let filled = c.store.new.pass.notes in
+    let stored = c.in_ok-piece.ensures.event.2 in
+    let known = c.make_room.new.shard.known.notes in
+    let begins : IsPrefix known mid = subst (λ (k : SnapshotView). IsPrefix k.notes mid) (sym c.make_room.ensures.known) c.make_room.ensures.begins in
+    prefix_trans known mid filled begins (stored.rest, stored.begins)
+
+pub put_last-requires-clause-lacks : goal.put_last-requires-clause-lacks
+put_last-requires-clause-lacks g c =
+    let log = c.args.self.now.log in
+    let known = c.args.shard.now.known.notes in
+    let lacks : Lacks (list_of log known) c.in_ok-piece.piece.text = subst (Lacks (list_of log known)) (c.as_str.ensures ∙ sym c.in_ok-piece.ensures.piece.0) c.in_default.ensures.missing in
+    subst (λ (k : SnapshotView). Lacks (list_of log k.notes) c.in_ok-piece.piece.text) (sym c.make_room.ensures.known) lacks
+
+pub returns-clause-same : goal.returns-clause-same
+returns-clause-same g c =
+    let a = c.find.ensures.same in let b = c.make_room.ensures.same in let d = c.store.ensures.same in let e = c.put_last.ensures.same in
+    (e.0 ∙ d.0 ∙ b.0 ∙ a.0, e.1 ∙ d.1 ∙ b.1 ∙ a.1)
+
+pub returns-in_err-ahead-clause-held : goal.returns-in_err-ahead-clause-held
+returns-in_err-ahead-clause-held g c =
+    let hash_of = text_hash g.S.BuildHasher.build_hasher g.S.Hasher.Hasher.write g.S.Hasher.Hasher.finish c.args.self.now.hasher in
+    let shard = c.make_room.new.shard in
+    subst (λ (n : ℕ). IsShard hash_of n c.args.self.now.log shard.known shard.index shard.count) c.number_of.ensures.0 c.make_room.ensures.held
+
+pub returns-in_err-piece-clause-held : goal.returns-in_err-piece-clause-held
+returns-in_err-piece-clause-held g c =
+    let hash_of = text_hash g.S.BuildHasher.build_hasher g.S.Hasher.Hasher.write g.S.Hasher.Hasher.finish c.args.self.now.hasher in
+    let shard = c.make_room.new.shard in
+    subst (λ (n : ℕ). IsShard hash_of n c.args.self.now.log shard.known shard.index shard.count) c.number_of.ensures.0 c.make_room.ensures.held

@@ -1,10 +1,12 @@
-use Rattle.std.proofs.Common.{◌≡◌, ℕ, List, [], length, ap, ◌∙◌, subst}
+use Rattle.std.proofs.Common.{◌≡◌, ℕ, List, [], length, sym, ap, ◌∙◌, subst}
 use Rattle.std.specs.Prelude.{OnErr}
 use Rattle.lasso_parts.specs.Texts.{Text}
 use Rattle.lasso_parts.specs.Hashing.{text_hash}
 use Rattle.lasso_log.specs.History.{Lacks}
 use Rattle.lasso_log.specs.Notes.{Since}
+use Rattle.lasso_log.proofs.Histories.{prefix_trans}
 use Rattle.lasso_log.specs.Views.{list_of}
+use Rattle.lasso_shared.specs.Shards.{IsShard}
 use Rattle.lasso_shared.proofs.Stored.{takes_later_where, called_refused}
 use Rattle.lasso_shared.proofs.Whole.{since_both, still_lacks}
 use Rattle.lasso_shared.proofs.shards.Shards.take_bytes.Goals as goal
@@ -36,3 +38,19 @@ returns-clause-refused g c =
     let long : length (list_of log mid) ≡ length (list_of log spine) = rw c.deref_mut.ensures.value (ap (λ (ts : List Text). length ts) w.list) in
     let none : OnErr c.reserve_or_charge-range.result (Since p mid after []) = subst (λ (n : ℕ). OnErr c.reserve_or_charge-range.result (Since n mid after [])) (w.same.0 ∙ first.same.0) c.reserve_or_charge-range.ensures.err in
     called_refused g.K.Key.key_at log p c.args.pass.now.notes mid after t (length (list_of log spine)) c.reserve_or_charge-range.result c.requires.some since lacks long c.reserve_or_charge-range.ensures.refused none
+
+pub lock_current-guard-requires-clause-held : goal.lock_current-guard-requires-clause-held
+lock_current-guard-requires-clause-held g c =
+    let hash_of = text_hash g.S.BuildHasher.build_hasher g.S.Hasher.Hasher.write g.S.Hasher.Hasher.finish c.args.self.now.hasher in
+    let shard = c.args.shard.now in
+    subst (λ (n : ℕ). IsShard hash_of n c.args.self.now.log shard.known shard.index shard.count) (sym c.number_of.ensures.0) c.requires.held
+
+pub lock_current-guard-requires-clause-begins : goal.lock_current-guard-requires-clause-begins
+lock_current-guard-requires-clause-begins g c =
+    let none = c.in_default.ensures.none in
+    prefix_trans c.args.shard.now.known.notes c.args.pass.now.notes c.reserve_anywhere.new.pass.notes c.requires.begins (none.rest, none.begins)
+
+pub returns-clause-same : goal.returns-clause-same
+returns-clause-same g c =
+    let a = c.reserve_anywhere.ensures.same in let b = c.lock_current-guard.ensures.same in let d = c.reserve_or_charge-range.ensures.same in
+    (d.0 ∙ b.0 ∙ a.0, d.1 ∙ b.1 ∙ a.1)

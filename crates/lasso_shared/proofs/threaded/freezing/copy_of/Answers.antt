@@ -1,4 +1,5 @@
-use Rattle.std.proofs.Common.{◌≡◌, ◌≤◌, Ok, Err, ap, ◌∙◌, arith}
+use Rattle.std.proofs.Common.{◌≡◌, ◌≤◌, take, Ok, Err, ap, ◌∙◌, arith}
+use Rattle.std.proofs.lemmas.List.{take_all}
 use Rattle.std.proofs.lemmas.Result.{err_from_is_err_and}
 use Rattle.lasso_parts.specs.Account.{Account}
 use Rattle.lasso_single.specs.Copies.{bytes_of, clone_size}
@@ -23,3 +24,28 @@ loop-position-preserved g c =
     let room : made.account.room ≡ clone_size texts = ap (λ (a : Account). a.room) c.in_ok-copy.ensures.account ∙ c.in_ok-capacity.ensures.bytes in
     let fits : bytes_of texts ≤ made.account.room = omega (arith, room, bytes-le-clone_size texts) in
     interned_more g.K.Key.key_at made texts c.loop-position.position c.text_at.result.now c.loop-position.copy (Ok c.in_ok-try_get_or_intern.field-0) c.try_get_or_intern.new.self c.requires.distinct c.requires.fits fits c.text_at.ensures c.loop-position.invariant c.in_ok-try_get_or_intern.ensures
+
+pub returns-clause-texts : goal.returns-clause-texts
+returns-clause-texts g c =
+    let texts = g.T.Texts.list c.args.texts.now in
+    let i = c.loop-position.position in
+    c.loop-position.invariant.texts ∙ take_all i texts (omega (arith, c.requires.counted))
+
+pub returns-clause-made : goal.returns-clause-made
+returns-clause-made g c =
+    let texts = g.T.Texts.list c.args.texts.now in
+    let i = c.loop-position.position in
+    let whole : take i texts ≡ texts = take_all i texts (omega (arith, c.requires.counted)) in
+    let made = c.in_ok-copy.ensures.made in
+    let now = c.loop-position.invariant in
+    let bytes = ap bytes_of whole in
+    (now.origin.0 ∙ made.0 ∙ c.in_ok-capacity.ensures.bytes, omega (arith, now.copied, made.1, bytes), now.origin.1 ∙ made.2, now.origin.2 ∙ made.3)
+
+pub returns-in_err-copy-clause-overflow : goal.returns-in_err-copy-clause-overflow
+returns-in_err-copy-clause-overflow g c too_many = absurd (omega (arith, too_many, c.in_ok-capacity.ensures.counted))
+
+pub returns-in_err-try_get_or_intern-clause-overflow : goal.returns-in_err-try_get_or_intern-clause-overflow
+returns-in_err-try_get_or_intern-clause-overflow g c too_many = absurd (omega (arith, too_many, c.in_ok-capacity.ensures.counted))
+
+pub returns-clause-overflow : goal.returns-clause-overflow
+returns-clause-overflow g c too_many = absurd (omega (arith, too_many, c.in_ok-capacity.ensures.counted))
