@@ -36,10 +36,7 @@ impl<A: Allocator> Drop for OwnedRegions<A> {
             mut regions,
             mut rights,
         } = self;
-        while let Some(region) = regions.pop() {
-            let right = rights.pop().unwrap();
-            close(region, right);
-        }
+        free_from(&mut regions, &mut rights, 0);
         regions.destroy_empty();
         rights.destroy_empty();
     }
