@@ -100,7 +100,7 @@ fn lacks_others<R: AllocGlobal + Wait + Abort>(
     Ok(())
 }
 
-// How many texts, the calls that make them so many, and the usage then. Every other text is copied: 506, 1500, 10,001,
+// A number of texts, the calls that intern up to it, and the usage then. Every other text is copied: 506, 1500, 10,001,
 // 32,769 and 35,001. Copies of five bytes fill buckets of 4096 bytes, and of twice those of the last one: 819, 1638,
 // 3276, 6553, 13,107 and 26,214 texts.
 static MARKS: [(usize, &[Step], usize); 5] = [

@@ -32,7 +32,7 @@ const LONG_BYTES: usize = 24;
 // the processor overlaps more of them on its own.
 const SHORT_BYTES: usize = 8;
 
-// One text in so many has to be far where looking ahead pays.
+// Looking ahead pays if at least one of this number of texts is far.
 const FAR_SHARE: usize = 4;
 
 /// What is kept between texts that are looked up one after another: guesses at the positions of a batch of

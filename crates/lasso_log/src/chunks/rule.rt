@@ -4,7 +4,7 @@
 use logbook::{Gain, Rule};
 use std::marker::PhantomData;
 
-/// What a cell holds: its text, and whether that is there as long as an era.
+/// The value of a cell: its text, and whether the text lives as long as an era.
 pub trait HasText {
     ghost use Rattle.std.specs.Prelude.{ℕ};
     ghost use Rattle.lasso_parts.specs.Texts.{Text};

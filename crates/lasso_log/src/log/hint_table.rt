@@ -18,7 +18,7 @@ const ROUND: u32 = 65_536;
 // How many texts a round of resting has.
 const REST: u32 = 15 * ROUND;
 
-// One text in so many has to be met by a hint where asking pays.
+// Asking pays if a hint finds at least one of this number of texts.
 const HIT_SHARE: u32 = 8;
 
 /// A position, mixed with bits of its text's hash: read with the hash of another text, it is mostly past the

@@ -24,8 +24,8 @@ impl HasText for Piece {
     ghost lasts = { λ p era. Incl (life era) p.until };
 }
 
-/// The rule of its book: it is kept, the cell of each position below the length is filled with a text that is there as long as the
-/// era, and the book has the right to the bytes of each bucket that nobody has taken.
+/// The rule of its book: it is kept, the cell of each position below the length has a text that lives as long as
+/// the era, and the book has the right to the bytes of each bucket that nobody has taken.
 pub type LogRule<K> = InChunks<Shared<K>, StoredText, Chunk<StoredText>>;
 
 impl<K: Key> Listed<Note> for Shared<K> {

@@ -1,4 +1,4 @@
-//! Ranges of buckets, which are filled once, and the texts that are there from then on. Used by the shared arena and
+//! Ranges of buckets, which are filled once, and the texts in them, which never change. Used by the shared arena and
 //! by the log.
 ghost use Rattle.std.specs.Prelude.{◌≡◌, ◌+◌, [], length};
 ghost use base.Fml.{Incl};

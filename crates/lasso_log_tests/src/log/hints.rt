@@ -22,7 +22,7 @@ static HASHES: [u64; 5] = [1 << 48, 2 << 48, 3 << 48, 4 << 48, 5 << 48];
 // How many absent texts are asked for at once.
 const MISSES: u32 = 1000;
 
-// How often a test asks for so many before it gives up.
+// How often a test asks before it gives up.
 const TURNS: u32 = 10_000;
 
 // More texts than two rounds have.
