@@ -3,7 +3,9 @@
 -- If a line feed is found, the bytes are the end of a line, the feed, and the rest. So by the definition of
 -- the report, the answer to the line leads from the bytes to the rest, whatever follows. If none is found, no
 -- line is answered, and all bytes are held.
-use Rattle.std.proofs.Common.{ℕ, ◌≡◌, ◌+◌, ◌<◌, Ok, Err, List, [], ◌∷◌, ◌++◌, length, ap, sym, subst, ◌∙◌, refl, arith, append_assoc}
+use Rattle.std.proofs.Common.{ℕ, ◌≡◌, ◌+◌, ◌-◌, ◌<◌, Ok, Err, List, [], ◌∷◌, ◌++◌, length, take, drop, ap, sym, subst, ◌∙◌, refl, arith, append_assoc}
+use Rattle.std.proofs.Math.Seq.{drop-append_seam}
+use Rattle.std.proofs.lemmas.List.{length-append, length-drop, take_all}
 use Rattle.lasso_lines.specs.Stretch.{LeadsTo, FailsWith}
 use Rattle.lasso_parts.specs.Held.{Held}
 use Rattle.lasso_parts.specs.declared.util.LassoErrorKind.TheVariants.{FailedAllocation}
@@ -67,3 +69,37 @@ fails_held held number begun (b ∷ bytes) fault lacks = λ later.
     (subst (λ bs. EndsFrom held number (lines_of bs) [] (Err (Refused number FailedAllocation))) (sym (append_assoc begun (b ∷ bytes) later))
     (subst (λ ls. EndsFrom held number ls [] (Err (Refused number FailedAllocation))) (sym first.2)
     (line_fails held number first.0 first.1 [] (Refused number FailedAllocation) (no_memory refl))))
+
+-- ---- a first line, and a stretch after it
+
+-- the last bytes are those after the front
+pub last_bytes : (front rest : List ℕ) → drop (length (front ++ rest) - length rest) (front ++ rest) ≡ rest
+last_bytes front rest =
+    let count : length (front ++ rest) - length rest ≡ length front = omega (arith, length-append front rest) in
+    ap (λ n. drop n (front ++ rest)) count ∙ drop-append_seam front rest
+
+-- so are those of a slice of the same bytes, which ends where they end
+pub slice_end : (left : ℕ) (shown bytes : List ℕ) → shown ≡ bytes → take (length shown - (length shown - left)) (drop (length shown - left) shown) ≡ drop (length bytes - left) bytes
+slice_end left shown bytes is =
+    take_all _ (drop (length shown - left) shown) (omega (arith, length-drop (length shown - left) shown)) ∙ ap (λ bs. drop (length bs - left) bs) is
+
+-- nothing is held but these bytes
+pub held_last : (begun held slice bytes : List ℕ) → held ≡ begun ++ slice → begun ≡ [] → slice ≡ bytes → held ≡ bytes
+held_last begun held slice bytes is none same = is ∙ ap (λ bs. bs ++ slice) none ∙ same
+
+-- the front goes on by a line and its line feed
+pub front_more : (bytes front lines line rest : List ℕ) → bytes ≡ front ++ lines → lines ≡ line ++ 10 ∷ rest → bytes ≡ (front ++ (line ++ 10 ∷ [])) ++ rest
+front_more bytes front lines line rest is cut =
+    is ∙ ap (λ bs. front ++ bs) (cut ∙ sym (append_assoc line (10 ∷ []) rest)) ∙ sym (append_assoc front (line ++ 10 ∷ []) rest)
+
+-- the first line is the held bytes and the bytes up to the first line feed
+pub held_bytes : (begun line rest bytes first : List ℕ) → first ≡ begun ++ line → bytes ≡ line ++ 10 ∷ rest → first ++ 10 ∷ rest ≡ begun ++ bytes
+held_bytes begun line rest bytes first is cut = ap (λ bs. bs ++ 10 ∷ rest) is ∙ append_assoc begun line (10 ∷ rest) ∙ ap (λ bs. begun ++ bs) (sym cut)
+
+-- its answer is written
+pub leads_first : (before after : Held) (number : ℕ) (line rest reply : List ℕ) → NoFeed line → 0 < number → (after_line before number line ≡ Ok after) × (reply ≡ line_report before line) → LeadsTo before number (line ++ 10 ∷ rest) after (number + 1) rest reply
+leads_first before after number line rest reply none counted good = leads_line before number [] (line ++ 10 ∷ rest) line rest tt (none, refl) after reply counted good
+
+-- or it fails
+pub fails_first : (before : Held) (number : ℕ) (line rest reply : List ℕ) (fault : RunFault) → NoFeed line → LineFails before number line reply fault → FailsWith before number (line ++ 10 ∷ rest) reply fault
+fails_first before number line rest reply fault none fails = fails_line before number [] (line ++ 10 ∷ rest) line rest tt (none, refl) reply fault fails

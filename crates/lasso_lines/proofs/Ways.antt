@@ -19,6 +19,7 @@ use Rattle.lasso_lines.specs.Answer.{WritesAll, LineFails, faulty, no_memory, no
 use Rattle.lasso_lines.specs.declared.fault.RunFault.{RunFault}
 use Rattle.lasso_lines.specs.declared.fault.RunFault.TheVariants.{Refused, NotText, Usage, ReadFailed, WriteFailed}
 use Rattle.lasso_lines.specs.Stretch.{LeadsTo, FailsWith}
+use Rattle.lasso_input.proofs.FirstLines.{lines_cut}
 use Rattle.lasso_lines.proofs.Lines.{lines_last}
 
 -- after a good line
@@ -143,21 +144,24 @@ counts_end held number (Ok x) part told = (refl, told)
 counts_end held number (Err fault) part w = subst (λ f. EndsWithFault held number [] part f) (sym w.0) w.1
 
 -- a last line, and then the counts
-pub last_then : (held after : Held) (number : ℕ) (line : List ℕ) (result : Result (Unit {0}) RunFault) (p q : List ℕ) → 0 < length line → (after_line held number line ≡ Ok after) × (p ≡ line_report held line) → WritesAll (last_report after) result q → EndsFrom held number (last_lines line) (p ++ q) result
-last_then held after number [] result p q some answered w = absurd (omega arith)
-last_then held after number (b ∷ line) (Ok x) p q some answered w =
-    subst (λ bs. EndsFrom held number ((b ∷ line) ∷ []) (bs ++ q) (Ok x)) (sym answered.1) (fault_good held after number (b ∷ line) [] answered.0, told_after held after number (b ∷ line) [] answered.0 q w)
-last_then held after number (b ∷ line) (Err fault) p q some answered w =
-    let begun = begins_after held after number (b ∷ line) [] answered.0 q w.1 in
-    subst (λ bs. EndsFrom held number ((b ∷ line) ∷ []) (bs ++ q) (Err fault)) (sym answered.1) (subst (λ f. EndsWithFault held number ((b ∷ line) ∷ []) (line_report held (b ∷ line) ++ q) f) (sym w.0) begun)
-
-pub last_fails : (held : Held) (number : ℕ) (line : List ℕ) (part : List ℕ) (fault : RunFault) → 0 < length line → LineFails held number line part fault → EndsFrom held number (last_lines line) part (Err fault)
-last_fails held number [] part fault some fails = absurd (omega arith)
-last_fails held number (b ∷ line) part fault some fails = line_fails held number (b ∷ line) [] part fault fails
-
 pub no_last : (held : Held) (number : ℕ) (line : List ℕ) (part : List ℕ) (result : Result (Unit {0}) RunFault) → length line ≡ 0 → WritesAll (last_report held) result part → EndsFrom held number (last_lines line) part result
 no_last held number [] part result none w = counts_end held number result part w
 no_last held number (b ∷ line) part result none w = absurd (omega arith)
+
+-- bytes without a line feed are one line, once they end in one
+only_line : (line : List ℕ) → NoFeed line → 0 < length line → lines_of ((line ++ 10 ∷ []) ++ []) ≡ last_lines line
+only_line [] none some = absurd (omega (arith, some))
+only_line (b ∷ line) none some = ap lines_of (append-nil ((b ∷ line) ++ 10 ∷ [])) ∙ lines_cut (b ∷ line) [] none
+
+-- the last line fails
+pub last_fails : (held : Held) (number : ℕ) (line part : List ℕ) (fault : RunFault) → NoFeed line → 0 < length line → FailsWith held number (line ++ 10 ∷ []) part fault → EndsFrom held number (last_lines line) part (Err fault)
+last_fails held number line part fault none some fails = subst (λ ls. EndsFrom held number ls part (Err fault)) (only_line line none some) (fails [])
+
+-- it is answered, nothing is left, and then come the counts
+pub last_then : (held after : Held) (number next : ℕ) (line left part more : List ℕ) (result : Result (Unit {0}) RunFault) → NoFeed line → 0 < length line → length left ≡ 0 → LeadsTo held number (line ++ 10 ∷ []) after next left part → WritesAll (last_report after) result more → EndsFrom held number (last_lines line) (part ++ more) result
+last_then held after number next line [] part more result none some end leads w =
+    subst (λ ls. EndsFrom held number ls (part ++ more) result) (only_line line none some) (leads [] more result (counts_end after next result more w))
+last_then held after number next line (b ∷ left) part more result none some end leads w = absurd (omega (arith, end))
 
 drop_front : (front back : List ℕ) → drop (length front) (front ++ back) ≡ back
 drop_front [] back = refl

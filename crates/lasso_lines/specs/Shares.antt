@@ -1,5 +1,6 @@
 -- The lines of each worker, and the positions of their texts. A worker is a thread that interns its share of
--- the lines: of n workers, worker w has the lines w, w + n, w + 2n and so on, counted from 0.
+-- the lines: of n workers, worker w has the lines w, w + n, w + 2n and so on, counted from 0. It enters a
+-- gate before each line, by which tests see which worker is where and hold it there.
 use Rattle.std.specs.Prelude.{ℕ, zero, suc, ◌≡◌, ◌⊎◌, ◌+◌, ◌*◌, ◌<◌, ◌≤◌, ◌++◌, ◌∷◌, List, [], length, slice_index_or, Contains, Option, Some, None, Result, Err, MatchResult, Vec}
 use Rattle.lasso_parts.specs.Texts.{Text}
 use Rattle.lasso_parts.specs.declared.util.LassoErrorKind.{LassoErrorKind}

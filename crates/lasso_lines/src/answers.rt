@@ -20,6 +20,7 @@ pub(crate) type LineRodeo = Rodeo<Spur, FixedState, Global>;
 // Interns the line and writes its answer: the position of its text, a space, the line and a line feed. It is
 // the next text of `batch`. `number` is the line's, for the fault. The interner's first bucket must have 4096
 // bytes.
+#[inline(always)]
 pub(crate) fn answer_line<O: ByteWriter>(
     rodeo: &mut LineRodeo,
     line: &Line<'_>,
@@ -45,6 +46,7 @@ pub(crate) fn answer_line<O: ByteWriter>(
 }
 
 // Writes the position, a space, the line and a line feed.
+#[inline(always)]
 fn write_answer<O: ByteWriter>(writer: &mut O, position: usize, line: &[u8]) -> Result<(), RunFault>
     ensures failures { O.failures writer.new ≡ O.failures writer.old + failed_writes result }
     ensures delivered { OnlyGrows (O.delivered writer.old) (O.delivered writer.new) }

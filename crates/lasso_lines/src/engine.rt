@@ -1,15 +1,16 @@
 //! The engine: reads bytes and writes the report of their lines.
-ghost use Rattle.std.specs.Prelude.{◌≡◌, ℕ, ◌+◌, List, [], Some, Err, OnOk, IfErr};
+ghost use Rattle.std.specs.Prelude.{◌≡◌, ℕ, ◌+◌, ◌<◌, List, [], Some, Err, OnOk, IfErr};
 ghost use Rattle.lasso_lines.specs.Stream.{Grows, OnlyGrows, Stays, Ended, written};
 ghost use Rattle.lasso_lines.specs.Report.{Ends, EndsFrom, holding, first_bytes};
 ghost use Rattle.lasso_lines.specs.Answer.{IsStreamFault, IsAnswerFault, last_lines, failed_reads, failed_writes};
+ghost use Rattle.lasso_input.specs.Lines.{NoFeed};
 ghost use Rattle.lasso_lines.specs.declared.fault.RunFault.TheVariants.{Usage, ReadFailed, WriteFailed};
 
-use crate::answers::{LineRodeo, answer_counts, answer_line};
+use crate::answers::{LineRodeo, answer_counts};
 use crate::fault::RunFault;
 use crate::stream::{ByteReader, ByteWriter};
-use crate::stretches::answer_stretch;
-use lasso_input::Line;
+use crate::stretches::{answer_lines, answer_stretch};
+use lasso_input::Stretch;
 use lasso_parts::util::{Capacity, MemoryLimits};
 use lasso_single::batch::Batch;
 use lasso_single::rodeo::Rodeo;
@@ -81,7 +82,7 @@ fn answer_input<R: AllocGlobal + Wait, I: ByteReader, O: ByteWriter>(
         reader.consume(count);
         ask_for_more(reader, writer)?;
         if reader.buffer().is_empty() {
-            return answer_end(&mut rodeo, &begun, number, writer);
+            return answer_end(rt, &mut rodeo, &mut batch, &begun, number, writer);
         }
     }
     unreachable!()
@@ -109,13 +110,17 @@ fn ask_for_more<I: ByteReader, O: ByteWriter>(
 }
 
 // Writes the answer to the bytes after the last line feed, if there are any, and then the counts.
-fn answer_end<O: ByteWriter>(
+fn answer_end<R: Wait, O: ByteWriter>(
+    rt: &R,
     rodeo: &mut LineRodeo,
+    batch: &mut Batch,
     line: &[u8],
     number: u64,
     writer: &mut O,
 ) -> Result<(), RunFault>
-    requires { rodeo.old.first ≡ first_bytes }
+    requires no_feed { NoFeed line.now }
+    requires counted { 0 < number }
+    requires first { rodeo.old.first ≡ first_bytes }
     ensures failures { O.failures writer.new ≡ O.failures writer.old + failed_writes result }
     ensures delivered { OnlyGrows (O.delivered writer.old) (O.delivered writer.new) }
     ensures answers { Grows (written (O.delivered writer.old) (O.pending writer.old)) (written (O.delivered writer.new) (O.pending writer.new))
@@ -125,13 +130,7 @@ fn answer_end<O: ByteWriter>(
     if line.is_empty() {
         return answer_counts(rodeo, writer);
     }
-    answer_line(
-        rodeo,
-        &Line::untested(line),
-        &mut Batch::new(),
-        number,
-        writer,
-    )?;
+    answer_lines(rt, rodeo, batch, line, Stretch::new(&[]), number, writer)?;
     answer_counts(rodeo, writer)
 }
 

@@ -14,7 +14,7 @@ use crate::arguments::{Settings, arguments};
 use crate::engine::run;
 use crate::fault::RunFault;
 use crate::stream::{ByteReader, ByteWriter};
-use crate::workers::run_workers;
+use crate::workers::{OpenGate, run_workers};
 use lasso_parts::util::MemoryLimits;
 use std::sync::Wait;
 use std::thread::Threads;
@@ -59,7 +59,14 @@ pub fn run_words<R: AllocGlobal + Threads + Wait + Sync, I: ByteReader, O: ByteW
                 limit,
                 workers: Some(workers),
             },
-        ) => run_workers(rt, reader, writer, MemoryLimits::new(limit), workers),
+        ) => run_workers(
+            rt,
+            reader,
+            writer,
+            MemoryLimits::new(limit),
+            workers,
+            &OpenGate,
+        ),
         Err(fault) => Err(fault),
     }
 }

@@ -11,6 +11,7 @@ ghost use Rattle.lasso_lines.specs.declared.fault.RunFault.TheVariants.{Refused}
 ghost use Rattle.lasso_parts.specs.declared.util.LassoErrorKind.TheVariants.{FailedAllocation};
 
 use crate::fault::RunFault;
+use crate::workers::Gate;
 use lasso_log::log::{Pass, Snapshot};
 use lasso_parts::keys::Spur;
 use lasso_parts::util::{LassoError, LassoErrorKind};
@@ -32,12 +33,13 @@ struct Share {
 // Interns the lines with the workers. Returns the positions of the lines' texts, worker by worker, in the
 // list that the pass has seen at the end. If lines were refused, returns the error of the lowest one; all
 // lines before it are in that list. Out of memory at no line is reported as line 0.
-pub(crate) fn share_out<R: AllocGlobal + Threads + Wait + Sync>(
+pub(crate) fn share_out<R: AllocGlobal + Threads + Wait + Sync, G: Gate>(
     rt: &R,
     rodeo: &SpurThreadedRodeo,
     pass: &mut Pass<Spur>,
     lines: &[&str],
     workers: usize,
+    gate: &G,
 ) -> Result<Vec<u32>, RunFault>
     requires some { 0 < workers }
     requires of { pass.old.of ≡ rodeo.now }
@@ -50,7 +52,7 @@ pub(crate) fn share_out<R: AllocGlobal + Threads + Wait + Sync>(
     let work = move |worker: usize| -> Share
         requires { 0 < workers }
         ensures { IsShareOf rodeo.entry.now (map (λ t. t.now) lines.entry.now) worker workers result.known result.codes }
-    { intern_share(rt, rodeo, lines, worker, workers) };
+    { intern_share(rt, rodeo, lines, worker, workers, gate) };
     let Ok(shares) = map_indices(rt, rt.alloc(), workers, &work) else {
         return Err(RunFault::no_memory(0));
     };
@@ -100,18 +102,19 @@ fn lower(lowest: Option<NumberedError>, other: &NumberedError) -> NumberedError
 }
 
 // Interns the worker's lines with a new pass.
-fn intern_share<R: AllocGlobal + Wait>(
+fn intern_share<R: AllocGlobal + Wait, G: Gate>(
     rt: &R,
     rodeo: &SpurThreadedRodeo,
     lines: &[&str],
     worker: usize,
     workers: usize,
+    gate: &G,
 ) -> Share
     requires { 0 < workers }
     ensures { IsShareOf rodeo.now (map (λ t. t.now) lines.now) worker workers result.known result.codes }
 {
     let mut pass = rodeo.pass();
-    let codes = intern_by(rt, rodeo, &mut pass, lines, worker, workers);
+    let codes = intern_by(rt, rodeo, &mut pass, lines, worker, workers, gate);
     Share {
         known: pass.snapshot(),
         codes,
@@ -120,13 +123,14 @@ fn intern_share<R: AllocGlobal + Wait>(
 
 // Interns the worker's lines, at the positions `worker`, `worker + workers`, `worker + 2 * workers` and so
 // on. Returns the positions of their texts. Stops at the first refused line and returns its error.
-fn intern_by<R: AllocGlobal + Wait>(
+fn intern_by<R: AllocGlobal + Wait, G: Gate>(
     rt: &R,
     rodeo: &SpurThreadedRodeo,
     pass: &mut Pass<Spur>,
     lines: &[&str],
     worker: usize,
     workers: usize,
+    gate: &G,
 ) -> Result<Vec<u32>, NumberedError>
     requires some { 0 < workers }
     requires of { pass.old.of ≡ rodeo.now }
@@ -137,6 +141,7 @@ fn intern_by<R: AllocGlobal + Wait>(
     let mut codes = Vec::new(rt.alloc());
     let mut at = worker;
     while at < lines.len() {
+        gate.enter(worker);
         let number = (at as u64).saturating_add(1);
         let line = lines[at];
         intern_line(rt, rodeo, pass, line, number, &mut codes)?;

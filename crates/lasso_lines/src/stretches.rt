@@ -1,8 +1,8 @@
 //! Writes the answers to the lines of a stretch: the bytes in a reader's buffer at one time.
-ghost use Rattle.std.specs.Prelude.{◌≡◌, ℕ, ◌+◌, ◌<◌, ◌++◌, [], OnOk, IfOk, IfErr, MatchResult, length};
+ghost use Rattle.std.specs.Prelude.{◌≡◌, ℕ, ◌+◌, ◌-◌, drop, ◌<◌, ◌≤◌, ◌∷◌, ◌++◌, OnOk, IfOk, IfErr, MatchResult, length};
 ghost use Rattle.lasso_lines.specs.Stream.{Grows, OnlyGrows, written};
 ghost use Rattle.lasso_lines.specs.Report.{holding, first_bytes};
-ghost use Rattle.lasso_lines.specs.Answer.{AnswersLine, IsAnswerFault, failed_writes};
+ghost use Rattle.lasso_lines.specs.Answer.{IsAnswerFault, failed_writes};
 ghost use Rattle.lasso_input.specs.Lines.{NoFeed};
 ghost use Rattle.lasso_lines.specs.Stretch.{LeadsTo, FailsWith};
 ghost use Rattle.lasso_lines.specs.declared.fault.RunFault.TheVariants.{Refused};
@@ -42,32 +42,31 @@ pub(crate) fn answer_stretch<R: Wait, O: ByteWriter>(
     ensures faults { IfErr result IsAnswerFault }
 {
     let mut lines = Stretch::new(buffer);
-    if begun.is_empty() {
-        let (next, last) = answer_lines(rt, rodeo, batch, lines, number, writer)?;
-        hold(begun, last, next)?;
-        return Ok(next);
-    }
     let Some(end) = lines.next_ended() else {
         hold(begun, buffer, number)?;
         return Ok(number);
     };
-    answer_held(rodeo, batch, begun, end.bytes(), number, writer)?;
-    let second = next_number(rt, number);
-    let (next, last) = answer_lines(rt, rodeo, batch, lines, second, writer)?;
-    hold(begun, last, next)?;
+    hold(begun, end.bytes(), number)?;
+    let rest = lines.rest();
+    let (next, left) = answer_lines(rt, rodeo, batch, begun, lines, number, writer)?;
+    begun.clear();
+    hold(begun, &rest[rest.len() - left..], next)?;
     Ok(next)
 }
 
-// Writes the answers to the lines that end in the stretch, which begins with a line of this number. Returns the
-// number of the line after them, and the bytes that the stretch has of it.
-fn answer_lines<'a, R: Wait, O: ByteWriter>(
+// Writes the answers to the first line, which has this number, and to the lines that end in the stretch. Returns
+// the number of the line after them, and how many bytes the stretch has of it. Every line of a run is answered by
+// this loop, so that all that an answer takes is inlined into it.
+pub(crate) fn answer_lines<'a, R: Wait, O: ByteWriter>(
     rt: &R,
     rodeo: &mut LineRodeo,
     batch: &mut Batch,
+    first: &'a [u8],
     stretch: Stretch<'a>,
     number: u64,
     writer: &mut O,
-) -> Result<(u64, &'a [u8]), RunFault>
+) -> Result<(u64, usize), RunFault>
+    requires line { NoFeed first.now }
     requires counted { 0 < number }
     requires first { rodeo.old.first ≡ first_bytes }
     ensures first { rodeo.new.first ≡ first_bytes }
@@ -75,21 +74,25 @@ fn answer_lines<'a, R: Wait, O: ByteWriter>(
     ensures delivered { OnlyGrows (O.delivered writer.old) (O.delivered writer.new) }
     ensures answers { Grows (written (O.delivered writer.old) (O.pending writer.old)) (written (O.delivered writer.new) (O.pending writer.new))
         (λ part. MatchResult result
-        (λ r. LeadsTo (holding rodeo.old.texts rodeo.old.account) number stretch.entry (holding rodeo.new.texts rodeo.new.account) r.0 r.1.now part)
-        (λ fault. FailsWith (holding rodeo.old.texts rodeo.old.account) number stretch.entry part fault)) }
-    ensures no_feed { IfOk result (λ r. NoFeed r.1.now) }
+        (λ r. LeadsTo (holding rodeo.old.texts rodeo.old.account) number (first.now ++ 10 ∷ stretch.entry) (holding rodeo.new.texts rodeo.new.account) r.0 (drop (length stretch.entry - r.1) stretch.entry) part)
+        (λ fault. FailsWith (holding rodeo.old.texts rodeo.old.account) number (first.now ++ 10 ∷ stretch.entry) part fault)) }
+    ensures no_feed { IfOk result (λ r. NoFeed (drop (length stretch.entry - r.1) stretch.entry)) }
+    ensures left { IfOk result (λ r. r.1 ≤ length stretch.entry) }
     ensures counted { IfOk result (λ r. 0 < r.0) }
     ensures faults { IfErr result IsAnswerFault }
 {
+    let mut line = Line::untested(first);
     let mut lines = stretch;
     let mut number = number;
-    lines.look_ahead(rodeo, batch);
-    while let Some(line) = lines.next_ended() {
+    'lines: loop {
         answer_line(rodeo, &line, batch, number, writer)?;
         number = next_number(rt, number);
         lines.look_ahead(rodeo, batch);
+        let Some(next) = lines.next_ended() else {
+            return Ok((number, lines.rest().len()));
+        };
+        line = next;
     }
-    Ok((number, lines.rest()))
 }
 
 // The number of the next line. Loops forever at the greatest number, which no run reaches.
@@ -112,29 +115,5 @@ pub(crate) fn hold(begun: &mut Vec<u8>, bytes: &[u8], number: u64) -> Result<(),
     if begun.extend_from_slice(bytes).is_err() {
         return Err(RunFault::no_memory(number));
     }
-    Ok(())
-}
-
-// Writes the answer to the line made of `begun` and `end`, and then empties `begun`.
-fn answer_held<O: ByteWriter>(
-    rodeo: &mut LineRodeo,
-    batch: &mut Batch,
-    begun: &mut Vec<u8>,
-    end: &[u8],
-    number: u64,
-    writer: &mut O,
-) -> Result<(), RunFault>
-    requires { rodeo.old.first ≡ first_bytes }
-    ensures first { rodeo.new.first ≡ first_bytes }
-    ensures failures { O.failures writer.new ≡ O.failures writer.old + failed_writes result }
-    ensures delivered { OnlyGrows (O.delivered writer.old) (O.delivered writer.new) }
-    ensures answers { Grows (written (O.delivered writer.old) (O.pending writer.old)) (written (O.delivered writer.new) (O.pending writer.new))
-        (λ part. AnswersLine (holding rodeo.old.texts rodeo.old.account) number (begun.old.items ++ end.now) result (holding rodeo.new.texts rodeo.new.account) part) }
-    ensures faults { IfErr result IsAnswerFault }
-    ensures emptied { OnOk result (begun.new.items ≡ []) }
-{
-    hold(begun, end, number)?;
-    answer_line(rodeo, &Line::untested(begun), batch, number, writer)?;
-    begun.clear();
     Ok(())
 }

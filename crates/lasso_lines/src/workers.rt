@@ -27,21 +27,37 @@ use std::alloc::Global;
 use std::sync::Wait;
 use std::thread::Threads;
 
+/// What each worker calls before it interns a line.
+pub trait Gate: Sync {
+    /// Returns when the worker of this number may go on. Workers are numbered from 0.
+    fn enter(&self, worker: usize);
+}
+
+/// A gate that returns at once.
+#[derive(Clone, Copy, Debug)]
+pub struct OpenGate;
+
+impl Gate for OpenGate {
+    fn enter(&self, _worker: usize) {}
+}
+
 /// Reads the whole input, interns its lines with `workers` threads in one interner, and writes the distinct
 /// lines in the order of their bytes, each followed by a line feed. Line i, from 0, goes to worker i modulo
 /// `workers`; 0 workers count as one. One of the threads is the caller's. If a thread can't be started, the
-/// thread that would have started it does its work. All are joined before the lines are written.
+/// thread that would have started it does its work. Each worker calls the gate before each line. All are
+/// joined before the lines are written.
 ///
 /// The first line that is not UTF-8 ends the run before a worker starts. Each worker stops at its first
 /// refused line, and the fault names the lowest of them. Out of memory at no line is reported as line 0. In
 /// these cases, and after a failed read, nothing is written. After a failed write, what was written is a
 /// beginning of the output. Never retries a failed read or write.
-pub fn run_workers<R: AllocGlobal + Threads + Wait + Sync, I: ByteReader, O: ByteWriter>(
+pub fn run_workers<R: AllocGlobal + Threads + Wait + Sync, I: ByteReader, O: ByteWriter, G: Gate>(
     rt: &R,
     reader: &mut I,
     writer: &mut O,
     limits: MemoryLimits,
     workers: usize,
+    gate: &G,
 ) -> Result<(), RunFault>
     ensures whole { OnOk result (Ended (I.left reader.old) (I.left reader.new)) }
     ensures reads { I.failures reader.new ≡ I.failures reader.old + failed_reads result }
@@ -64,7 +80,7 @@ pub fn run_workers<R: AllocGlobal + Threads + Wait + Sync, I: ByteReader, O: Byt
     read_all(rt, reader, &mut input)?;
     let rodeo = new_interner(rt.alloc(), limits)?;
     let mut pass = rodeo.pass();
-    let codes = intern_lines(rt, &rodeo, &mut pass, &input, workers)?;
+    let codes = intern_lines(rt, &rodeo, &mut pass, &input, workers, gate)?;
     drop(input);
     write_in_order(rt, &rodeo, &mut pass, &codes, workers, writer)
 }
@@ -82,12 +98,13 @@ fn new_interner(alloc: Global, limits: MemoryLimits) -> Result<SpurThreadedRodeo
 
 // Cuts the input into lines, and interns them with the workers. Returns the positions of the lines' texts,
 // worker by worker, in the list that the pass has seen at the end.
-fn intern_lines<R: AllocGlobal + Threads + Wait + Sync>(
+fn intern_lines<R: AllocGlobal + Threads + Wait + Sync, G: Gate>(
     rt: &R,
     rodeo: &SpurThreadedRodeo,
     pass: &mut Pass<Spur>,
     input: &[u8],
     workers: usize,
+    gate: &G,
 ) -> Result<Vec<u32>, RunFault>
     requires some { 0 < workers }
     requires of { pass.old.of ≡ rodeo.now }
@@ -101,5 +118,5 @@ fn intern_lines<R: AllocGlobal + Threads + Wait + Sync>(
 {
     pass.prove_legal();
     let lines = cut(rt, input)?;
-    share_out(rt, rodeo, pass, &lines, workers)
+    share_out(rt, rodeo, pass, &lines, workers, gate)
 }
