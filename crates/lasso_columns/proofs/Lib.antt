@@ -1,4 +1,13 @@
+pub mod RowLists
+pub mod Beside
+pub mod EncodedRows
+pub mod PlacedBlocks
+pub mod PlacedEntries
+pub mod StreamLines
+pub mod PutBlocks
+pub mod Streamed
 pub mod EncodedLines
+pub mod Decoded
 pub mod Shared
 pub mod PartLists
 pub mod Rewritten

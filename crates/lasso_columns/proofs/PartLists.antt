@@ -52,7 +52,7 @@ found_interned old new text key interns =
 all_at : {X : Type 0} (P : X → Type 0) (xs : List X) (n : ℕ) (x : X) → All P xs → slice_get xs n ≡ Some x → P x
 all_at P xs n x all e = subst P (get_or_from_slice_get xs n x x e) (all n x (slice_get_within xs n x e))
 
-there_at : (o : Option ℕ) → is_some o ≡ true → (n : ℕ) × (o ≡ Some n)
+pub there_at : (o : Option ℕ) → is_some o ≡ true → (n : ℕ) × (o ≡ Some n)
 there_at None e = absurd (cc)
 there_at (Some n) e = (n, refl)
 
@@ -107,7 +107,7 @@ Stops bound [] n = n ≡ 0
 Stops bound (c ∷ cs) zero = bound ≤ c
 Stops bound (c ∷ cs) (suc n) = (c < bound) × Stops bound cs n
 
-past_end : {X : Type 0} (xs : List X) (n : ℕ) → slice_get xs n ≡ None → length xs ≤ n
+pub past_end : {X : Type 0} (xs : List X) (n : ℕ) → slice_get xs n ≡ None → length xs ≤ n
 past_end [] n e = omega arith
 past_end (x ∷ xs) zero e = cc
 past_end (x ∷ xs) (suc n) e = let rest : length xs ≤ n = past_end xs n e in omega (arith, rest)
@@ -120,7 +120,7 @@ stops_at merged (c ∷ cs) (r ∷ rs) is next =
     let here : slice_get merged c ≡ Some r = cc in
     (slice_get_within merged c r here, stops_at merged cs rs (cc) next)
 
-position_longer : (list more : List Text) (text : Text) (n : ℕ) → position_of list text ≡ Some n → position_of (list ++ more) text ≡ Some n
+pub position_longer : (list more : List Text) (text : Text) (n : ℕ) → position_of list text ≡ Some n → position_of (list ++ more) text ≡ Some n
 position_longer list [] text n e = subst (λ (ts : List Text). position_of ts text ≡ Some n) (sym (append-nil list)) e
 position_longer list (last ∷ more) text n e =
     subst (λ (ts : List Text). position_of ts text ≡ Some n) (append_assoc list (last ∷ []) more) (position_longer (list ++ last ∷ []) more text n (position_stays list last text n e))
@@ -130,7 +130,7 @@ position_first list more text e =
     subst (λ (ts : List Text). position_of ts text ≡ Some (length list)) (append_assoc list (text ∷ []) more) (position_longer (list ++ text ∷ []) more text (length list) (position_last list text e))
 
 -- the first m distinct texts are those of the first n texts, and the next distinct text is the next text
-abbrev IsStop : List Text → List Text → ℕ → ℕ → Type 0
+abbrev pub IsStop : List Text → List Text → ℕ → ℕ → Type 0
 IsStop list texts m n =
     (take m (new_texts list texts) ≡ new_texts list (take n texts)) × ((text : Text) → slice_get (new_texts list texts) m ≡ Some text → slice_get texts n ≡ Some text)
 
@@ -294,7 +294,7 @@ pub if_err_then : {T E : Type 0} (P Q : E → Type 0) (r : Result T E) → IfErr
 if_err_then P Q (Ok x) holds then = tt
 if_err_then P Q (Err e) holds then = then e holds
 
-extend_append : (old mid new : InternerView) (front back : List Text) → extend spur_at old front accepted mid → extend spur_at mid back accepted new → extend spur_at old (front ++ back) accepted new
+pub extend_append : (old mid new : InternerView) (front back : List Text) → extend spur_at old front accepted mid → extend spur_at mid back accepted new → extend spur_at old (front ++ back) accepted new
 extend_append old mid new [] back h h' = subst (λ (i : InternerView). extend spur_at i back accepted new) h.1 h'
 extend_append old mid new (text ∷ front) back h h' =
     let first = first_of h.1 mid front h.0 h.3 in

@@ -6,6 +6,7 @@
 use Rattle.std.proofs.Common.{ℕ, ◌≡◌, ◌+◌, ◌<◌, ◌≤◌, ◌⊎◌, inl, inr, List, [], ◌∷◌, ◌++◌, length, map, get_or, take, drop, slice_get, Option, Some, None, Ok, Err, IfSome, IsSome, IsSomeAnd, refl, sym, ap, subst, ◌∙◌, arith, append_assoc, append-nil, length-append}
 use Rattle.std.specs.List.{slice_range}
 use Rattle.std.specs.Option.{option_or}
+use Rattle.std.proofs.Math.ListN.{drop_of_length-le}
 use Rattle.std.proofs.Math.Seq.{take-append_seam}
 use Rattle.std.proofs.lemmas.Bool.Decides.{nat_tests}
 use Rattle.std.proofs.lemmas.List.{length_push, length-map, get_or-map, drop_more}
@@ -173,6 +174,24 @@ module _ {K O : Type 0} (key_at : ℕ → Option K) (number : O → ℕ) (most :
         told key_at most bytes offsets old at from (to ∷ drop (at + 1) (map number rest)) new (still key_at most bytes offsets old at from to (drop (at + 1) (map number rest)) mid new here error refusal),
         ends key_at most bytes offsets old at from to (drop (at + 1) (map number rest)) mid new here error refusal,
       )
+
+-- ---- what the loop leaves when no offset is left
+
+module _ {K O : Type 0} (key_at : ℕ → Option K) (number : O → ℕ) (most : ℕ) (bytes offsets : List ℕ) (old : InternerView) (rest : List O) (at from : ℕ) (new : InternerView) (r : Reading key_at most bytes offsets old at from (drop at (map number rest)) new) (all : length rest ≤ at) where
+  none_left : drop at (map number rest) ≡ []
+  none_left = drop_of_length-le (map number rest) (omega (arith, all, length-map rest number))
+
+  finished : Reading key_at most bytes offsets old at from [] new
+  finished = subst (λ (os : List ℕ). Reading key_at most bytes offsets old at from os new) none_left r
+
+  pub all_told : Told key_at most bytes offsets old new
+  all_told = told key_at most bytes offsets old at from [] new finished
+
+  pub all_texts : new.texts ≡ old.texts ++ layout_texts bytes offsets
+  all_texts = finished.texts ∙ ap (λ (ts : List Text). old.texts ++ ts) (sym (finished.split ∙ append-nil finished.done))
+
+  pub no_fault : layout_fault most bytes offsets ≡ None
+  no_fault = finished.first
 
 -- a new interner that was not filled
 pub not_filled : {K : Type 0} (key_at : ℕ → Option K) (most : ℕ) (bytes offsets : List ℕ) (made old new : InternerView) (error : ReadError) → old ≡ made → old.texts ≡ [] → extend key_at old (take (appended old.texts new.texts) (layout_texts bytes offsets)) accepted new → new.texts ≡ old.texts ++ take (appended old.texts new.texts) (layout_texts bytes offsets) → IsFaultAfter key_at most bytes offsets (appended old.texts new.texts) new error → IsRefusedReading key_at most bytes offsets made error

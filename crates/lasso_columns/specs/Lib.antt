@@ -2,6 +2,9 @@ pub mod Merging
 pub mod Faults
 pub mod Sharing
 pub mod Parts
+pub mod Rows
+pub mod Blocks
+pub mod Streams
 pub mod Layout
 pub mod Dictionaries
 -- the definitions of codes and of lines, so that a caller's crate names `lasso_columns` alone

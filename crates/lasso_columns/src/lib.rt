@@ -5,6 +5,7 @@
 //! a search then takes time linear in their number.
 #![tactic(auto)]
 
+mod blocks;
 mod decoding;
 mod encoding;
 mod faults;
@@ -13,9 +14,14 @@ mod layout;
 mod merging;
 mod parts;
 mod reading;
+mod reading_blocks;
+mod rounds;
+mod rows;
 mod sharing;
+mod stream;
 mod writing;
 
+pub use blocks::{Block, encode_block, encode_blocks};
 pub use decoding::decode;
 pub use encoding::encode_lines;
 pub use faults::{DecodeError, LineError, ReadError, WriteError};
@@ -24,5 +30,8 @@ pub use layout::{Layout, Offset};
 pub use merging::merge;
 pub use parts::encode_in_parts;
 pub use reading::{append_dictionary, read_dictionary};
+pub use rounds::{put_block, put_blocks};
+pub use rows::{NULL, encode_rows, is_null};
 pub use sharing::{encode_shared, encode_shared_as};
+pub use stream::{Rounds, StreamError, encode_stream};
 pub use writing::{Dictionary, write_dictionary};

@@ -1,5 +1,6 @@
 //! Encodes texts to codes by several threads over one interner.
-ghost use Rattle.std.specs.Prelude.{◌≡◌, [], OnOk, OnErr, IfOk, IfErr, map};
+ghost use Rattle.std.specs.Prelude.{◌≡◌, ◌-◌, ◌++◌, [], OnOk, OnErr, IfOk, IfErr, map};
+ghost use Rattle.lasso_parts.specs.declared.util.LassoErrorKind.TheVariants.{FailedAllocation};
 ghost use Rattle.lasso_log.specs.History.{History, IsLegal};
 ghost use Rattle.lasso_log.specs.Notes.{Since};
 ghost use Rattle.lasso_log.specs.Views.{PassView, InternerId, IsSamePass, list_of, seen};
@@ -12,6 +13,9 @@ use lasso::{LassoError, LassoResult, Spur, ThreadedRodeo};
 use std::hash::BuildHasher;
 use std::sync::Wait;
 use std::thread::{Threads, map_chunks};
+
+// How many texts a worker interns by one call.
+const BATCH: usize = 1024;
 
 /// Interns the texts with up to `workers` threads, and appends their codes to `codes`, in the order of the
 /// texts. A code is the position that the text then has in the interner's list, and keeps. So equal texts
@@ -132,9 +136,22 @@ fn encode_by<R: AllocGlobal + Wait, S: BuildHasher + Drop>(
 {
     let mut codes = Vec::new(rt.alloc());
     codes.reserve(texts.len())?;
-    for text in texts {
-        let key = rodeo.try_get_or_intern_as(rt, pass, text)?;
-        codes.push(key.into_position())?;
+    let mut keys = Vec::new(rt.alloc());
+    for batch in texts.chunks(BATCH) {
+        keys.clear();
+        rodeo.try_get_or_intern_all_as(rt, pass, batch, &mut keys)?;
+        add_codes(&keys, &mut codes)?;
     }
     Ok(codes)
+}
+
+// Appends the position of each key.
+fn add_codes(keys: &[Spur], codes: &mut Vec<u32>) -> LassoResult<()>
+    ensures added { OnOk result (codes.new.items ≡ codes.old.items ++ map (λ k. k - 1) keys.now) }
+    ensures refused { IfErr result (λ error. error ≡ FailedAllocation) }
+{
+    for key in keys {
+        codes.push(key.into_position())?;
+    }
+    Ok(())
 }

@@ -171,14 +171,16 @@ fn decodes<R: AllocGlobal + Abort>(
     )
 }
 
-// Takes the steps on the interner that was just made. Then the codes have to decode to the texts.
+// Steps, and codes that then have to decode to these texts.
+type Column = (&'static [Step], &'static [u32], &'static [&'static str]);
+
+// Takes the steps on the interner that was just made, and decodes the codes.
 fn column<R: AllocGlobal + Abort>(
     rt: &R,
     made: Result<SpurRodeo, Fail>,
-    steps: &[Step],
-    codes: &[u32],
-    texts: &[&str],
+    column: Column,
 ) -> Result<(), Fail> {
+    let (steps, codes, texts) = column;
     let mut rodeo = made?;
     runs(rt, &mut rodeo, steps)?;
     decodes(rt, rodeo, codes, texts)
@@ -191,18 +193,16 @@ fn limited_interner(alloc: Global) -> Result<SpurRodeo, Fail> {
 
 #[test]
 fn texts_are_encoded_and_decoded(rt: HostRuntime) -> Result<(), Fail> {
-    static STEPS: [Step; 3] = [
-        Step::Encodes(&["red", "green", "red", ""]),
-        Step::Encodes(&["", "blue"]),
-        Step::Keeps(&[0, 1, 0, 2, 2, 3]),
-    ];
-    column(
-        &rt,
-        interner(rt.alloc(), &[]),
-        &STEPS,
+    static COLUMN: Column = (
+        &[
+            Step::Encodes(&["red", "green", "red", ""]),
+            Step::Encodes(&["", "blue"]),
+            Step::Keeps(&[0, 1, 0, 2, 2, 3]),
+        ],
         &[0, 1, 0, 2, 2, 3],
         &["red", "green", "red", "", "", "blue"],
-    )
+    );
+    column(&rt, interner(rt.alloc(), &[]), COLUMN)
 }
 
 // Decodes codes of which the third has no text.
@@ -228,90 +228,88 @@ fn a_code_without_a_text_is_told(rt: HostRuntime) -> Result<(), Fail> {
 
 #[test]
 fn a_refusal_in_mid_column_keeps_what_came_before(rt: HostRuntime) -> Result<(), Fail> {
-    static STEPS: [Step; 5] = [
-        Step::Refuses(&["first", "other", "first", "third", "first"]),
-        Step::Keeps(&[0, 1, 0]),
-        Step::Counts(2),
-        Step::Encodes(&["first"]),
-        Step::Keeps(&[0, 1, 0, 0]),
-    ];
-    column(
-        &rt,
-        limited_interner(rt.alloc()),
-        &STEPS,
+    static COLUMN: Column = (
+        &[
+            Step::Refuses(&["first", "other", "first", "third", "first"]),
+            Step::Keeps(&[0, 1, 0]),
+            Step::Counts(2),
+            Step::Encodes(&["first"]),
+            Step::Keeps(&[0, 1, 0, 0]),
+        ],
         &[0, 1],
         &["first", "other"],
-    )
+    );
+    column(&rt, limited_interner(rt.alloc()), COLUMN)
 }
 
 #[test]
 fn lines_are_cut_and_encoded(rt: HostRuntime) -> Result<(), Fail> {
-    static STEPS: [Step; 5] = [
-        Step::Lines(b"to\nbe\n\nto\r\nbe", Ended::Well),
-        Step::Keeps(&[0, 1, 2, 3, 1]),
-        Step::Lines(b"be\n", Ended::Well),
-        Step::Lines(b"", Ended::Well),
-        Step::Keeps(&[0, 1, 2, 3, 1, 1]),
-    ];
-    column(
-        &rt,
-        interner(rt.alloc(), &[]),
-        &STEPS,
+    static COLUMN: Column = (
+        &[
+            Step::Lines(b"to\nbe\n\nto\r\nbe", Ended::Well),
+            Step::Keeps(&[0, 1, 2, 3, 1]),
+            Step::Lines(b"be\n", Ended::Well),
+            Step::Lines(b"", Ended::Well),
+            Step::Keeps(&[0, 1, 2, 3, 1, 1]),
+        ],
         &[0, 1, 2, 3, 1, 1],
         &["to", "be", "", "to\r", "be", "be"],
-    )
+    );
+    column(&rt, interner(rt.alloc(), &[]), COLUMN)
 }
 
 #[test]
 fn a_faulty_line_is_told_by_its_number(rt: HostRuntime) -> Result<(), Fail> {
-    static STEPS: [Step; 5] = [
-        Step::Lines(b"first\nother\n\xff\nfirst\n", Ended::NotText(3)),
-        Step::Keeps(&[0, 1]),
-        Step::Lines(b"other\nthird", Ended::Refused(2)),
-        Step::Keeps(&[0, 1, 1]),
-        Step::Counts(2),
-    ];
-    column(
-        &rt,
-        limited_interner(rt.alloc()),
-        &STEPS,
+    static COLUMN: Column = (
+        &[
+            Step::Lines(b"first\nother\n\xff\nfirst\n", Ended::NotText(3)),
+            Step::Keeps(&[0, 1]),
+            Step::Lines(b"other\nthird", Ended::Refused(2)),
+            Step::Keeps(&[0, 1, 1]),
+            Step::Counts(2),
+        ],
         &[0, 1],
         &["first", "other"],
-    )
+    );
+    column(&rt, limited_interner(rt.alloc()), COLUMN)
 }
 
 #[test]
 fn two_dictionaries_are_merged(rt: HostRuntime) -> Result<(), Fail> {
-    static WHOLE: [Step; 2] = [
-        Step::Merges(&["blue", "green", "white"], Some(&[2, 1, 3])),
-        Step::Counts(4),
-    ];
-    static REFUSED: [Step; 2] = [
-        Step::Merges(&["first", "other", "third"], None),
-        Step::Counts(2),
-    ];
-    let into = interner(rt.alloc(), &["red", "green"]);
-    column(&rt, into, &WHOLE, &[2, 3], &["blue", "white"])?;
-    let into = limited_interner(rt.alloc());
-    column(&rt, into, &REFUSED, &[0, 1], &["first", "other"])
+    static WHOLE: Column = (
+        &[
+            Step::Merges(&["blue", "green", "white"], Some(&[2, 1, 3])),
+            Step::Counts(4),
+        ],
+        &[2, 3],
+        &["blue", "white"],
+    );
+    static REFUSED: Column = (
+        &[
+            Step::Merges(&["first", "other", "third"], None),
+            Step::Counts(2),
+        ],
+        &[0, 1],
+        &["first", "other"],
+    );
+    column(&rt, interner(rt.alloc(), &["red", "green"]), WHOLE)?;
+    column(&rt, limited_interner(rt.alloc()), REFUSED)
 }
 
 // The refused merges add no text: each is refused at the first text that `into` lacks.
 #[test]
 fn a_first_new_text_is_refused_by_the_limit(rt: HostRuntime) -> Result<(), Fail> {
-    static STEPS: [Step; 4] = [
-        Step::Merges(&["first", "other"], Some(&[0, 1])),
-        Step::Merges(&["third"], None),
-        Step::Merges(&["first", "third"], None),
-        Step::Counts(2),
-    ];
-    column(
-        &rt,
-        limited_interner(rt.alloc()),
-        &STEPS,
+    static COLUMN: Column = (
+        &[
+            Step::Merges(&["first", "other"], Some(&[0, 1])),
+            Step::Merges(&["third"], None),
+            Step::Merges(&["first", "third"], None),
+            Step::Counts(2),
+        ],
         &[0, 1],
         &["first", "other"],
-    )
+    );
+    column(&rt, limited_interner(rt.alloc()), COLUMN)
 }
 
 #[test]
@@ -320,19 +318,17 @@ fn long_columns_are_encoded(rt: HostRuntime) -> Result<(), Fail> {
     const LINES: [u8; 1000] = [b'\n'; 1000];
     const ZEROS: [u32; 1000] = [0; 1000];
     const ONES: [u32; 1000] = [1; 1000];
-    static STEPS: [Step; 4] = [
-        Step::Encodes(&TEXTS),
-        Step::Codes(&ZEROS),
-        Step::Lines(&LINES, Ended::Well),
-        Step::Codes(&ONES),
-    ];
-    column(
-        &rt,
-        interner(rt.alloc(), &[]),
-        &STEPS,
+    static COLUMN: Column = (
+        &[
+            Step::Encodes(&TEXTS),
+            Step::Codes(&ZEROS),
+            Step::Lines(&LINES, Ended::Well),
+            Step::Codes(&ONES),
+        ],
         &[1, 0],
         &["", "first"],
-    )
+    );
+    column(&rt, interner(rt.alloc(), &[]), COLUMN)
 }
 
 #[test]
@@ -341,13 +337,17 @@ fn long_dictionaries_are_merged(rt: HostRuntime) -> Result<(), Fail> {
         "a", "b", "c", "d", "e", "f", "g", "h", "i", "j", "k", "l", "m", "n", "o", "p", "q", "r",
         "s", "t", "u", "v", "w", "x", "y", "z",
     ];
-    static STEPS: [Step; 4] = [
-        Step::Merges(&LETTERS, Some(CODES)),
-        Step::Counts(26),
-        Step::Lines(LINES, Ended::Well),
-        Step::Codes(CODES),
-    ];
-    column(&rt, interner(rt.alloc(), &["z"]), &STEPS, CODES, &LETTERS)
+    static COLUMN: Column = (
+        &[
+            Step::Merges(&LETTERS, Some(CODES)),
+            Step::Counts(26),
+            Step::Lines(LINES, Ended::Well),
+            Step::Codes(CODES),
+        ],
+        CODES,
+        &LETTERS,
+    );
+    column(&rt, interner(rt.alloc(), &["z"]), COLUMN)
 }
 
 const LINES: &[u8] =

@@ -18,6 +18,8 @@ use std::test::Fail;
 // `é` is the bytes c3 a9.
 const TEXTS: [&str; 5] = ["red", "", "blé", "a\n", "\0"];
 
+static FIVE_TEXTS: [&str; 5] = TEXTS;
+
 const BYTES: &[u8] = b"redbl\xc3\xa9a\n\0";
 
 const OFFSETS: [u32; 6] = [0, 3, 3, 7, 9, 10];
@@ -94,7 +96,7 @@ fn write_forms(alloc: Global, rodeo: SpurRodeo) -> Forms {
 
 #[test]
 fn an_interner_and_its_frozen_forms_are_written(rt: HostRuntime) -> Result<(), Fail> {
-    let (interner, reader, resolver) = write_forms(rt.alloc(), interner(rt.alloc(), &TEXTS)?);
+    let (interner, reader, resolver) = write_forms(rt.alloc(), interner(rt.alloc(), &FIVE_TEXTS)?);
     all_right(&rt, Ok(interner?), FIVE.len())?;
     all_right(&rt, Ok(reader?), FIVE.len())?;
     all_right(&rt, Ok(resolver?), FIVE.len())
@@ -527,9 +529,9 @@ fn is_too_long(alloc: Global, rodeo: &SpurRodeo, position: usize) -> Result<bool
 
 // The five texts end at 3, 3, 7, 9 and 10 bytes.
 fn writes_up_to_nine(alloc: Global) -> Result<bool, Fail> {
-    let rodeo = interner(alloc, &TEXTS)?;
-    let rest: Written = (1, b"bl\xc3\xa9a\n\0", &[0, 0, 4, 6, 7]);
-    let ended = writes::<Narrow, SpurRodeo>(alloc, &rodeo, rest);
+    static REST: Written = (1, b"bl\xc3\xa9a\n\0", &[0, 0, 4, 6, 7]);
+    let rodeo = interner(alloc, &FIVE_TEXTS)?;
+    let ended = writes::<Narrow, SpurRodeo>(alloc, &rodeo, REST);
     Ok(is_too_long(alloc, &rodeo, 4)? && ended?)
 }
 
@@ -634,7 +636,8 @@ fn a_refused_request_leaves_the_first_texts(rt: HostRuntime) -> Result<(), Fail>
 // The same for the interner that `read_dictionary` makes. A refused call gives its memory back.
 #[test]
 fn a_refused_request_ends_a_reading(rt: HostRuntime) -> Result<(), Fail> {
-    with_each_refused(&rt, Script::Reads(BYTES, &OFFSETS, &TEXTS))
+    static OFFSETS_OF_FIVE: [u32; 6] = OFFSETS;
+    with_each_refused(&rt, Script::Reads(BYTES, &OFFSETS_OF_FIVE, &FIVE_TEXTS))
 }
 
 // Whether each fault is printed as these words.

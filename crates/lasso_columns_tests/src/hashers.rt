@@ -17,7 +17,7 @@ use std::thread::Threads;
 const TEXTS: u32 = 10_000;
 
 // The codes of the twenty texts with one worker: each new text gets the next code.
-const CODES: [u32; 20] = [0, 1, 0, 2, 1, 3, 0, 4, 3, 0, 1, 5, 0, 2, 6, 0, 0, 4, 1, 3];
+static CODES: [u32; 20] = [0, 1, 0, 2, 1, 3, 0, 4, 3, 0, 1, 5, 0, 2, 6, 0, 0, 4, 1, 3];
 
 // The hasher of an interner.
 #[derive(Clone, Copy)]

@@ -37,6 +37,8 @@ mod shared;
 #[cfg(test)]
 mod shared_columns;
 #[cfg(test)]
+mod streams;
+#[cfg(test)]
 mod two_users;
 #[cfg(test)]
 mod uniform;

@@ -124,6 +124,10 @@ fn the_limit_ends_a_part_that_gave_up(rt: HostRuntime) -> Result<(), Fail> {
     ends_so(&rt, limit_ends(&rt, Numbers::Mixed, 120, 900), "the limit")
 }
 
+static AFTER_NINE: [&str; 6] = ["green", "red", "white", "green", "white", "blue"];
+
+static CODES_FROM_NINE: [u32; 7] = [9, 2, 1, 3, 2, 3, 0];
+
 // Encodes the column after the code 9, and then an empty column.
 fn follows_nine<R: AllocGlobal + Threads + Sync>(
     rt: &R,
@@ -132,10 +136,9 @@ fn follows_nine<R: AllocGlobal + Threads + Sync>(
 ) -> Result<bool, Fail> {
     let mut codes = Vec::new(rt.alloc());
     codes.push(9)?;
-    let texts = ["green", "red", "white", "green", "white", "blue"];
-    encode_in_parts(rt, rodeo, &texts, &mut codes, workers)?;
+    encode_in_parts(rt, rodeo, &AFTER_NINE, &mut codes, workers)?;
     encode_in_parts(rt, rodeo, &[], &mut codes, workers)?;
-    Ok(codes.as_slice() == [9, 2, 1, 3, 2, 3, 0].as_slice() && rodeo.len() == 4)
+    Ok(codes.as_slice() == CODES_FROM_NINE.as_slice() && rodeo.len() == 4)
 }
 
 fn follows_two<R: AllocGlobal + Threads + Sync>(rt: &R, workers: usize) -> Result<bool, Fail> {

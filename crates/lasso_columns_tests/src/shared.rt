@@ -13,7 +13,9 @@ use std::test::Fail;
 use std::thread::Threads;
 
 // Five texts for each of four workers. The different ones are a, b, c, d, e, f and g.
-pub(super) const TWENTY: [&str; 20] = [
+pub(super) static TWENTY: [&str; 20] = LETTERS;
+
+const LETTERS: [&str; 20] = [
     "a", "b", "a", "c", "b", "d", "a", "e", "d", "a", "b", "f", "a", "c", "g", "a", "a", "e", "b",
     "d",
 ];
@@ -259,7 +261,7 @@ fn threads_give_equal_texts_equal_codes(rt: HostRuntime) -> Result<(), Fail> {
 #[test]
 fn twenty_texts_are_all_that_is_interned(rt: HostRuntime) -> Result<(), Fail> {
     static STEPS: [Step; 3] = [
-        Step::Encodes(&TWENTY, 4),
+        Step::Encodes(&LETTERS, 4),
         Step::Counts(7),
         Step::IsLimited(5000),
     ];

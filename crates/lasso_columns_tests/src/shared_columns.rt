@@ -154,7 +154,7 @@ fn encodes_three<R: AllocGlobal + Threads + Wait + Sync>(
             return Ok(false);
         }
     }
-    Ok(has_from(rodeo, 0, opening) && (way.1 > 1 || has_from(rodeo, opening.len(), &TEXTS)))
+    Ok(has_from(rodeo, 0, opening) && (way.1 > 1 || has_from(rodeo, opening.len(), COME[2])))
 }
 
 // How an interner gets its first texts.

@@ -5,8 +5,8 @@
 //! texts, so that the processor waits for all of them at once. It gives a guess at the position of each.
 //! The call that then takes a text compares it with the text at its guess: what it returns depends on no
 //! guess. The crate `lasso` leaves this module out.
-ghost use Rattle.std.specs.Prelude.{◌≡◌};
-ghost use Rattle.lasso_parts.specs.Texts.{key_of};
+ghost use Rattle.std.specs.Prelude.{◌≡◌, ℕ, Some, IfSome};
+ghost use Rattle.lasso_parts.specs.Texts.{key_of, position_of};
 ghost use Rattle.lasso_single.specs.Intern.{InternsIn};
 
 use crate::rodeo::Rodeo;
@@ -19,8 +19,10 @@ use std::hash::BuildHasher;
 /// How many texts a batch has at most.
 pub const TOGETHER: usize = 32;
 
-// How many texts are taken without a look at where they are, once a batch had few far ones.
-const REST: usize = 224;
+// How many texts pass after a batch with few far ones: at first, and at most.
+const FIRST_REST: usize = 224;
+
+const LONGEST_REST: usize = 3584;
 
 // How many bytes the nearer caches of a core hold: an estimate.
 const NEAR_BYTES: usize = 1_048_576;
@@ -42,17 +44,23 @@ const FAR_SHARE: usize = 4;
 /// nearer caches. So it is done if at least a quarter of the texts of the last batch were present and far.
 /// A text is far if all texts up to it take more than `NEAR_BYTES`, were they as long as it is. A text that
 /// comes often was mostly interned early, so it has a low position, and stays in the caches however large
-/// the interner is. A new text is never far: no guess can find it. If few are far, only one batch in
-/// eight is counted, since counting takes time too. The first batch is counted.
+/// the interner is. A new text is never far: no guess can find it. The first batch is counted. If few of its
+/// texts are far, the next ones pass: they are looked up with nothing else done, since counting takes time
+/// too. A batch is counted again after 224 texts that pass, and after twice as many each time that few are
+/// far again, but 3,584 at most.
 #[derive(Drop)]
 pub struct Batch {
+    // how many texts still pass
+    passing: usize,
+    // how many texts passed the last time, or 0 if looking ahead paid since
+    rest: usize,
+    // whether the next text is one of a batch: it may have a guess, and is counted
+    counts: bool,
     // a position for each text, or `usize::MAX` for no guess
     guesses: [usize; TOGETHER],
     size: usize,
     taken: usize,
     far: usize,
-    // whether nothing is counted
-    rests: bool,
 }
 
 impl Batch {
@@ -60,11 +68,13 @@ impl Batch {
     #[inline(always)]
     pub fn new() -> Self {
         Batch {
+            passing: 0,
+            rest: 0,
+            counts: false,
             guesses: [usize::MAX; TOGETHER],
             size: 0,
             taken: 0,
             far: 0,
-            rests: false,
         }
     }
 
@@ -72,15 +82,27 @@ impl Batch {
     /// caller then calls `look_ahead` with the texts to come.
     #[inline(always)]
     pub fn is_due(&mut self) -> bool {
-        self.taken >= self.size && self.begin()
+        !self.passes() && self.is_used_up() && self.begin()
     }
 
-    // Begins the next batch, and returns whether looking ahead pays.
+    fn is_used_up(&self) -> bool {
+        self.taken >= self.size
+    }
+
+    // Begins the next batch, or lets texts pass before it. Returns whether looking ahead pays.
     #[inline(never)]
     fn begin(&mut self) -> bool {
         let pays = self.far > 0 && self.far >= self.taken / FAR_SHARE;
-        self.rests = !pays && !self.rests && self.taken > 0;
-        self.size = if self.rests { REST } else { TOGETHER };
+        let rests = !pays && self.taken > 0;
+        if pays {
+            self.rest = 0;
+        }
+        if rests {
+            self.rest = longer(self.rest);
+            self.passing = self.rest;
+        }
+        self.counts = !rests;
+        self.size = if rests { 0 } else { TOGETHER };
         self.guesses = [usize::MAX; TOGETHER];
         self.taken = 0;
         self.far = 0;
@@ -90,24 +112,43 @@ impl Batch {
     /// Passes over the next text, which is not looked up.
     #[inline(always)]
     pub fn skip(&mut self) {
-        self.taken = self.taken.wrapping_add(1);
+        if self.passes() {
+            self.pass();
+        } else {
+            self.taken = self.taken.wrapping_add(1);
+        }
+    }
+
+    // Whether the next text passes.
+    #[inline(always)]
+    fn passes(&self) -> bool {
+        self.passing > 0
+    }
+
+    // Lets a text pass.
+    #[inline(always)]
+    fn pass(&mut self) {
+        self.passing = self.passing.wrapping_sub(1);
     }
 
     // The guess at the next text, or `usize::MAX` for none.
-    #[inline(always)]
     fn next(&mut self) -> usize {
         let place = self.taken % TOGETHER;
         self.taken = self.taken.wrapping_add(1);
         self.guesses[place]
     }
 
-    // Counts a present text of `len` bytes at that position, unless nothing is counted.
-    #[inline(always)]
+    // Counts a present text of `len` bytes at that position.
     fn count(&mut self, position: usize, len: usize) {
-        if !self.rests && position.saturating_mul(bytes_of(len)) >= NEAR_BYTES {
+        if position.saturating_mul(bytes_of(len)) >= NEAR_BYTES {
             self.far = self.far.wrapping_add(1);
         }
     }
+}
+
+// How many texts pass next if `rest` passed before and few are far again.
+fn longer(rest: usize) -> usize {
+    rest.saturating_mul(2).max(FIRST_REST).min(LONGEST_REST)
 }
 
 // How many bytes a text of `len` bytes counts.
@@ -127,6 +168,8 @@ pub fn look_ahead<K: Key, S: BuildHasher, A: Allocator>(
     texts: &[&str],
     batch: &mut Batch,
 ) {
+    batch.passing = 0;
+    batch.counts = true;
     batch.size = texts.len().min(TOGETHER);
     rodeo.guess_all(texts, &mut batch.guesses);
 }
@@ -140,18 +183,22 @@ pub fn get_next<K: Key, S: BuildHasher, A: Allocator>(
 ) -> Option<K>
     ensures { result ≡ key_of K.key_at rodeo.now.texts text.now }
 {
-    let guess = batch.next();
-    if rodeo.is_at(guess, text) {
-        batch.count(guess, text.len());
-        return K::try_from_usize(guess);
+    if batch.counts {
+        if let Some(key) = guessed_key(rodeo, text, batch) {
+            return Some(key);
+        }
     }
-    let key = rodeo.get(text)?;
-    batch.count(key.into_usize(), text.len());
-    Some(key)
+    let key = rodeo.get(text);
+    if batch.passes() {
+        batch.pass();
+    } else if batch.counts {
+        count_found(key, text, batch);
+    }
+    key
 }
 
 /// `Rodeo::try_get_or_intern` for the next text of the batch. It may be another text than was looked ahead
-/// at.
+/// at. It has one call that interns, so that a program with one call of it has all of it in one function.
 #[inline(always)]
 pub fn intern_next<K: Key, S: BuildHasher, A: Allocator + Clone>(
     rodeo: &mut Rodeo<K, S, A>,
@@ -160,16 +207,55 @@ pub fn intern_next<K: Key, S: BuildHasher, A: Allocator + Clone>(
 ) -> LassoResult<K>
     ensures { InternsIn K.key_at rodeo.old text.now result rodeo.new }
 {
-    let guess = batch.next();
-    if rodeo.is_at(guess, text) {
-        batch.count(guess, text.len());
-        return Ok(K::try_from_usize(guess).unwrap());
+    if batch.counts {
+        if let Some(key) = guessed_key(rodeo, text, batch) {
+            return Ok(key);
+        }
     }
-    let len = rodeo.len();
     let key = rodeo.try_get_or_intern(text)?;
-    let position = key.into_usize();
-    if position < len {
-        batch.count(position, text.len());
+    if batch.passes() {
+        batch.pass();
+    } else if batch.counts {
+        count_interned(rodeo, key, text, batch);
     }
     Ok(key)
+}
+
+// The key of the next text, if the guess at it is right.
+#[inline(never)]
+fn guessed_key<K: Key, S: BuildHasher, A: Allocator>(
+    rodeo: &Rodeo<K, S, A>,
+    text: &str,
+    batch: &mut Batch,
+) -> Option<K>
+    ensures { IfSome result (λ key. (n : ℕ) × (position_of rodeo.now.texts text.now ≡ Some n) × (K.key_at n ≡ Some key)) }
+{
+    let guess = batch.next();
+    if !rodeo.is_at(guess, text) {
+        return None;
+    }
+    batch.count(guess, text.len());
+    K::try_from_usize(guess)
+}
+
+// Counts a text that was looked for, and its key if it is present.
+#[inline(never)]
+fn count_found<K: Key>(key: Option<K>, text: &str, batch: &mut Batch) {
+    if let Some(key) = key {
+        batch.count(key.into_usize(), text.len());
+    }
+}
+
+// Counts a text that is interned and has this key. The last one of the interner is taken for new.
+#[inline(never)]
+fn count_interned<K: Key, S: BuildHasher, A: Allocator>(
+    rodeo: &Rodeo<K, S, A>,
+    key: K,
+    text: &str,
+    batch: &mut Batch,
+) {
+    let position = key.into_usize();
+    if position.saturating_add(1) < rodeo.len() {
+        batch.count(position, text.len());
+    }
 }

@@ -315,12 +315,17 @@ type Counted<'a> = Rodeo<Spur, CountingState<'a>, Global>;
 // with an absent one last. That one is hashed twice if it is looked ahead at.
 type Row = (usize, usize, usize, usize, u64);
 
-static ROWS: [Row; 5] = [
+static ROWS: [Row; 9] = [
     (0, 0, 63, 32, 33),
     (0, 0, 64, 32, 34),
     (63, 25, 64, 7, 33),
     (63, 24, 64, 8, 34),
     (64, 8, 63, 23, 32),
+    // after 32 near texts 224 pass, and after 32 more 448
+    (0, 32, 64, 255, 288),
+    (0, 32, 64, 256, 290),
+    (0, 288, 64, 479, 768),
+    (0, 288, 64, 480, 770),
 ];
 
 // The indices that the row names, and that of an absent text.

@@ -1,11 +1,14 @@
-use Rattle.std.proofs.Common.{◌≡◌, map, take}
+use Rattle.std.proofs.Common.{◌≡◌, map}
+use Rattle.std.specs.Slice.Iter.{chunks_rest}
 use Rattle.lasso_log.specs.Views.{list_of}
-use Rattle.lasso_encode.specs.Codes.{AreCodes}
+use Rattle.lasso_columns.proofs.Shared.{CodedSo}
 use Rattle.lasso_columns.proofs.sharing.encode_by.Given as goal
 
--- the texts before the index have their codes in the list that the pass has seen
-abbrev pub invariant-loop-text : goal.invariant-loop-text
-invariant-loop-text g l = record {
+-- the texts of the batches so far have their codes in the list that the pass has seen
+abbrev pub invariant-loop-batch : goal.invariant-loop-batch
+invariant-loop-batch g l = record {
+  can : (goal.iterator-loop-batch g).can_next l.batch-iterator;
+  finite : (goal.iterator-loop-batch g).is_finite l.batch-iterator;
   of : l.pass.of ≡ l.rodeo;
-  codes : AreCodes (list_of l.rodeo l.pass.notes) (take l.text-index (map (λ t. t.now) l.texts)) l.codes.items;
+  coded : CodedSo (list_of l.rodeo l.pass.notes) (map (λ t. t.now) l.texts) (map (λ t. t.now) (chunks_rest l.batch-iterator)) l.codes.items;
 }

@@ -1,7 +1,7 @@
-use Rattle.std.proofs.Common.{◌≡◌, ◌+◌, ◌-◌, ◌*◌, ◌<◌, ◌≤◌, ◌++◌, List, Bor, IsSomeAnd, map, take, drop, length, sym, ap, subst, ◌∙◌, arith}
+use Rattle.std.proofs.Common.{ℕ, ◌≡◌, ◌+◌, ◌-◌, ◌*◌, ◌<◌, ◌≤◌, ◌++◌, List, Bor, IsSomeAnd, map, take, drop, length, sym, ap, subst, ◌∙◌, arith}
 use Rattle.std.specs.Prelude.{slice_get}
 use Rattle.std.proofs.Math.Seq.{take-add}
-use Rattle.std.proofs.lemmas.List.{length-map, take_all}
+use Rattle.std.proofs.lemmas.List.{length-drop, length-map, length-take-le, take_all}
 use Rattle.lasso_parts.specs.Texts.{Text}
 use Rattle.lasso_single.specs.Filling.{extend}
 use Rattle.lasso_single.proofs.Filled.{accepted}
@@ -12,6 +12,33 @@ use Rattle.lasso_counts.proofs.Added.{adds_join}
 use Rattle.lasso_counts.proofs.Rest.{extend_both, part_here, first_here, within, next_here}
 use Rattle.lasso_counts.proofs.parts.count_in_parts.Given.{Over}
 use Rattle.lasso_counts.proofs.parts.count_in_parts.Goals as goal
+
+-- a part has as many texts as its count
+part_many : (texts : List (Bor Text)) (start count : ℕ) → start + count ≤ length texts → length (take (start + count - start) (drop start texts)) ≡ count
+part_many texts start count within =
+    length-take-le (start + count - start) (drop start texts) (omega (arith, length-drop start texts, within)) ∙ omega arith
+
+pub overflow_sub-texts : goal.overflow_sub-texts
+overflow_sub-texts g c = omega (arith, c.loop-part.invariant.start)
+
+pub put_part-requires-clause-lengths : goal.put_part-requires-clause-lengths
+put_part-requires-clause-lengths g c = c.loop-part.counts.ok.0 ∙ c.loop-part.invariant.counts.lengths
+
+pub put_part-requires-clause-fits : goal.put_part-requires-clause-fits
+put_part-requires-clause-fits g c =
+    let all = map (λ (t : Bor Text). t.now) c.args.texts.now in
+    let at = c.loop-part in
+    let count = c.min-count.result in
+    let within : at.start + count ≤ length c.args.texts.now = omega (arith, at.invariant.start, c.min-count.ensures) in
+    let many = length-map c.args.texts.now (λ (t : Bor Text). t.now) in
+    let before = length-take-le at.start all (omega (arith, within, many)) in
+    omega (arith, at.invariant.counts.total, before, part_many c.args.texts.now at.start count within, within, c.requires.fits)
+
+pub returns-in-Err-clause-room : goal.returns-in-Err-clause-room
+returns-in-Err-clause-room g c = omega (arith, c.loop-part.invariant.room, c.in-Err.ensures.room)
+
+pub returns-clause-room : goal.returns-clause-room
+returns-clause-room g c = c.loop-part.invariant.room
 
 pub loop-part-preserved : goal.loop-part-preserved
 loop-part-preserved g c =

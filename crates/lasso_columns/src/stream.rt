@@ -1,0 +1,233 @@
+//! Encodes the lines of a stream by rounds over blocks of it.
+ghost use Rattle.std.specs.Prelude.{◌≡◌, ◌<◌, ℕ, List, [], Some, Ok, true, OnOk, IfErr, length};
+ghost use Rattle.lasso_columns.specs.Rows.{word_of, EncodesRows};
+ghost use Rattle.lasso_columns.specs.Streams.{AreBlocksFor, ReadsBlocks, StopsInStream};
+ghost use Rattle.lasso_input.specs.Lines.{lines_of};
+
+use crate::blocks::{Block, encode_blocks};
+use crate::faults::LineError;
+use crate::reading_blocks::{Blocks, new_chunk, read_blocks};
+use crate::rounds::put_blocks;
+use lasso::SpurRodeo;
+use std::alloc::Global;
+use std::error::Error;
+use std::io::{BufRead, ErrorKind};
+use std::thread::{Threads, join_mut};
+use std::{fmt, io};
+
+/// How a stream is split into blocks for several threads. The sizes are in bytes; 0 counts as 1.
+#[derive(Clone, Copy, Debug, PartialEq, Eq)]
+pub struct Rounds {
+    /// How many threads encode in a round, each a block. With 0 or 1 the caller's thread encodes all.
+    pub workers: usize,
+    /// The bytes of a block that the caller's thread encodes, up to the end of a line.
+    pub alone: usize,
+    /// The bytes of a block of the first round, up to the end of a line. Each round doubles them.
+    pub smallest: usize,
+    /// The bytes of a block of a later round at most, up to the end of a line.
+    pub largest: usize,
+}
+
+impl Rounds {
+    /// Blocks of 64 to 512 KiB, for this number of workers.
+    pub fn new(workers: usize) -> Self {
+        Rounds {
+            workers,
+            alone: 262_144,
+            smallest: 65_536,
+            largest: 524_288,
+        }
+    }
+}
+
+/// Why the lines of a stream were not all encoded.
+#[derive(Debug, Drop)]
+pub enum StreamError {
+    /// A line was refused or is not UTF-8.
+    Line(LineError),
+    /// A read failed, or there was no memory for what is read.
+    Read(io::Error),
+}
+
+impl fmt::Display for StreamError {
+    fn fmt<W: fmt::Write>(&self, f: &mut fmt::Formatter<W>) -> fmt::Result {
+        match self {
+            StreamError::Line(error) => write!(f, "{error}"),
+            StreamError::Read(error) => write!(f, "{error}"),
+        }
+    }
+}
+
+impl Error for StreamError {}
+
+/// Encodes the lines that are left in the input, as `encode_rows` does, with up to `rounds.workers` threads. The
+/// entries, the list and the error are the same, whatever their number.
+///
+/// The caller's thread encodes the first block of the input. Then rounds follow: each worker encodes a block
+/// beside the interner, with a small interner for the texts that it lacks, while this thread reads the next
+/// blocks. This thread then interns those texts in the order of the blocks, and appends the entries. It encodes
+/// the blocks after a round or a block with mostly new texts, and a block whose worker ran out of memory.
+///
+/// Stops at the first line that is refused or is not UTF-8 (`StreamError::Line`, with the line's number from the
+/// begin of the call, counted from 1), or at a read that failed or had no memory (`StreamError::Read`). The
+/// lines before it are interned and have their entries. A bad line is reported even if a read after it failed.
+/// What was read after the last encoded line is lost.
+///
+/// ```rust
+/// let mut rodeo: SpurRodeo = Rodeo::default(rt.alloc())?;
+/// let mut entries = Vec::new(rt.alloc());
+/// let mut input = BufReader::new(rt.alloc(), b"to\n-\nbe\nto\n".as_slice())?;
+/// encode_stream(&rt, &mut input, &mut rodeo, Some(b"-"), &mut entries, Rounds::new(4))?;
+/// assert!(rt; entries.as_slice() == [0, NULL, 1, 0].as_slice());
+/// ```
+pub fn encode_stream<R: AllocGlobal + Threads + Sync, I: BufRead>(
+    rt: &R,
+    input: &mut I,
+    rodeo: &mut SpurRodeo,
+    null: Option<&[u8]>,
+    entries: &mut Vec<u32>,
+    rounds: Rounds,
+) -> Result<(), StreamError>
+    ensures rows { OnOk result ((bytes : List ℕ) → I.remaining input.old ≡ Some bytes →
+        EncodesRows (word_of null.entry) rodeo.old (lines_of bytes) [] entries.old.items rodeo.new entries.new.items) }
+    ensures stops { IfErr result (λ error. (bytes : List ℕ) → I.remaining input.old ≡ Some bytes →
+        StopsInStream (word_of null.entry) rodeo.old (lines_of bytes) entries.old.items rodeo.new entries.new error) }
+{
+    let start = entries.len();
+    let mut plan = Plan::new(rounds);
+    let mut chunk = match new_chunk(rt.alloc(), rounds.smallest) {
+        Ok(chunk) => chunk,
+        Err(error) => return Err(StreamError::Read(error)),
+    };
+    let mut now = read_blocks(rt.alloc(), input, &mut chunk, 1, rounds.alone);
+    for _ in 0..u64::MAX {
+        let (made, next) = encode_and_read(rt, input, &mut chunk, rodeo, &now, null, plan);
+        let (texts, lines) = (rodeo.len(), entries.len());
+        let outcome = put_blocks(rt.alloc(), rodeo, &now.blocks, &made, null, entries, start);
+        if let Err(error) = outcome {
+            return Err(StreamError::Line(error));
+        }
+        let goes_on = match now.more {
+            Ok(goes_on) => goes_on,
+            Err(error) => return Err(StreamError::Read(error)),
+        };
+        if !goes_on {
+            return Ok(());
+        }
+        let new_texts = rodeo.len().saturating_sub(texts);
+        plan = plan.after(new_texts, entries.len().saturating_sub(lines));
+        now = next;
+    }
+    Err(StreamError::Read(io::Error::from(ErrorKind::TimedOut)))
+}
+
+// How the next blocks are read and encoded.
+#[derive(Clone, Copy)]
+struct Plan {
+    rounds: Rounds,
+    // whether threads encode the blocks
+    is_round: bool,
+    // the bytes of a block of the next round
+    size: usize,
+}
+
+impl Plan {
+    // The first block is encoded by the caller's thread.
+    fn new(rounds: Rounds) -> Self {
+        Plan {
+            rounds,
+            is_round: false,
+            size: rounds.smallest,
+        }
+    }
+
+    // The plan after this number of lines, with this number of new texts. One thread is faster where more than
+    // a quarter of the lines are new texts, since it interns each of them once.
+    fn after(self, new_texts: usize, lines: usize) -> Self {
+        let size = if self.is_round {
+            self.size.saturating_mul(2).min(self.rounds.largest)
+        } else {
+            self.size
+        };
+        Plan {
+            rounds: self.rounds,
+            is_round: self.rounds.workers > 1 && new_texts <= lines / 4,
+            size,
+        }
+    }
+
+    // How many blocks are read next, and their bytes.
+    fn next(self) -> (usize, usize) {
+        if self.is_round {
+            (self.rounds.workers, self.size)
+        } else {
+            (1, self.rounds.alone)
+        }
+    }
+}
+
+// Encodes the blocks by threads, if the plan is a round. Reads the next blocks meanwhile, if more may follow.
+fn encode_and_read<R: AllocGlobal + Threads + Sync, I: BufRead>(
+    rt: &R,
+    input: &mut I,
+    chunk: &mut [u8],
+    rodeo: &SpurRodeo,
+    now: &Blocks,
+    null: Option<&[u8]>,
+    plan: Plan,
+) -> (Vec<Option<Block>>, Blocks)
+    requires { 0 < length chunk.old }
+    ensures made { AreBlocksFor (word_of null.entry) rodeo.now.texts now.now.blocks.items result.0.items }
+    ensures next { now.now.more ≡ Ok true → ReadsBlocks (I.remaining input.old) (I.remaining input.new) result.1.blocks.items result.1.more }
+{
+    if !plan.is_round {
+        return (
+            Vec::new(rt.alloc()),
+            read_next(rt.alloc(), input, chunk, now, plan),
+        );
+    }
+    let mut work = || -> Vec<Option<Block>>
+        ensures { AreBlocksFor (word_of null.entry) rodeo.entry.now.texts now.entry.now.blocks.items result.items }
+    { encode_round(rt, rodeo, now, null) };
+    let mut read = || -> Blocks
+        requires { 0 < length chunk.now }
+        ensures { now.entry.now.more ≡ Ok true → ReadsBlocks (I.remaining input.entry.now) (I.remaining input.exit.now) result.blocks.items result.more }
+    { read_next(rt.alloc(), input, chunk, now, plan) };
+    join_mut(rt, &mut work, &mut read)
+}
+
+// Encodes the blocks by threads. Returns none of them if memory runs out.
+fn encode_round<R: AllocGlobal + Threads + Sync>(
+    rt: &R,
+    rodeo: &SpurRodeo,
+    now: &Blocks,
+    null: Option<&[u8]>,
+) -> Vec<Option<Block>>
+    ensures { AreBlocksFor (word_of null.entry) rodeo.now.texts now.now.blocks.items result.items }
+{
+    match encode_blocks(rt, rodeo, &now.blocks, null) {
+        Ok(made) => made,
+        Err(_) => Vec::new(rt.alloc()),
+    }
+}
+
+// Reads the blocks after these, if more may follow.
+fn read_next<I: BufRead>(
+    alloc: Global,
+    input: &mut I,
+    chunk: &mut [u8],
+    now: &Blocks,
+    plan: Plan,
+) -> Blocks
+    requires { 0 < length chunk.old }
+    ensures { now.now.more ≡ Ok true → ReadsBlocks (I.remaining input.old) (I.remaining input.new) result.blocks.items result.more }
+{
+    if let Ok(true) = now.more {
+        let (count, size) = plan.next();
+        return read_blocks(alloc, input, chunk, count, size);
+    }
+    Blocks {
+        blocks: Vec::new(alloc),
+        more: Ok(false),
+    }
+}
