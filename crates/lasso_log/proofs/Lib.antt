@@ -7,6 +7,7 @@ pub mod Histories
 pub mod Tickets
 pub mod Words
 pub mod Lengths
+pub mod LongerLists
 pub mod Steps
 pub mod Logs
 pub mod ChunkPositions

@@ -10,6 +10,7 @@ mod hint_table;
 mod hinting;
 mod hints;
 pub mod kept_slot;
+pub mod known_list;
 mod limits;
 mod look;
 mod memory;
@@ -29,6 +30,7 @@ pub mod words;
 
 pub use cells_ahead::CellsAhead;
 pub use kept_slot::KeptSlot;
+pub use known_list::KnownList;
 pub use opening::{NewLog, Opened, OpeningTexts};
 pub use pass::Pass;
 pub use snapshot::Snapshot;

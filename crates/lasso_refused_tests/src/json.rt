@@ -9,19 +9,17 @@ use std::process::Abort;
 use std::sync::Wait;
 use std::test::Fail;
 
-const LIST: [&str; 3] = ["b", "a", "c"];
-
 const FIRST_TWO: State = State { texts: 2, usage: 2 };
 
 // The bucket of two bytes is full, so the new text takes one of four.
 const THREE: State = State { texts: 3, usage: 6 };
 
 // A third text in an interner that was read.
-const ADDED: Scenario<'static> = Scenario {
+static ADDED: Scenario<'static> = Scenario {
     bytes: 2,
     limit: usize::MAX,
     way: Way::Copied,
-    list: &LIST,
+    list: &["b", "a", "c"],
     steps: &[("c", Ok(2), THREE)],
 };
 
@@ -47,7 +45,7 @@ fn add_a_text<R: AllocGlobal + Wait + Abort>(
         rt,
         refused,
         interner,
-        &LIST,
+        ADDED.list,
         THREE,
         r#"{"a":2,"b":1,"c":3}"#,
     )

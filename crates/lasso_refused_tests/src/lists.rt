@@ -13,8 +13,6 @@ use std::process::Abort;
 use std::sync::Wait;
 use std::test::Fail;
 
-const LIST: [&str; 4] = ["abc", "defghijk", "x", "yz"];
-
 // The texts as an object, each with its position plus one.
 const OBJECT: &str = r#"{"abc":1,"defghijk":2,"x":3,"yz":4}"#;
 
@@ -45,19 +43,19 @@ const FOUR: State = State {
     usage: 14,
 };
 
-const LIMITED: Scenario<'static> = Scenario {
+static LIMITED: Scenario<'static> = Scenario {
     bytes: 4,
     limit: 12,
     way: Way::Copied,
-    list: &LIST,
+    list: &["abc", "defghijk", "x", "yz"],
     steps: &UP_TO_LIMIT,
 };
 
-const RAISED: Scenario<'static> = Scenario {
+static RAISED: Scenario<'static> = Scenario {
     bytes: 4,
     limit: 14,
     way: Way::Copied,
-    list: &LIST,
+    list: &["abc", "defghijk", "x", "yz"],
     steps: &[("yz", Ok(3), FOUR)],
 };
 
@@ -85,7 +83,7 @@ fn are_seen<R: Wait + Abort>(rt: &R, interner: &Interner<Spur>) {
 fn four_texts_are_written(rt: HostRuntime) -> Result<(), Fail> {
     let mut refused = Refused::none();
     let interner = four_texts(&rt, &mut refused)?;
-    write(&rt, &mut refused, &interner, &LIST, FOUR, OBJECT)?;
+    write(&rt, &mut refused, &interner, LIMITED.list, FOUR, OBJECT)?;
     refused.end()
 }
 
@@ -157,15 +155,13 @@ fn has_fourth_key(interner: &Interner<Spur>) -> Option<bool> {
 // Whether the walk yields exactly the four texts in order, each with the key of its position.
 fn iter_gives_all(interner: &Interner<Spur>) -> bool {
     let mut walk = interner.iter();
-    let mut position = 0usize;
-    for wanted in LIST {
+    for position in 0..LIMITED.list.len() {
         let Some((key, text)) = walk.next() else {
             return false;
         };
-        if key.into_usize() != position || text != wanted {
+        if key.into_usize() != position || text != LIMITED.list[position] {
             return false;
         }
-        position = position.saturating_add(1);
     }
     walk.next().is_none()
 }
@@ -173,8 +169,8 @@ fn iter_gives_all(interner: &Interner<Spur>) -> bool {
 // Whether the walk yields exactly the four texts in order.
 fn strings_give_all(interner: &Interner<Spur>) -> bool {
     let mut walk = interner.strings();
-    for wanted in LIST {
-        if walk.next() != Some(wanted) {
+    for position in 0..LIMITED.list.len() {
+        if walk.next() != Some(LIMITED.list[position]) {
             return false;
         }
     }
@@ -190,7 +186,7 @@ fn three_texts_are_compared(rt: HostRuntime) -> Result<(), Fail> {
     refused.end()
 }
 
-const ABC: [&str; 3] = ["a", "b", "c"];
+static ABC: [&str; 3] = ["a", "b", "c"];
 
 const FIRST_TWO: State = State {
     texts: 2,

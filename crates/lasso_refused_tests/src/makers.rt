@@ -22,7 +22,7 @@ enum Maker {
 }
 
 // Each maker, its name, and the bytes of the first bucket.
-const MAKERS: [(Maker, &str, usize); 8] = [
+static MAKERS: [(Maker, &str, usize); 8] = [
     (Maker::Default, "default", 4096),
     (Maker::New, "new", 4096),
     (Maker::Capacity, "with_capacity", 4),
@@ -40,7 +40,8 @@ const MAKERS: [(Maker, &str, usize); 8] = [
 #[test]
 fn a_text_is_interned_after_each_maker(rt: HostRuntime) -> Result<(), Fail> {
     let mut refused = Refused::none();
-    for (maker, name, usage) in MAKERS {
+    for at in 0..MAKERS.len() {
+        let (maker, name, usage) = MAKERS[at];
         let interner = retry(&rt, &mut refused, maker, name)?;
         intern_first(&rt, &mut refused, &interner, usage);
     }
@@ -84,7 +85,7 @@ const THREE: State = State {
     usage: 4096,
 };
 
-const AFTER_WORDS: Scenario<'static> = Scenario {
+static AFTER_WORDS: Scenario<'static> = Scenario {
     bytes: 4096,
     limit: usize::MAX,
     way: Way::Copied,

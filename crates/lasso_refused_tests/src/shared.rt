@@ -62,14 +62,14 @@ const GAP: [Step; 6] = [
     ("q", Ok(1), State { texts: 2, usage: 4 }),
 ];
 
-const STRINGS: [&str; 4] = ["one string", "two string", "red string", "blue string"];
+static STRINGS: [&str; 4] = ["one string", "two string", "red string", "blue string"];
 
 const FOUR_STRINGS: State = State {
     texts: 4,
     usage: 4096,
 };
 
-const GREETED_TWICE: Scenario<'static> = Scenario {
+static GREETED_TWICE: Scenario<'static> = Scenario {
     bytes: 4096,
     limit: usize::MAX,
     way: Way::Copied,
@@ -77,7 +77,7 @@ const GREETED_TWICE: Scenario<'static> = Scenario {
     steps: &GREETING,
 };
 
-const STATIC_TEXTS: Scenario<'static> = Scenario {
+static STATIC_TEXTS: Scenario<'static> = Scenario {
     bytes: 4,
     limit: 4,
     way: Way::Static,
@@ -85,7 +85,7 @@ const STATIC_TEXTS: Scenario<'static> = Scenario {
     steps: &STATIC,
 };
 
-const TWO_BUCKETS: Scenario<'static> = Scenario {
+static TWO_BUCKETS: Scenario<'static> = Scenario {
     bytes: 4,
     limit: usize::MAX,
     way: Way::Copied,
@@ -93,7 +93,7 @@ const TWO_BUCKETS: Scenario<'static> = Scenario {
     steps: &BUCKETS,
 };
 
-const MISSING_KEY: Scenario<'static> = Scenario {
+static MISSING_KEY: Scenario<'static> = Scenario {
     bytes: 4,
     limit: 4,
     way: Way::Copied,

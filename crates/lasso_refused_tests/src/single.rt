@@ -30,7 +30,7 @@ const MEMORY: Wanted = Wanted::Refused(LassoErrorKind::FailedAllocation);
 
 // The replies if no command runs out of memory; if the first does, so that the second text becomes the first
 // one; and if the copy of the resolved text does.
-const USUAL: [Wanted; 7] = [
+static USUAL: [Wanted; 7] = [
     Wanted::Key(0),
     LIMIT,
     Wanted::Done,
@@ -40,7 +40,7 @@ const USUAL: [Wanted; 7] = [
     Wanted::Number(4),
 ];
 
-const WITHOUT_THE_FIRST: [Wanted; 7] = [
+static WITHOUT_THE_FIRST: [Wanted; 7] = [
     MEMORY,
     Wanted::Key(0),
     Wanted::Done,
@@ -50,7 +50,7 @@ const WITHOUT_THE_FIRST: [Wanted; 7] = [
     Wanted::Number(4),
 ];
 
-const WITHOUT_THE_COPY: [Wanted; 7] = [
+static WITHOUT_THE_COPY: [Wanted; 7] = [
     Wanted::Key(0),
     LIMIT,
     Wanted::Done,
@@ -60,7 +60,7 @@ const WITHOUT_THE_COPY: [Wanted; 7] = [
     Wanted::Number(4),
 ];
 
-const STRINGS: [&str; 4] = ["one string", "two string", "red string", "blue string"];
+static STRINGS: [&str; 4] = ["one string", "two string", "red string", "blue string"];
 
 const ARRAY: &str = r#"["one string","two string","red string","blue string"]"#;
 

@@ -10,6 +10,8 @@ pub mod Whole
 pub mod Stored
 pub mod Frozen
 pub mod Filled
+pub mod Placed
+pub mod Batched
 pub mod Listed
 pub mod Walked
 pub mod Built

@@ -9,4 +9,5 @@ pub mod Json
 pub mod NewTexts
 pub mod Shards
 pub mod Filling
+pub mod Batches
 pub mod Walks

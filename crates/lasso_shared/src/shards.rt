@@ -9,8 +9,11 @@ ghost use Rattle.std.specs.Prelude.{◌≡◌, ◌<◌, ℕ, length, Some, slice
 ghost use Rattle.lasso_log.specs.SharedBuckets.{names_with_book};
 ghost use Rattle.lasso_log.specs.Views.{InternerId};
 
+mod ahead;
+mod batches;
 mod building;
 mod current;
+mod guesses;
 mod intern;
 mod limits;
 mod look;

@@ -8,6 +8,7 @@
 ghost use Rattle.std.specs.Prelude.{◌≡◌, []};
 ghost use Rattle.lasso_log.specs.Views.{PassView, InternerId};
 
+mod batches;
 mod comparing;
 mod debug;
 mod filling;

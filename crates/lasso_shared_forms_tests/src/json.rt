@@ -6,7 +6,7 @@ use super::checks::{freezes_as, is_so, runs, runs_as};
 use super::looks::{Look, first_wrong};
 use super::origins::{Origin, make_from, value_of};
 use Look::{Compares, Does, Json, Shows};
-use Step::{ByOne, Copies, Counts, Finds, Interns, IsLimited, Uses};
+use Step::{ByOne, ByOther, Copies, Counts, Finds, Interns, IsLimited, Uses};
 use lasso_parts::json::JsonError;
 use lasso_parts::keys::{Key, Spur};
 use lasso_parts::util::{FixedState, LassoResult};
@@ -14,8 +14,8 @@ use lasso_shared::threaded::ThreadedRodeo;
 use lasso_shared_testing::calls::Shared;
 use lasso_shared_testing::cases::{HINTED, PLAIN};
 use lasso_shared_testing::steps::{Call, Step, Way};
-use lasso_shared_testing::texts::List;
 use lasso_shared_testing::texts::List::{Numbers, Texts};
+use lasso_shared_testing::texts::{KeyNumbers, List};
 use lasso_testing::hashers::{FirstState, SameState};
 use lasso_testing::keys::{WithoutTwo, WithoutZero};
 use serde_json::Value;
@@ -133,6 +133,27 @@ fn hints_of_an_interner_from_json(rt: HostRuntime) -> Result<(), Fail> {
         Origin::Json(r#"["b","a"]"#),
     );
     runs_as::<Spur, FixedState, _>(&rt, object, &LOOKS, HINTED)?;
+    runs_as::<Spur, FixedState, _>(&rt, array, &LOOKS, HINTED)
+}
+
+// Makes the calls by passes without hints, and three times each by passes with hints.
+#[test]
+fn batches_of_an_interner_from_json(rt: HostRuntime) -> Result<(), Fail> {
+    static LOOKS: [Look; 1] = [Does(&[
+        ByOne(Call::FindsAll(&["a", "c", "b"], &[Some(1), None, Some(0)])),
+        ByOther(Call::TakesAll(
+            Texts(&["c", "b", "a", "c"]),
+            KeyNumbers::Are(&[2, 0, 1, 2]),
+            None,
+        )),
+        ByOne(Call::TakesAll(Texts(&["b", "a", "c", "d"]), KeyNumbers::From(0), None)),
+        Counts(4),
+    ])];
+    let (object, array) = (
+        Origin::Json(r#"{"a":2,"b":1}"#),
+        Origin::Json(r#"["b","a"]"#),
+    );
+    runs_as::<Spur, FixedState, _>(&rt, object, &LOOKS, PLAIN)?;
     runs_as::<Spur, FixedState, _>(&rt, array, &LOOKS, HINTED)
 }
 

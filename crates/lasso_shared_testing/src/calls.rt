@@ -250,6 +250,34 @@ pub fn found_as<K: Key, S: BuildHasher + Drop, R: Wait>(
     }
 }
 
+/// Interns the texts by one call with the pass, and appends their keys.
+pub fn interned_all_as<K: Key, S: BuildHasher + Drop, R: Wait>(
+    rt: &R,
+    shared: &ThreadedRodeo<K, S>,
+    pass: &mut Pass<K>,
+    texts: &[&str],
+    keys: &mut Vec<K>,
+) -> LassoResult<()>
+    requires { pass.old.of ≡ shared.now }
+    ensures { pass.new.of ≡ pass.old.of }
+{
+    shared.try_get_or_intern_all_as(rt, pass, texts, keys)
+}
+
+/// Looks the texts up by one call with the pass, and appends what is found.
+pub fn found_all_as<K: Key, S: BuildHasher + Drop, R: Wait>(
+    rt: &R,
+    shared: &ThreadedRodeo<K, S>,
+    pass: &mut Pass<K>,
+    texts: &[&str],
+    keys: &mut Vec<Option<K>>,
+) -> LassoResult<()>
+    requires { pass.old.of ≡ shared.now }
+    ensures { pass.new.of ≡ pass.old.of }
+{
+    shared.get_all_as(rt, pass, texts, keys)
+}
+
 /// Whether the key resolves to the text by the pass.
 pub fn stands_for<K: Key, S: BuildHasher + Drop>(
     shared: &ThreadedRodeo<K, S>,

@@ -2,6 +2,7 @@
 //! or as a row, a thread that sets limits, and lists of texts.
 #![tactic(auto)]
 
+pub mod batches;
 pub mod calls;
 pub mod cases;
 pub mod limits;

@@ -1,6 +1,7 @@
 //! Rows that passes make.
 ghost use Rattle.std.specs.Prelude.{◌≡◌};
 
+use crate::batches::{finds_all_by, takes_all_by};
 use crate::calls::{
     Shared, copied_as, found_as, hinted_pass_of, kept_as, pass_of, seen_by, set_limit_as,
     stands_for, sums_as,
@@ -125,6 +126,17 @@ fn holds_more_by<K: Key, S: BuildHasher + Drop, R: AllocGlobal + Wait>(
             takes_by(rt, shared, pass, &items_of(rt.alloc(), list)?, first)
         }
         Call::Resolves(list) => resolves_by(rt, shared, pass, &items_of(rt.alloc(), list)?),
+        Call::TakesAll(list, numbers, wanted) => {
+            takes_all_by(
+                rt,
+                shared,
+                pass,
+                &items_of(rt.alloc(), list)?,
+                numbers,
+                wanted,
+            )
+        }
+        Call::FindsAll(texts, numbers) => finds_all_by(rt, shared, pass, texts, numbers),
         _ => Ok(false),
     }
 }

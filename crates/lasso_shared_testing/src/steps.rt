@@ -4,7 +4,7 @@ use crate::calls::{
     allocated, contains, copied, copied_as, copied_so, found, found_as, kept, kept_as, kept_so,
     len, limit, number, pass_of, set_limit, usage,
 };
-use crate::texts::{List, counted, items_of, numeral};
+use crate::texts::{KeyNumbers, List, counted, items_of, numeral};
 use lasso_parts::keys::Key;
 use lasso_parts::util::{LassoErrorKind, LassoResult};
 use lasso_shared::threaded::ThreadedRodeo;
@@ -126,6 +126,11 @@ pub enum Call {
     Takes(List, usize),
     /// Interns the texts of the list as static ones. The key of each resolves to it.
     Resolves(List),
+    /// Interns the texts of the list by one call, up to the one that is refused for this reason, if any. The
+    /// others have keys with these numbers, which resolve to them.
+    TakesAll(List, KeyNumbers, Option<LassoErrorKind>),
+    /// Looks the texts up by one call. They have these numbers, or are absent.
+    FindsAll(&'static [&'static str], &'static [Option<usize>]),
 }
 
 /// A call, and what it has to return.

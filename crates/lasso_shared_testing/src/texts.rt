@@ -135,3 +135,31 @@ pub fn items_of(alloc: Global, list: List) -> LassoResult<Vec<&'static str>> {
         List::But(count, position, text) => numerals_but(alloc, count, position, text),
     }
 }
+
+/// The numbers of the keys of a list of texts.
+#[derive(Clone, Copy)]
+pub enum KeyNumbers {
+    /// From this one on, each the next.
+    From(usize),
+    /// These, which are of the first texts.
+    Are(&'static [usize]),
+    /// Any.
+    Any,
+}
+
+/// How many keys there are of `count` texts.
+pub fn count_of(numbers: KeyNumbers, count: usize) -> usize {
+    match numbers {
+        KeyNumbers::Are(list) => list.len(),
+        _ => count,
+    }
+}
+
+/// Whether the key of the text at this place may have the number.
+pub fn may_have(numbers: KeyNumbers, place: usize, number: usize) -> bool {
+    match numbers {
+        KeyNumbers::From(first) => number == first.saturating_add(place),
+        KeyNumbers::Are(list) => list.get(place) == Some(&number),
+        KeyNumbers::Any => true,
+    }
+}

@@ -1,6 +1,7 @@
 //! Threads that intern texts in one interner.
 ghost use Rattle.std.specs.Prelude.{◌≡◌};
 
+mod batches;
 mod callers;
 mod copied;
 mod hints;

@@ -33,6 +33,23 @@ impl<K: Key> Pass<K> {
         let known = self.snapshot();
         self.hints.keep(hash, position, known);
     }
+
+    /// A guess at the position of a text with that hash, if the pass has a hint of it. The caller has to compare
+    /// the text there, and counts it by `count_hint` if it is the same.
+    #[inline(always)]
+    pub fn ask_hint(&mut self, hash: u64) -> Option<u64>
+        ensures { self.new ≡ self.old }
+    {
+        self.hints.find(hash)
+    }
+
+    /// Counts a position that `ask_hint` returned, if the text was there: hints that find few texts rest.
+    #[inline(always)]
+    pub fn count_hint(&mut self)
+        ensures { self.new ≡ self.old }
+    {
+        self.hints.count_hit();
+    }
 }
 
 impl<K: Key> Log<K> {

@@ -51,7 +51,7 @@ impl<K: Key, S: BuildHasher + Drop> Shards<K, S> {
     // Interns a text that the first look-up did not find. It stays out of line, so that present texts set up
     // nothing for it.
     #[inline(never)]
-    fn intern_new<R: Wait>(
+    pub(super) fn intern_new<R: Wait>(
         &self,
         rt: &R,
         pass: &mut Pass<K>,

@@ -21,7 +21,7 @@ use std::sync::Wait;
 
 // The key of a text's position in the list of a history that was seen.
 #[inline(always)]
-fn key_at<K: Key>(known: &Snapshot<K>, position: usize) -> K
+pub(super) fn key_at<K: Key>(known: &Snapshot<K>, position: usize) -> K
     requires { position < length (list_of known.now.of known.now.notes) }
     ensures { K.key_at position ≡ Some result }
 {
@@ -174,6 +174,27 @@ impl<K: Key, S: BuildHasher + Drop> Shards<K, S> {
         None
     }
 
+    // The same; the shard is locked for reading meanwhile.
+    #[inline(always)]
+    pub(super) fn get_locked<R: Wait>(
+        &self,
+        rt: &R,
+        pass: &mut Pass<K>,
+        hash: u64,
+        text: &str,
+    ) -> Option<K>
+        requires of { pass.old.of ≡ self.now.log }
+        requires hashed { hash ≡ text_hash S.build_hasher S.Hasher.write S.Hasher.finish self.now.hasher text.now }
+        ensures same { IsSamePass pass.new pass.old }
+        ensures since { Since pass.old.number pass.old.notes pass.new.notes [] }
+        ensures found { result ≡ key_of K.key_at (list_of self.now.log pass.new.notes) text.now }
+    {
+        let guard = self.lock(number_of(hash)).read(rt);
+        let found = self.look_up(rt, &guard.get().shard, pass, hash, text);
+        guard.unlock();
+        found
+    }
+
     /// The same without a pass. A present text is found in the history that its shard has seen; for an absent
     /// one a pass is made.
     pub fn get_once<R: Wait>(&self, rt: &R, text: &str) -> Option<K>
@@ -205,9 +226,6 @@ impl<K: Key, S: BuildHasher + Drop> Shards<K, S> {
         if let Some(key) = self.follow(pass, hash, text) {
             return Some(key);
         }
-        let guard = self.lock(number_of(hash)).read(rt);
-        let found = self.look_up(rt, &guard.get().shard, pass, hash, text);
-        guard.unlock();
-        found
+        self.get_locked(rt, pass, hash, text)
     }
 }

@@ -73,6 +73,24 @@ fn finds<R: Wait>(
     is_found && is_kept && is_copied
 }
 
+// Whether the pass finds and interns 70 of the text by calls for all of them.
+fn finds_all<R: Wait>(
+    rt: &R,
+    alloc: Global,
+    shards: &Shards<Spur, FirstState>,
+    pass: &mut Pass<Spur>,
+    text: &'static str,
+) -> LassoResult<bool>
+    requires { pass.old.of ≡ shards.now.log }
+    ensures { pass.new.of ≡ pass.old.of }
+{
+    let texts = [text; 70];
+    let (mut found, mut keys) = (Vec::new(alloc), Vec::new(alloc));
+    shards.get_all(rt, pass, &texts, &mut found)?;
+    shards.intern_all(rt, pass, &texts, &mut keys)?;
+    Ok(found.len() == 70 && found.last().copied() == Some(keys.first().copied()))
+}
+
 // Keeps a hint of the text, and finds the text once its shard is held.
 fn keep_and_find<R: Wait>(
     rt: &R,
@@ -85,7 +103,10 @@ fn keep_and_find<R: Wait>(
     let hinted = keep_hint(rt, alloc, shards, &mut pass, text);
     set(&meeting.kept);
     hinted?;
-    if is_seen(&meeting.held) && finds(rt, shards, &mut pass, text) {
+    if is_seen(&meeting.held)
+        && finds(rt, shards, &mut pass, text)
+        && finds_all(rt, alloc, shards, &mut pass, text)?
+    {
         set(&meeting.found);
     }
     Ok(())

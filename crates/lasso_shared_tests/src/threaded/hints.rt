@@ -47,7 +47,7 @@ fn hints_after_a_refusal_for_lack_of_keys(rt: HostRuntime) -> Result<(), Fail> {
 }
 
 // How many of the shards have one of the texts.
-fn shards_of(texts: &[&str]) -> usize {
+pub fn shards_of(texts: &[&str]) -> usize {
     let hasher = FixedState::new();
     let mut found = [false; 16];
     for text in texts.iter() {

@@ -1,0 +1,187 @@
+//! Looking ahead at the texts of a list, and taking them one after another.
+//!
+//! The hints of the pass are asked for all of them, and then each shard that has texts without a guess is locked
+//! once for reading. Then the length of the list is read, and the texts at the guesses are looked at. No text is
+//! interned by a look ahead.
+ghost use Rattle.std.specs.Prelude.{◌≡◌, [], Some, IfSome};
+ghost use Rattle.lasso_parts.specs.Texts.{key_of};
+ghost use Rattle.lasso_log.specs.Notes.{Since};
+ghost use Rattle.lasso_log.specs.Replies.{Copied, Intern, Interned, Get, Found};
+ghost use Rattle.lasso_log.specs.Calls.{IsCall};
+ghost use Rattle.lasso_log.specs.Views.{PassView, InternerId, SnapshotView, IsSamePass, list_of, seen};
+
+use crate::shards::Shards;
+use crate::shards::guesses::{Guess, Guesses, TOGETHER};
+use crate::shards::look::key_at;
+use crate::shards::new_text::NewText;
+use crate::shards::tag::SHARDS;
+use lasso_log::log::{KnownList, Pass};
+use lasso_parts::index::hash_text;
+use lasso_parts::keys::Key;
+use lasso_parts::same::is_alike;
+use lasso_parts::util::LassoResult;
+use std::hash::BuildHasher;
+use std::sync::Wait;
+
+/// What is known of the texts that come next: a list that was seen, and guesses at their positions in it.
+#[derive(Drop)]
+pub(super) struct Ahead<K: Key> {
+    list: KnownList<K>,
+    guesses: Guesses,
+}
+
+impl<K: Key, S: BuildHasher + Drop> Shards<K, S> {
+    // Nothing is known yet.
+    #[inline(always)]
+    pub(super) fn nothing_ahead(&self) -> Ahead<K>
+        ensures { result.list.of ≡ self.now.log }
+    {
+        Ahead {
+            list: self.log.unknown_list(),
+            guesses: Guesses::new(),
+        }
+    }
+
+    // Guesses at texts that have no guess, with each of their shards locked once for reading.
+    fn guess_in_shards<R: Wait>(&self, rt: &R, guesses: &mut Guesses) {
+        let places = guesses.places_left();
+        for number in 0..SHARDS {
+            if places[number] != 0 {
+                let guard = self.lock(number).read(rt);
+                guesses.guess_in(&guard.get().shard.index, places[number]);
+                guard.unlock();
+            }
+        }
+    }
+
+    // Looks at the texts at the guesses, so that they are near when the texts are compared.
+    fn look_at_guesses(&self, list: &KnownList<K>, texts: &[&str], guesses: &mut Guesses)
+        requires { list.now.of ≡ self.now.log }
+    {
+        let size = texts.len().min(TOGETHER);
+        let mut there = [""; TOGETHER];
+        for place in 0..size {
+            if let Some(position) = guesses.each[place].position {
+                there[place] = self.log.text_in(list, position).unwrap_or("");
+            }
+        }
+        for place in 0..size {
+            guesses.each[place].is_alike = is_alike(there[place], texts[place]);
+        }
+    }
+
+    // Looks ahead at the first texts, if all guesses were taken.
+    #[inline(always)]
+    pub(super) fn look_ahead<R: Wait>(
+        &self,
+        rt: &R,
+        pass: &mut Pass<K>,
+        texts: &[&str],
+        ahead: &mut Ahead<K>,
+    )
+        requires of { (pass.old.of ≡ self.now.log) × (ahead.old.list.of ≡ self.now.log) }
+        ensures of { ahead.new.list.of ≡ self.now.log }
+        ensures same { IsSamePass pass.new pass.old }
+        ensures since { Since pass.old.number pass.old.notes pass.new.notes [] }
+    {
+        if ahead.guesses.are_taken() {
+            self.look_further(rt, pass, texts, ahead);
+        }
+    }
+
+    // Looks ahead at the first texts.
+    #[inline(never)]
+    fn look_further<R: Wait>(
+        &self,
+        rt: &R,
+        pass: &mut Pass<K>,
+        texts: &[&str],
+        ahead: &mut Ahead<K>,
+    )
+        requires { pass.old.of ≡ self.now.log }
+        ensures of { ahead.new.list.of ≡ self.now.log }
+        ensures same { IsSamePass pass.new pass.old }
+        ensures since { Since pass.old.number pass.old.notes pass.new.notes [] }
+    {
+        ahead.guesses.begin(&self.hasher, texts);
+        ahead.guesses.ask_hints(pass);
+        self.guess_in_shards(rt, &mut ahead.guesses);
+        ahead.list = self.log.known_list(pass);
+        self.look_at_guesses(&ahead.list, texts, &mut ahead.guesses);
+    }
+
+    // The key of the text, if it is at the guess.
+    #[inline(always)]
+    fn key_guessed(
+        &self,
+        pass: &mut Pass<K>,
+        list: &KnownList<K>,
+        guess: Guess,
+        text: &str,
+    ) -> Option<K>
+        requires of { (pass.old.of ≡ self.now.log) × (list.now.of ≡ self.now.log) }
+        ensures same { IsSamePass pass.new pass.old }
+        ensures since { Since pass.old.number pass.old.notes pass.new.notes [] }
+        ensures found { IfSome result (λ k. key_of K.key_at (list_of self.now.log pass.new.notes) text.now ≡ Some k) }
+    {
+        let position = guess.likely_position()?;
+        if !self.log.is_text_at(pass, list, position, text) {
+            return None;
+        }
+        pass.prove_legal();
+        guess.keep_in(pass, position);
+        let known = pass.snapshot();
+        Some(key_at(&known, position as usize))
+    }
+
+    // Interns the next text of those that were looked ahead at. Without a guess it was absent, so it goes to its
+    // shard at once. With any other text nothing wrong is returned.
+    #[inline(always)]
+    pub(super) fn intern_next<R: Wait>(
+        &self,
+        rt: &R,
+        pass: &mut Pass<K>,
+        text: &str,
+        ahead: &mut Ahead<K>,
+    ) -> LassoResult<K>
+        requires of { (pass.old.of ≡ self.now.log) × (ahead.old.list.of ≡ self.now.log) }
+        ensures of { ahead.new.list.of ≡ self.now.log }
+        ensures same { IsSamePass pass.new pass.old }
+        ensures call { IsCall K.key_at self.now.log.opening (seen pass.old) (seen pass.new) pass.old.number (Intern Copied text.now) (Interned result) }
+    {
+        let guess = ahead.guesses.take();
+        if let Some(key) = self.key_guessed(pass, &ahead.list, guess, text) {
+            return Ok(key);
+        }
+        if guess.position.is_some() {
+            return self.intern_copied(rt, pass, text);
+        }
+        self.intern_new(
+            rt,
+            pass,
+            hash_text(&self.hasher, text),
+            NewText::Copied(text),
+        )
+    }
+
+    // Looks up the next text of those that were looked ahead at. With any other text nothing wrong is returned.
+    #[inline(always)]
+    pub(super) fn get_next<R: Wait>(
+        &self,
+        rt: &R,
+        pass: &mut Pass<K>,
+        text: &str,
+        ahead: &mut Ahead<K>,
+    ) -> Option<K>
+        requires of { (pass.old.of ≡ self.now.log) × (ahead.old.list.of ≡ self.now.log) }
+        ensures of { ahead.new.list.of ≡ self.now.log }
+        ensures same { IsSamePass pass.new pass.old }
+        ensures call { IsCall K.key_at self.now.log.opening (seen pass.old) (seen pass.new) pass.old.number (Get text.now) (Found result) }
+    {
+        let guess = ahead.guesses.take();
+        if let Some(key) = self.key_guessed(pass, &ahead.list, guess, text) {
+            return Some(key);
+        }
+        self.get_locked(rt, pass, hash_text(&self.hasher, text), text)
+    }
+}
