@@ -4,8 +4,9 @@
 -- interner's list is that of the distinct lines so far. So the report of the first lines is a beginning of
 -- the report of all, and what is written after each line is the report so far. A run that ends early has
 -- written the report of the lines before, or a beginning of it.
-use Rattle.std.proofs.Common.{ℕ, ◌≡◌, ◌+◌, List, [], ◌∷◌, ◌++◌, length, take, drop, Bool, true, false, cond, is_some, Result, Ok, Err, ◌⊎◌, refl, sym, ap, subst, ◌∙◌, append_assoc, inl, inr, ◌-◌, ◌^◌, ◌≤◌, arith}
+use Rattle.std.proofs.Common.{ℕ, ◌≡◌, ◌+◌, List, [], ◌∷◌, ◌++◌, length, take, drop, Option, Some, Bool, true, false, cond, is_some, Result, Ok, Err, ◌⊎◌, refl, sym, ap, subst, ◌∙◌, append_assoc, inl, inr, ◌-◌, ◌^◌, ◌≤◌, arith}
 use Rattle.std.specs.Prelude.{flat_map, All, slice_get, IsSomeAnd}
+use Rattle.std.specs.Io.{StopsAt}
 use Rattle.std.specs.Str.{IsUtf8}
 use Rattle.std.proofs.lemmas.List.{append-nil, take-append-drop}
 use Rattle.lasso_parts.specs.Texts.{Text, position_of}
@@ -21,11 +22,11 @@ use Rattle.lasso_columns.specs.Parts.{new_texts}
 use Rattle.lasso_columns.specs.declared.faults.LineError.TheVariants.{Refused}
 use Rattle.lasso_parts.specs.declared.util.LassoErrorKind.TheVariants.{FailedAllocation}
 use Rattle.lasso_counts.proofs.Counted.{list_push}
-use Rattle.lasso_codes.specs.Distinct.{with_feed, distinct_report, passed, PassError, DistinctEnd}
+use Rattle.lasso_codes.specs.Distinct.{with_feed, distinct_report, passed, FailsAt, PassError, DistinctEnd}
 use Rattle.lasso_codes.specs.Errors.{IsReadError, IsWriteError, IsWriteEnd}
 use Rattle.lasso_codes.specs.Limits.{AreTaken}
 use Rattle.lasso_codes.specs.Stages.{OnTheWay}
-use Rattle.lasso_codes.specs.Streams.{Begins}
+use Rattle.lasso_codes.specs.Streams.{Begins, IsFed, LosesPart}
 use Rattle.lasso_codes.specs.declared.error.RunError.{RunError}
 use Rattle.lasso_codes.specs.declared.error.RunError.TheVariants.{Line, TooManyLines, ReadFailed, WriteFailed, ReaderGone, Column}
 use Rattle.lasso_codes.proofs.Taken.{taken_push, taken_all, taken_first, taken_texts, taken_few, taken_next}
@@ -64,15 +65,32 @@ first_begins lines n part is =
 way_list : (input : List ℕ) (limit : ℕ) (rest : List ℕ) (number : ℕ) (now : InternerView) (part : List ℕ) (way : OnTheWay input limit rest number now part) → now.texts ≡ new_texts [] way.done
 way_list input limit rest number now part way = list_extended (made_with 4096 limit) now way.done way.list
 
+nothing_after : (begun left : List ℕ) → begun ++ left ≡ [] → left ≡ []
+nothing_after [] left none = none
+nothing_after (b ∷ begun) left none = absurd (cc)
+
+-- what was read is the lines with their line feeds
+fed_both : (input rest left : List ℕ) (done : List Text) (line : Text) → (input ≡ flat_map with_feed done ++ rest) ⊎ (rest ≡ []) → IsFed rest line left → lines_of rest ≡ line ∷ lines_of left → (input ≡ flat_map with_feed (done ++ line ∷ []) ++ left) ⊎ (left ≡ [])
+fed_both input rest left done line (inl so_far) (inl ended) cut =
+    let more : rest ≡ with_feed line ++ left = ended ∙ sym (append_assoc line (10 ∷ []) left) in
+    inl (so_far ∙ ap (λ bs. flat_map with_feed done ++ bs) more ∙ sym (append_assoc (flat_map with_feed done) (with_feed line) left) ∙ ap (λ bs. bs ++ left) (sym (fed_push done line)))
+fed_both input rest left done line (inl so_far) (inr none) cut = inr none
+fed_both input rest left done line (inr none) ended cut = let same : lines_of [] ≡ line ∷ lines_of left = ap lines_of (sym none) ∙ cut in absurd (cc)
+
+-- a line that a line feed ends, whatever follows the bytes
+pub fed_more : (bytes line rest later : List ℕ) → bytes ≡ line ++ 10 ∷ rest → bytes ++ later ≡ line ++ 10 ∷ (rest ++ later)
+fed_more bytes line rest later is = ap (λ bs. bs ++ later) is ∙ append_assoc line (10 ∷ rest) later
+
 -- one line more
-pub way_push : (input : List ℕ) (limit : ℕ) (rest : List ℕ) (number : ℕ) (now after : InternerView) (part more left : List ℕ) (line : Text) (key : ℕ) → OnTheWay input limit rest number now part → lines_of rest ≡ line ∷ lines_of left → IsUtf8 line → InternsIn spur_at now line (Ok key) after → more ≡ passed now.texts line → OnTheWay input limit left (number + 1) after (part ++ more)
-way_push input limit rest number now after part more left line key way cut text interns is = record {
+pub way_push : (input : List ℕ) (limit : ℕ) (rest : List ℕ) (number : ℕ) (now after : InternerView) (part more left : List ℕ) (line : Text) (key : ℕ) → OnTheWay input limit rest number now part → lines_of rest ≡ line ∷ lines_of left → IsUtf8 line → InternsIn spur_at now line (Ok key) after → more ≡ passed now.texts line → IsFed rest line left → OnTheWay input limit left (number + 1) after (part ++ more)
+way_push input limit rest number now after part more left line key way cut text interns is ended = record {
   done = way.done ++ line ∷ [];
   taken = taken_push input rest number way.done line left way.taken cut text;
   list = extend_push spur_at (made_with 4096 limit) now after way.done line (Ok key) accepted way.list interns refl;
   part_is =
       ap (λ bs. bs ++ more) way.part_is ∙ ap (λ bs. distinct_report way.done ++ bs) (is ∙ ap (λ (ls : List Text). passed ls line) (way_list input limit rest number now part way))
       ∙ sym (report_push way.done line);
+  fed = fed_both input rest left way.done line way.fed ended cut;
 }
 
 module _ (input : List ℕ) (limit : ℕ) (rest : List ℕ) (number : ℕ) (now : InternerView) (part : List ℕ) (way : OnTheWay input limit rest number now part) where
@@ -100,31 +118,41 @@ module _ (input : List ℕ) (limit : ℕ) (rest : List ℕ) (number : ℕ) (now 
   first_taken = (first_texts, (now, first_list))
 
   -- the input has ended
-  pub way_ends : rest ≡ [] → DistinctEnd input limit part (Ok tt)
-  way_ends none =
+  pub way_ends : (after : Option (List ℕ)) → rest ≡ [] → DistinctEnd input limit after part (Ok tt)
+  way_ends after none =
       let all : lines_of input ≡ way.done = taken_all input rest number way.done way.taken none in
       (subst (λ (ls : List Text). AreTaken limit ls) (sym all) (way.taken.texts, (now, way.list)), way.part_is ∙ ap distinct_report (sym all))
 
   -- there are more lines than `usize` can number
-  pub way_many : 2 ^ 64 - 1 ≤ number → DistinctEnd input limit part (Err TooManyLines)
-  way_many many = (length way.done, way_first, omega (arith, number_is, many), lines_few, first_taken)
+  pub way_many : (after : Option (List ℕ)) → 2 ^ 64 - 1 ≤ number → DistinctEnd input limit after part (Err TooManyLines)
+  way_many after many = (length way.done, way_first, omega (arith, number_is, many), lines_few, first_taken)
 
-  pub way_read_fails : (error : RunError) → IsReadError number error → DistinctEnd input limit part (Err error)
-  way_read_fails (Line error) is =
+  -- a read fails at the next line, or at the end
+  fails_where : (begun left : List ℕ) → rest ≡ begun ++ left → StopsAt begun 10 → (input ≡ flat_map with_feed way.done ++ rest) ⊎ (rest ≡ []) → ((bs : List ℕ) × (input ≡ flat_map with_feed (take (length way.done) (lines_of input)) ++ (bs ++ left)) × StopsAt bs 10) ⊎ ((length way.done ≡ length (lines_of input)) × (left ≡ []))
+  fails_where begun left split stops (inl fed) =
+      let done : take (length way.done) (lines_of input) ≡ way.done = taken_first input rest number way.done way.taken in
+      inl (begun, fed ∙ ap (λ bs. flat_map with_feed way.done ++ bs) split ∙ ap (λ (ls : List Text). flat_map with_feed ls ++ (begun ++ left)) (sym done), stops)
+  fails_where begun left split stops (inr none) = inr (ap length (sym (taken_all input rest number way.done way.taken none)), nothing_after begun left (sym split ∙ none))
+
+  fails_at : (before after : Option (List ℕ)) → before ≡ Some rest → LosesPart before after → FailsAt input (length way.done) after
+  fails_at before after there lost = let cut = lost rest there in (cut.1, cut.2, fails_where cut.0 cut.1 cut.3 cut.4 way.fed)
+
+  pub way_read_fails : (before after : Option (List ℕ)) (error : RunError) → before ≡ Some rest → LosesPart before after → IsReadError number error → DistinctEnd input limit after part (Err error)
+  way_read_fails before after (Line error) there lost is =
       (length way.done, way_first, inr (first_texts, (now, first_list, inl (is ∙ ap (λ n. Refused n FailedAllocation) (sym number_is), lines_few))))
-  way_read_fails TooManyLines is = absurd is
-  way_read_fails ReadFailed is = (length way.done, way_first, first_taken)
-  way_read_fails WriteFailed is = absurd is
-  way_read_fails ReaderGone is = absurd is
-  way_read_fails (Column column error) is = absurd is
+  way_read_fails before after TooManyLines there lost is = absurd is
+  way_read_fails before after ReadFailed there lost is = (length way.done, way_first, first_taken, fails_at before after there lost)
+  way_read_fails before after WriteFailed there lost is = absurd is
+  way_read_fails before after ReaderGone there lost is = absurd is
+  way_read_fails before after (Column column error) there lost is = absurd is
 
-  pub way_write_fails : (error : RunError) → IsWriteError error → DistinctEnd input limit part (Err error)
-  way_write_fails (Line error) is = absurd is
-  way_write_fails TooManyLines is = absurd is
-  way_write_fails ReadFailed is = absurd is
-  way_write_fails WriteFailed is = way_begins
-  way_write_fails ReaderGone is = way_begins
-  way_write_fails (Column column error) is = absurd is
+  pub way_write_fails : (after : Option (List ℕ)) (error : RunError) → IsWriteError error → DistinctEnd input limit after part (Err error)
+  way_write_fails after (Line error) is = absurd is
+  way_write_fails after TooManyLines is = absurd is
+  way_write_fails after ReadFailed is = absurd is
+  way_write_fails after WriteFailed is = way_begins
+  way_write_fails after ReaderGone is = way_begins
+  way_write_fails after (Column column error) is = absurd is
 
   -- the next line is refused or not UTF-8, or a part of it was written
   passed_begins : (line more : List ℕ) (left : List (List ℕ)) → lines_of rest ≡ line ∷ left → Begins more (passed now.texts line) → Begins (part ++ more) (distinct_report (lines_of input))
@@ -136,45 +164,45 @@ module _ (input : List ℕ) (limit : ℕ) (rest : List ℕ) (number : ℕ) (now 
       begins_then (part ++ more) (distinct_report (way.done ++ line ∷ [])) (distinct_report (lines_of input)) there
       (subst (λ (ls : List Text). Begins (distinct_report (way.done ++ line ∷ [])) (distinct_report ls)) whole (report_begins (way.done ++ line ∷ []) left))
 
-  pub way_pass_fails : (line more left : List ℕ) (error : RunError) → lines_of rest ≡ line ∷ lines_of left → PassError now line number more error → DistinctEnd input limit (part ++ more) (Err error)
-  way_pass_fails line more left (Line error) cut is =
+  pub way_pass_fails : (after : Option (List ℕ)) (line more left : List ℕ) (error : RunError) → lines_of rest ≡ line ∷ lines_of left → PassError now line number more error → DistinctEnd input limit after (part ++ more) (Err error)
+  way_pass_fails after line more left (Line error) cut is =
       let same : part ++ more ≡ part = ap (λ bs. part ++ bs) is.0 ∙ append-nil part in
       let faulty : IsFaultOf now line (length way.done + 1) error = subst (λ n. IsFaultOf now line n error) (sym number_is) is.1 in
       let next : IsSomeAnd (slice_get (lines_of input) (length way.done)) (λ l. IsFaultOf now l (length way.done + 1) error) =
       subst (λ o. IsSomeAnd o (λ l. IsFaultOf now l (length way.done + 1) error)) (sym (taken_next input rest number way.done line (lines_of left) way.taken cut)) faulty in
       (length way.done, same ∙ way_first, inr (first_texts, (now, first_list, inr next)))
-  way_pass_fails line more left TooManyLines cut is = absurd is
-  way_pass_fails line more left ReadFailed cut is = absurd is
-  way_pass_fails line more left WriteFailed cut is = passed_begins line more (lines_of left) cut is
-  way_pass_fails line more left ReaderGone cut is = passed_begins line more (lines_of left) cut is
-  way_pass_fails line more left (Column column error) cut is = absurd is
+  way_pass_fails after line more left TooManyLines cut is = absurd is
+  way_pass_fails after line more left ReadFailed cut is = absurd is
+  way_pass_fails after line more left WriteFailed cut is = passed_begins line more (lines_of left) cut is
+  way_pass_fails after line more left ReaderGone cut is = passed_begins line more (lines_of left) cut is
+  way_pass_fails after line more left (Column column error) cut is = absurd is
 
 -- ---- the end
 
 -- there was no memory for the interner
-pub end_unmade : (input : List ℕ) (limit : ℕ) (error : RunError) → error ≡ Line (Refused 0 FailedAllocation) → DistinctEnd input limit [] (Err error)
-end_unmade input limit error is = subst (λ f. DistinctEnd input limit [] (Err f)) (sym is) (0, refl, inl (refl, refl))
+pub end_unmade : (input : List ℕ) (limit : ℕ) (after : Option (List ℕ)) (error : RunError) → error ≡ Line (Refused 0 FailedAllocation) → DistinctEnd input limit after [] (Err error)
+end_unmade input limit after error is = subst (λ f. DistinctEnd input limit after [] (Err f)) (sym is) (0, refl, inl (refl, refl))
 
 -- what is written when the last flush fails is a beginning
-end_begins : (input : List ℕ) (limit : ℕ) (part : List ℕ) (result : Result (Unit {0}) RunError) → DistinctEnd input limit part result → Begins part (distinct_report (lines_of input))
-end_begins input limit part (Ok x) end = ([], sym end.1 ∙ sym (append-nil part))
-end_begins input limit part (Err (Line error)) end = first_begins (lines_of input) end.0 part end.1
-end_begins input limit part (Err TooManyLines) end = first_begins (lines_of input) end.0 part end.1
-end_begins input limit part (Err ReadFailed) end = first_begins (lines_of input) end.0 part end.1
-end_begins input limit part (Err WriteFailed) end = end
-end_begins input limit part (Err ReaderGone) end = end
-end_begins input limit part (Err (Column column error)) end = absurd end
+end_begins : (input : List ℕ) (limit : ℕ) (after : Option (List ℕ)) (part : List ℕ) (result : Result (Unit {0}) RunError) → DistinctEnd input limit after part result → Begins part (distinct_report (lines_of input))
+end_begins input limit after part (Ok x) end = ([], sym end.1 ∙ sym (append-nil part))
+end_begins input limit after part (Err (Line error)) end = first_begins (lines_of input) end.0 part end.1
+end_begins input limit after part (Err TooManyLines) end = first_begins (lines_of input) end.0 part end.1
+end_begins input limit after part (Err ReadFailed) end = first_begins (lines_of input) end.0 part end.1
+end_begins input limit after part (Err WriteFailed) end = end
+end_begins input limit after part (Err ReaderGone) end = end
+end_begins input limit after part (Err (Column column error)) end = absurd end
 
-write_end : (input : List ℕ) (limit : ℕ) (part : List ℕ) (result : Result (Unit {0}) RunError) → Begins part (distinct_report (lines_of input)) → IsWriteEnd result → DistinctEnd input limit part result
-write_end input limit part (Ok x) begun is = absurd is
-write_end input limit part (Err (Line error)) begun is = absurd is
-write_end input limit part (Err TooManyLines) begun is = absurd is
-write_end input limit part (Err ReadFailed) begun is = absurd is
-write_end input limit part (Err WriteFailed) begun is = begun
-write_end input limit part (Err ReaderGone) begun is = begun
-write_end input limit part (Err (Column column error)) begun is = absurd is
+write_end : (input : List ℕ) (limit : ℕ) (after : Option (List ℕ)) (part : List ℕ) (result : Result (Unit {0}) RunError) → Begins part (distinct_report (lines_of input)) → IsWriteEnd result → DistinctEnd input limit after part result
+write_end input limit after part (Ok x) begun is = absurd is
+write_end input limit after part (Err (Line error)) begun is = absurd is
+write_end input limit after part (Err TooManyLines) begun is = absurd is
+write_end input limit after part (Err ReadFailed) begun is = absurd is
+write_end input limit after part (Err WriteFailed) begun is = begun
+write_end input limit after part (Err ReaderGone) begun is = begun
+write_end input limit after part (Err (Column column error)) begun is = absurd is
 
 -- the run ends as it did before the flush, or with the error of the flush
-pub end_then : (input : List ℕ) (limit : ℕ) (part : List ℕ) (given result : Result (Unit {0}) RunError) → DistinctEnd input limit part given → (result ≡ given) ⊎ IsWriteEnd result → DistinctEnd input limit part result
-end_then input limit part given result end (inl same) = subst (DistinctEnd input limit part) (sym same) end
-end_then input limit part given result end (inr is) = write_end input limit part result (end_begins input limit part given end) is
+pub end_then : (input : List ℕ) (limit : ℕ) (after : Option (List ℕ)) (part : List ℕ) (given result : Result (Unit {0}) RunError) → DistinctEnd input limit after part given → (result ≡ given) ⊎ IsWriteEnd result → DistinctEnd input limit after part result
+end_then input limit after part given result end (inl same) = subst (DistinctEnd input limit after part) (sym same) end
+end_then input limit after part given result end (inr is) = write_end input limit after part result (end_begins input limit after part given end) is

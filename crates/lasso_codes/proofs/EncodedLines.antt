@@ -5,7 +5,7 @@
 -- left, all lines were encoded, and the list is their dictionary. The column is written after that, from its
 -- start, so what was written when a write fails is a beginning of it.
 use Rattle.std.proofs.Common.{ℕ, ◌≡◌, ◌+◌, ◌^◌, ◌<◌, ◌≤◌, ◌==◌, Bool, true, false, not, cond, List, [], ◌∷◌, ◌++◌, length, map, take, is_some, Option, Some, None, ◌⊎◌, Result, Ok, Err, refl, sym, ap, subst, ◌∙◌, arith, inl, inr, ◌-◌}
-use Rattle.std.specs.Prelude.{All, slice_get, IsSomeAnd}
+use Rattle.std.specs.Prelude.{All, slice_get, IfSome, IsSomeAnd}
 use Rattle.std.specs.Str.{IsUtf8}
 use Rattle.std.proofs.lemmas.Bool.Decides.{nat_tests}
 use Rattle.std.proofs.lemmas.List.{append-nil, length-map}
@@ -25,7 +25,7 @@ use Rattle.lasso_columns.specs.Parts.{new_texts}
 use Rattle.lasso_columns.specs.declared.faults.LineError.{LineError}
 use Rattle.lasso_columns.specs.declared.faults.LineError.TheVariants.{Refused}
 use Rattle.lasso_codes.specs.Columns.{is_null, texts_of, dictionary_of, entry_of, entry_at, column_of, column_bytes}
-use Rattle.lasso_codes.specs.Encode.{IsNumberedAs, IsNumbered, AreNumbered, AreCodable, EncodingError, EncodeEnd}
+use Rattle.lasso_codes.specs.Encode.{IsNoNull, IsNumberedAs, IsNumbered, AreNumbered, AreCodable, EncodingError, EncodeEnd}
 use Rattle.lasso_codes.specs.Errors.{IsReadError, IsWriteEnd}
 use Rattle.lasso_codes.specs.Limits.{Admits}
 use Rattle.lasso_codes.specs.Stages.{IsEntryAs, AreEntries, Encoding}
@@ -150,9 +150,15 @@ module _ (input rest : List ℕ) (number : ℕ) (null : Option Text) (old now : 
   pub encoding_many : (limit : ℕ) → 2 ^ 64 - 1 ≤ number → EncodingError limit null (lines_of input) TooManyLines
   encoding_many limit many = omega (arith, so_far.taken.counted, lines_few, many)
 
+  -- memory ran out, so a null may be concerned too
+  lacks : (error : LineError) → error ≡ Refused (length so_far.done + 1) FailedAllocation → (o : Option Text) → IfSome o (λ line. IsNoNull null line error)
+  lacks error is None = tt
+  lacks error is (Some line) = subst (IsNoNull null line) (sym is) (inl refl)
+
   pub encoding_read_fails : (limit : ℕ) (error : RunError) → old ≡ made_with 4096 limit → IsReadError number error → EncodingError limit null (lines_of input) error
   encoding_read_fails limit (Line error) made is =
-      (length so_far.done, inr (first_texts, (now, first_list limit made, inl (is ∙ ap (λ n. Refused n FailedAllocation) (sym so_far.taken.counted), lines_few))))
+      let full = is ∙ ap (λ n. Refused n FailedAllocation) (sym so_far.taken.counted) in
+      (length so_far.done, inr (first_texts, (now, first_list limit made, inl (full, lines_few)), lacks error full (slice_get (lines_of input) (length so_far.done))))
   encoding_read_fails limit TooManyLines made is = absurd is
   encoding_read_fails limit ReadFailed made is = tt
   encoding_read_fails limit WriteFailed made is = absurd is
@@ -160,12 +166,13 @@ module _ (input rest : List ℕ) (number : ℕ) (null : Option Text) (old now : 
   encoding_read_fails limit (Column column error) made is = absurd is
 
   -- the next line is refused or not UTF-8
-  pub encoding_line_fails : (limit : ℕ) (line left : List ℕ) (error : LineError) → old ≡ made_with 4096 limit → lines_of rest ≡ line ∷ lines_of left → IsFaultOf now line number error → EncodingError limit null (lines_of input) (Line error)
-  encoding_line_fails limit line left error made cut is =
+  pub encoding_line_fails : (limit : ℕ) (line left : List ℕ) (error : LineError) → old ≡ made_with 4096 limit → lines_of rest ≡ line ∷ lines_of left → IsFaultOf now line number error → IsNoNull null line error → EncodingError limit null (lines_of input) (Line error)
+  encoding_line_fails limit line left error made cut is no_null =
+      let there : slice_get (lines_of input) (length so_far.done) ≡ Some line = taken_next input rest number so_far.done line (lines_of left) so_far.taken cut in
       let faulty : IsFaultOf now line (length so_far.done + 1) error = subst (λ n. IsFaultOf now line n error) (sym so_far.taken.counted) is in
       let next : IsSomeAnd (slice_get (lines_of input) (length so_far.done)) (λ l. IsFaultOf now l (length so_far.done + 1) error) =
-      subst (λ o. IsSomeAnd o (λ l. IsFaultOf now l (length so_far.done + 1) error)) (sym (taken_next input rest number so_far.done line (lines_of left) so_far.taken cut)) faulty in
-      (length so_far.done, inr (first_texts, (now, first_list limit made, inr next)))
+      subst (λ o. IsSomeAnd o (λ l. IsFaultOf now l (length so_far.done + 1) error)) (sym there) faulty in
+      (length so_far.done, inr (first_texts, (now, first_list limit made, inr next), subst (λ o. IfSome o (λ l. IsNoNull null l error)) (sym there) no_null))
 
 -- ---- the column
 

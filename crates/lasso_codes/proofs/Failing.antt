@@ -3,11 +3,11 @@
 -- A call that only reads doesn't end with a failed write, and one that only writes not with a failed read.
 -- If the run had ended at a failed write, nothing is flushed. Else the writer counts at most the flush, which is
 -- a failed write exactly if the run then ends with one.
-use Rattle.std.proofs.Common.{ℕ, ◌≡◌, ◌+◌, ◌⊎◌, List, Option, Result, Ok, Err, IfErr, refl, sym, ap, subst, ◌∙◌, arith, inl, inr}
-use Rattle.lasso_codes.specs.Errors.{failed_reads, failed_writes, gone_readers, IsDataError, IsInputError, IsOutputError, IsReadError, IsWriteError, IsWriteEnd}
+use Rattle.std.proofs.Common.{ℕ, ◌≡◌, ◌+◌, ◌≤◌, ◌⊎◌, List, Option, Result, Ok, Err, IfErr, refl, sym, ap, subst, ◌∙◌, arith, inl, inr}
+use Rattle.lasso_codes.specs.Errors.{failed_reads, failed_writes, gone_readers, FailsWriting, IsDataError, IsInputError, IsOutputError, IsReadError, IsWriteError, IsWriteEnd}
 use Rattle.lasso_codes.specs.Reading.{HeaderError}
 use Rattle.lasso_codes.specs.Streams.{WritesAll}
-use Rattle.lasso_codes.specs.Views.{OutputView}
+use Rattle.lasso_codes.specs.Views.{InputView, OutputView}
 use Rattle.lasso_codes.specs.declared.error.RunError.{RunError}
 use Rattle.lasso_codes.specs.declared.error.RunError.TheVariants.{Line, TooManyLines, ReadFailed, WriteFailed, ReaderGone, Column}
 
@@ -151,3 +151,31 @@ module _ (before mid after : OutputView) (ended result : Ended) (none : IsWriteE
       either : IsWriteEnd ended ⊎ (¬ (IsWriteEnd ended)) → after.gone ≡ before.gone + gone_readers result
       either (inl is) = let told = none is in ap (λ (v : OutputView). v.gone) told.1 ∙ count ∙ ap (λ (r : Ended). before.gone + gone_readers r) (sym told.0)
       either (inr none_wrote) = let now = flushed none_wrote other in let nothing = none_gone ended none_wrote in omega (arith, now, count, nothing)
+
+pub gone_once : {X : Type 0} (result : Result X RunError) → gone_readers result ≤ 1
+gone_once (Ok x) = omega arith
+gone_once (Err (Line error)) = omega arith
+gone_once (Err TooManyLines) = omega arith
+gone_once (Err ReadFailed) = omega arith
+gone_once (Err WriteFailed) = omega arith
+gone_once (Err ReaderGone) = omega arith
+gone_once (Err (Column column error)) = omega arith
+
+-- a run that ends with a failed write: it was the first error, or another one came before the last flush
+module _ (read read' : InputView) (before mid after : OutputView) (result : Ended) (P : RunError → Type 0) (failed : result ≡ Err WriteFailed) where
+  later : (ended : Ended) (error : RunError) → ended ≡ Err error → ¬ (IsWriteError error) → gone_readers ended ≡ 0 → read'.failures ≡ read.failures + failed_reads ended → mid.gone ≡ before.gone + gone_readers ended → after.gone ≤ mid.gone + 1 → P error → FailsWriting read read' before after P
+  later ended error is other none reads gone most told = inr (error, other, subst (λ (r : Ended). read'.failures ≡ read.failures + failed_reads r) is reads, omega (arith, none, gone, most), told)
+
+  pub fails_writing : (ended : Ended) → (IsWriteEnd ended → (result ≡ ended) × (after ≡ mid)) → read'.failures ≡ read.failures + failed_reads ended → mid.gone ≡ before.gone + gone_readers ended → (ended ≡ Ok tt → after.gone ≡ mid.gone + gone_readers result) → after.gone ≤ mid.gone + 1 → ((error : RunError) → ended ≡ Err error → P error) → FailsWriting read read' before after P
+  fails_writing (Ok x) none reads gone alone most told =
+      let last = alone refl in
+      let whole : gone_readers result ≡ 0 = ap gone_readers failed in
+      inl (omega (arith, reads), omega (arith, last, gone, whole))
+  fails_writing (Err (Line error)) none reads gone alone most told = later (Err (Line error)) (Line error) refl (λ is. absurd is) refl reads gone most (told (Line error) refl)
+  fails_writing (Err TooManyLines) none reads gone alone most told = later (Err TooManyLines) TooManyLines refl (λ is. absurd is) refl reads gone most (told TooManyLines refl)
+  fails_writing (Err ReadFailed) none reads gone alone most told = later (Err ReadFailed) ReadFailed refl (λ is. absurd is) refl reads gone most (told ReadFailed refl)
+  fails_writing (Err WriteFailed) none reads gone alone most told =
+      let same = ap (λ (v : OutputView). v.gone) (none tt).1 in
+      inl (omega (arith, reads), omega (arith, same, gone))
+  fails_writing (Err ReaderGone) none reads gone alone most told = let same = (none tt).0 in absurd (cc)
+  fails_writing (Err (Column column error)) none reads gone alone most told = later (Err (Column column error)) (Column column error) refl (λ is. absurd is) refl reads gone most (told (Column column error) refl)

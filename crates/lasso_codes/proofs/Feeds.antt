@@ -5,12 +5,14 @@
 -- line feed at its end.
 use Rattle.std.proofs.Common.{ℕ, zero, suc, ◌≡◌, ◌+◌, ◌-◌, ◌<◌, ◌≤◌, ◌==◌, Bool, true, false, cond, List, [], ◌∷◌, ◌++◌, length, get_or, Option, Some, None, option_map, refl, sym, ap, subst, ◌∙◌, arith, ◌⊎◌, inl, inr}
 use Rattle.std.specs.Prelude.{IfSome}
+use Rattle.std.specs.Io.{StopsAt}
 use Rattle.std.specs.Io.BufRead.{take_through, drop_through}
+use Rattle.std.specs.Io.KnownBytes.{Consumes}
 use Rattle.std.proofs.lemmas.Bool.Decides.{nat_tests}
 use Rattle.std.proofs.lemmas.List.{length_push}
 use Rattle.lasso_input.specs.Lines.{lines_of, is_line_feed, NoFeed}
 use Rattle.lasso_input.proofs.FirstLines.{lines_cut, lines_end}
-use Rattle.lasso_codes.specs.Streams.{cut_line, CutsLine, TakesLine}
+use Rattle.lasso_codes.specs.Streams.{cut_line, CutsLine, IsFed, LosesPart, TakesLine}
 use Rattle.lasso_codes.specs.declared.input.Cut.{Cut}
 use Rattle.lasso_codes.specs.declared.input.Cut.TheVariants.{Whole, Part, End}
 
@@ -43,17 +45,17 @@ lines_open : (bytes : List ℕ) → 0 < length bytes → NoFeed bytes → lines_
 lines_open [] some none = absurd (omega arith)
 lines_open (b ∷ bytes) some none = lines_end b bytes none
 
-line_of : (bytes got line rest : List ℕ) → Gives bytes → got ≡ take_through 10 bytes → rest ≡ drop_through 10 bytes → 0 < length got → ((front : List ℕ) → got ≡ front ++ 10 ∷ [] → line ≡ front) → (NoFeed got → line ≡ got) → lines_of bytes ≡ line ∷ lines_of rest
+line_of : (bytes got line rest : List ℕ) → Gives bytes → got ≡ take_through 10 bytes → rest ≡ drop_through 10 bytes → 0 < length got → ((front : List ℕ) → got ≡ front ++ 10 ∷ [] → line ≡ front) → (NoFeed got → line ≡ got) → (lines_of bytes ≡ line ∷ lines_of rest) × IsFed bytes line rest
 line_of bytes got line rest (ended front back none is taken left) got_is rest_is some at_end at_open =
     let line_is : line ≡ front = at_end front (got_is ∙ taken) in
     let rest_are : rest ≡ back = rest_is ∙ left in
-    rw (line_is, rest_are) (ap lines_of is ∙ lines_cut front back none)
+    rw (line_is, rest_are) (ap lines_of is ∙ lines_cut front back none, inl is)
 line_of bytes got line rest (unended none taken left) got_is rest_is some at_end at_open =
     let whole : got ≡ bytes = got_is ∙ taken in
     let line_is : line ≡ bytes = at_open (subst NoFeed (sym whole) none) ∙ whole in
     let rest_are : rest ≡ [] = rest_is ∙ left in
     let many : 0 < length bytes = subst (λ bs. 0 < length bs) whole some in
-    rw (line_is, rest_are) (lines_open bytes many none)
+    rw (line_is, rest_are) (lines_open bytes many none, inr refl)
 
 -- a line was read
 pub takes_line : (before after : Option (List ℕ)) (held got line : List ℕ) → held ≡ [] → IfSome before (λ bytes. got ≡ held ++ take_through 10 bytes) → IfSome before (λ bytes. after ≡ Some (drop_through 10 bytes)) → 0 < length got → ((front : List ℕ) → got ≡ front ++ 10 ∷ [] → line ≡ front) → (NoFeed got → line ≡ got) → TakesLine before after true line
@@ -62,7 +64,15 @@ takes_line (Some known) after held got line none got_is after_is some at_end at_
     let same : known ≡ bytes = cc in
     let taken : got ≡ take_through 10 bytes = subst (λ bs. got ≡ held ++ take_through 10 bs) same got_is ∙ ap (λ hs. hs ++ take_through 10 bytes) none in
     let left : after ≡ Some (drop_through 10 bytes) = subst (λ bs. after ≡ Some (drop_through 10 bs)) same after_is in
-    (drop_through 10 bytes, left, line_of bytes got line (drop_through 10 bytes) (gives bytes) taken refl some at_end at_open)
+    let cut = line_of bytes got line (drop_through 10 bytes) (gives bytes) taken refl some at_end at_open in
+    (drop_through 10 bytes, left, cut.0, cut.1)
+
+-- a read that failed took some bytes
+pub loses_part : (before mid after : Option (List ℕ)) (got : List ℕ) → Consumes before mid got → StopsAt got 10 → after ≡ mid → LosesPart before after
+loses_part None mid after got taken stops kept = λ bytes e. absurd (cc)
+loses_part (Some known) None after got taken stops kept = absurd taken
+loses_part (Some known) (Some left) after got taken stops kept = λ bytes e.
+    let same : known ≡ bytes = cc in (got, left, kept, sym same ∙ taken, stops)
 
 -- what a call says of the lines, by its result
 pub no_line : (before after : Option (List ℕ)) (is_line : Bool) (line : List ℕ) → TakesLine before after is_line line → is_line ≡ false → TakesLine before after false line

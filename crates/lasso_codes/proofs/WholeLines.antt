@@ -4,7 +4,7 @@
 -- are fewer codes than texts, the first line without a number is that of the first text without a code. If
 -- each text has a code, each line has a number.
 use Rattle.std.proofs.Common.{ℕ, zero, suc, ◌≡◌, ◌+◌, ◌-◌, ◌^◌, ◌<◌, ◌≤◌, Bool, true, false, not, cond, List, [], ◌∷◌, ◌++◌, length, map, take, drop, is_some, is_ok, is_err, Option, Some, None, Bor, get_or, Result, Ok, Err, refl, sym, ap, subst, ◌∙◌, arith, inr, append_assoc}
-use Rattle.std.specs.Prelude.{All, IsSome, slice_get, IsSomeAnd}
+use Rattle.std.specs.Prelude.{All, IfSome, IsSome, slice_get, IsSomeAnd}
 use Rattle.std.specs.Str.{IsUtf8}
 use Rattle.std.proofs.lemmas.List.{append-nil, take_all, map_push}
 use Rattle.std.proofs.lemmas.List.Elements.{All-push, All-take}
@@ -26,7 +26,7 @@ use Rattle.lasso_columns.specs.Parts.{new_texts}
 use Rattle.lasso_columns.specs.declared.faults.LineError.TheVariants.{Refused, NotText}
 use Rattle.lasso_counts.proofs.Rest.{first, found_extended, take_front}
 use Rattle.lasso_codes.specs.Columns.{is_null, texts_of, dictionary_of, entry_of, entry_at}
-use Rattle.lasso_codes.specs.Encode.{AreNumbered, EncodingError}
+use Rattle.lasso_codes.specs.Encode.{AreNumbered, EncodingError, IsNoNull}
 use Rattle.lasso_codes.specs.Whole.{AreTextLines, on_code, spread}
 use Rattle.lasso_codes.specs.declared.error.RunError.TheVariants.{Line}
 use Rattle.lasso_codes.specs.Stages.{AreEntries, IsEntryAs}
@@ -127,6 +127,20 @@ next_by null line lines (c ∷ codes) text false others at = others codes at
 pub spread_next : (null : Option Text) (lines : List Text) (codes : List ℕ) (text : Text) → IsNext null lines codes text
 spread_next null [] codes text = λ at. absurd (cc)
 spread_next null (line ∷ lines) codes text = λ at. next_by null line lines codes text (is_null null line) (λ cs. spread_next null lines cs text) at
+
+-- a text is no null
+text_by : (null : Option Text) (line : Text) (lines : List Text) (n : ℕ) (text : Text) (b : Bool) → is_null null line ≡ b → ((m : ℕ) → slice_get (texts_of null lines) m ≡ Some text → is_null null text ≡ false) → slice_get (cond (not b) (line ∷ texts_of null lines) (texts_of null lines)) n ≡ Some text → is_null null text ≡ false
+text_by null line lines n text true e others at = others n at
+text_by null line lines zero text false e others at = let same : line ≡ text = cc in subst (λ (t : Text). is_null null t ≡ false) same e
+text_by null line lines (suc n) text false e others at = others n at
+
+text_no_null : (null : Option Text) (lines : List Text) (n : ℕ) (text : Text) → slice_get (texts_of null lines) n ≡ Some text → is_null null text ≡ false
+text_no_null null [] n text at = absurd (cc)
+text_no_null null (line ∷ lines) n text at = text_by null line lines n text (is_null null line) refl (λ m there. text_no_null null lines m text there) at
+
+not_text_no_null : (null : Option Text) (number : ℕ) (o : Option Text) → IfSome o (λ line. IsNoNull null line (NotText number))
+not_text_no_null null number None = tt
+not_text_no_null null number (Some line) = tt
 
 -- if each text has a code, each line has a number
 all_by : (null : Option Text) (line : Text) (lines : List Text) (codes : List ℕ) (b : Bool) → ((cs : List ℕ) → length cs ≡ length (texts_of null lines) → length (spread null lines cs) ≡ length lines) → length codes ≡ length (cond (not b) (line ∷ texts_of null lines) (texts_of null lines)) → length (number_by null lines codes b) ≡ suc (length lines)
@@ -237,7 +251,15 @@ module _ (old now : InternerView) (null : Option Text) (lines texts : List Text)
       refused_at (Some text) at holds =
           let here : slice_get texts (length numbers) ≡ Some text = ap (λ (ns : List ℕ). slice_get texts (length ns)) is ∙ spread_next null texts codes text at in
           let list = subst (λ (i : InternerView). extend spur_at i (texts_of null (take (length numbers) lines)) accepted now) made first_lines in
-          (length numbers, inr (first_utf8 (length numbers) texts lines whole are numbers_few, (now, list, inr (refused_line now whole texts lines (length numbers) text error are here holds))))
+          let there : slice_get lines (length numbers) ≡ Some text = line_same (length numbers) texts lines text (texts_begin whole texts lines are) here in
+          let no_null : IsNoNull null text (Refused (length numbers + 1) error) = inr (text_no_null null texts (length codes) text at) in (
+            length numbers,
+            inr (
+              first_utf8 (length numbers) texts lines whole are numbers_few,
+              (now, list, inr (refused_line now whole texts lines (length numbers) text error are here holds)),
+              subst (λ o. IfSome o (λ line. IsNoNull null line (Refused (length numbers + 1) error))) (sym there) no_null,
+            ),
+          )
 
   -- each text has its code
   module _ (many : length codes ≡ length (texts_of null texts)) where
@@ -251,7 +273,7 @@ module _ (old now : InternerView) (null : Option Text) (lines texts : List Text)
         let bad = bad_line now texts lines stop in
         let list = subst (λ (i : InternerView). extend spur_at i (texts_of null (take (length numbers) lines)) accepted now) made first_lines in
         let here = subst (λ (n : ℕ). IsSomeAnd (slice_get lines n) (λ line. IsFaultOf now line (n + 1) (NotText (n + 1)))) (sym each_numbered) bad in
-        (length numbers, inr (first_utf8 (length numbers) texts lines whole are numbers_few, (now, list, inr here)))
+        (length numbers, inr (first_utf8 (length numbers) texts lines whole are numbers_few, (now, list, inr here), not_text_no_null null (length numbers + 1) (slice_get lines (length numbers))))
 
     -- all texts were interned
     all_interned : extend spur_at old (texts_of null texts) accepted now

@@ -1,5 +1,6 @@
 -- What `distinct` writes, and how it ends.
-use Rattle.std.specs.Prelude.{ℕ, ◌≡◌, ◌≤◌, ◌⊎◌, List, [], ◌∷◌, ◌++◌, length, All, flat_map, take, Result, Ok, MatchResult, is_some, if◌then◌else◌}
+use Rattle.std.specs.Prelude.{ℕ, ◌≡◌, ◌≤◌, ◌⊎◌, List, [], ◌∷◌, ◌++◌, length, All, flat_map, take, Option, Some, Result, Ok, MatchResult, is_some, if◌then◌else◌}
+use Rattle.std.specs.Io.{StopsAt}
 use Rattle.std.specs.Str.{IsUtf8}
 use Rattle.lasso_parts.specs.Texts.{Text, position_of}
 use Rattle.lasso_parts.specs.declared.util.LassoErrorKind.TheVariants.{FailedAllocation}
@@ -53,19 +54,30 @@ IsErrorAfter limit lines n error =
     ((error ≡ Refused 0 FailedAllocation) × (n ≡ 0))
     ⊎ (All IsUtf8 (take n lines) × ((now : InternerView) × extend spur_at (made_with 4096 limit) (take n lines) (Ok tt) now × IsNextError now lines n error))
 
--- how a run ends with an error after it has written the part. After a failed write the part is a beginning of
--- the report; after another error it is the report of the lines before it
-abbrev pub DistinctError : ℕ → List Text → List ℕ → RunError → Type 0
-DistinctError limit lines part (Line error) = (n : ℕ) × (part ≡ distinct_report (take n lines)) × IsErrorAfter limit lines n error
-DistinctError limit lines part TooManyLines =
+-- a read failed after the first n lines of the input: what was read is these lines with their line feeds, and
+-- then a part of the next line. Or all lines were read
+abbrev pub FailsAt : List ℕ → ℕ → Option (List ℕ) → Type 0
+FailsAt input n after =
+    (left : List ℕ) × (after ≡ Some left)
+    × (((begun : List ℕ) × (input ≡ flat_map with_feed (take n (lines_of input)) ++ (begun ++ left)) × StopsAt begun 10) ⊎ ((n ≡ length (lines_of input)) × (left ≡ [])))
+
+-- how a run over this input ends with an error after it has written the part, and what is left of the input
+-- then. After a failed write the part is a beginning of the report; after another error it is the report of the
+-- lines before it
+abbrev pub DistinctError : List ℕ → ℕ → Option (List ℕ) → List ℕ → RunError → Type 0
+DistinctError input limit after part (Line error) = let lines = lines_of input in (n : ℕ) × (part ≡ distinct_report (take n lines)) × IsErrorAfter limit lines n error
+DistinctError input limit after part TooManyLines =
+    let lines = lines_of input in
     (n : ℕ) × (part ≡ distinct_report (take n lines)) × AreTooMany n × (n ≤ length lines) × AreTaken limit (take n lines)
-DistinctError limit lines part ReadFailed = (n : ℕ) × (part ≡ distinct_report (take n lines)) × AreTaken limit (take n lines)
-DistinctError limit lines part WriteFailed = Begins part (distinct_report lines)
-DistinctError limit lines part ReaderGone = Begins part (distinct_report lines)
-DistinctError limit lines part (Column column error) = ⊥
+DistinctError input limit after part ReadFailed =
+    let lines = lines_of input in
+    (n : ℕ) × (part ≡ distinct_report (take n lines)) × AreTaken limit (take n lines) × FailsAt input n after
+DistinctError input limit after part WriteFailed = Begins part (distinct_report (lines_of input))
+DistinctError input limit after part ReaderGone = Begins part (distinct_report (lines_of input))
+DistinctError input limit after part (Column column error) = ⊥
 
 -- how a run of `distinct` ends that has written the part: without an error, all lines are UTF-8, a new interner
 -- with this limit takes them, and the part is their report
-abbrev pub DistinctEnd : List ℕ → ℕ → List ℕ → Result (Unit {0}) RunError → Type 0
-DistinctEnd input limit part result =
-    MatchResult result (λ _. AreTaken limit (lines_of input) × (part ≡ distinct_report (lines_of input))) (DistinctError limit (lines_of input) part)
+abbrev pub DistinctEnd : List ℕ → ℕ → Option (List ℕ) → List ℕ → Result (Unit {0}) RunError → Type 0
+DistinctEnd input limit after part result =
+    MatchResult result (λ _. AreTaken limit (lines_of input) × (part ≡ distinct_report (lines_of input))) (DistinctError input limit after part)

@@ -1,5 +1,5 @@
 -- What `encode` writes, and how it ends.
-use Rattle.std.specs.Prelude.{ℕ, ◌≡◌, ◌^◌, ◌<◌, ◌⊎◌, Bool, true, false, List, [], length, map, All, take, Option, Some, Result, Ok, MatchResult}
+use Rattle.std.specs.Prelude.{ℕ, ◌≡◌, ◌^◌, ◌<◌, ◌⊎◌, Bool, true, false, List, [], length, map, All, take, Option, Some, Result, Ok, MatchResult, IfSome, slice_get}
 use Rattle.std.specs.Str.{IsUtf8}
 use Rattle.lasso_parts.specs.Texts.{Text, position_of}
 use Rattle.lasso_parts.specs.declared.util.LassoErrorKind.TheVariants.{FailedAllocation}
@@ -9,7 +9,7 @@ use Rattle.lasso_single.specs.Interner.{InternerView, made_with}
 use Rattle.lasso_encode.specs.Encoding.{spur_at}
 use Rattle.lasso_input.specs.Lines.{lines_of}
 use Rattle.lasso_columns.specs.declared.faults.LineError.{LineError}
-use Rattle.lasso_columns.specs.declared.faults.LineError.TheVariants.{Refused}
+use Rattle.lasso_columns.specs.declared.faults.LineError.TheVariants.{Refused, NotText}
 use Rattle.lasso_codes.specs.Columns.{is_null, texts_of, dictionary_of, entry_of, entry_at, column_bytes}
 use Rattle.lasso_codes.specs.Errors.{AreTooMany}
 use Rattle.lasso_codes.specs.Limits.{Admits, IsNextError}
@@ -32,13 +32,19 @@ abbrev pub AreNumbered : Option Text → List Text → List Text → List ℕ �
 AreNumbered null lines list numbers =
     (list ≡ dictionary_of null lines) × (map entry_at numbers ≡ map (entry_of null (dictionary_of null lines)) lines) × (length list < 2 ^ 32)
 
+-- a refused line is no null. Only memory may run out for the number of a null
+abbrev pub IsNoNull : Option Text → Text → LineError → Type 0
+IsNoNull null line (Refused number error) = (error ≡ FailedAllocation) ⊎ (is_null null line ≡ false)
+IsNoNull null line (NotText number) = Unit {0}
+
 -- the first n lines are UTF-8 and were encoded with this limit, and the next line was not. Line 0: out of
 -- memory outside of a line, and n is 0
 abbrev pub IsEncodeError : ℕ → Option Text → List Text → ℕ → LineError → Type 0
 IsEncodeError limit null lines n error =
     ((error ≡ Refused 0 FailedAllocation) × (n ≡ 0))
     ⊎ (All IsUtf8 (take n lines)
-    × ((now : InternerView) × extend spur_at (made_with 4096 limit) (texts_of null (take n lines)) (Ok tt) now × IsNextError now lines n error))
+    × ((now : InternerView) × extend spur_at (made_with 4096 limit) (texts_of null (take n lines)) (Ok tt) now × IsNextError now lines n error)
+    × IfSome (slice_get lines n) (λ line. IsNoNull null line error))
 
 -- why lines were not encoded
 abbrev pub EncodingError : ℕ → Option Text → List Text → RunError → Type 0

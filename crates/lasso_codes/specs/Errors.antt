@@ -1,10 +1,11 @@
--- The message and the status of each error, which errors come from reads and from writes, and how many calls
--- failed in a run.
-use Rattle.std.specs.Prelude.{ℕ, ◌≡◌, ◌-◌, ◌^◌, ◌≤◌, List, ◌++◌, codes, decimal, Result, Ok, Err}
+-- The message and the status of each error, which errors come from reads and from writes, how many calls failed
+-- in a run, and what comes before a failed write.
+use Rattle.std.specs.Prelude.{ℕ, ◌≡◌, ◌+◌, ◌-◌, ◌^◌, ◌≤◌, ◌⊎◌, List, ◌++◌, codes, decimal, Result, Ok, Err}
 use Rattle.lasso_parts.specs.Errors.{error_text}
 use Rattle.lasso_parts.specs.declared.util.LassoErrorKind.TheVariants.{FailedAllocation}
 use Rattle.lasso_columns.specs.Faults.{line_error_text}
 use Rattle.lasso_columns.specs.declared.faults.LineError.TheVariants.{Refused, NotText}
+use Rattle.lasso_codes.specs.Views.{InputView, OutputView}
 use Rattle.lasso_codes.specs.declared.error.ColumnError.{ColumnError}
 use Rattle.lasso_codes.specs.declared.error.ColumnError.TheVariants.{NoHeader, NoText, NotUtf8, Doubled, TextRefused, NoEntry, NotEntry, PastTexts, IsNull, NotMerged}
 use Rattle.lasso_codes.specs.declared.error.RunError.{RunError}
@@ -125,6 +126,17 @@ abbrev pub gone_readers : {X : Type 0} → Result X RunError → ℕ
 gone_readers (Ok _) = 0
 gone_readers (Err ReaderGone) = 1
 gone_readers (Err _) = 0
+
+-- ---- a write that failed
+
+-- the run ended since a write failed. It was the first error: no read failed, and no pipe broke. Or another
+-- error came before the last flush, with which the run had ended as `Ended` says, and at most that flush met a
+-- broken pipe
+abbrev pub FailsWriting : InputView → InputView → OutputView → OutputView → (RunError → Type 0) → Type 0
+FailsWriting read read' written written' Ended =
+    ((read'.failures ≡ read.failures) × (written'.gone ≡ written.gone))
+    ⊎ ((error : RunError) × ¬ (IsWriteError error) × (read'.failures ≡ read.failures + failed_reads {X = Unit {0}} (Err error))
+    × (written'.gone ≤ written.gone + 1) × Ended error)
 
 -- ---- how many lines are too many
 

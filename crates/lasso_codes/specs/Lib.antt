@@ -11,5 +11,6 @@ pub mod Arguments
 pub mod Reading
 pub mod Decode
 pub mod Merge
+pub mod Requests
 pub mod Progress
 pub mod Stages

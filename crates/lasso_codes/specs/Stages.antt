@@ -1,5 +1,5 @@
 -- How far a run over lines or entries has come.
-use Rattle.std.specs.Prelude.{ℕ, ◌≡◌, ◌+◌, ◌<◌, Bool, true, false, List, [], ◌∷◌, ◌++◌, length, map, All, Option, Some, Ok}
+use Rattle.std.specs.Prelude.{ℕ, ◌≡◌, ◌+◌, ◌<◌, ◌⊎◌, Bool, true, false, List, [], ◌∷◌, ◌++◌, length, map, flat_map, All, Option, Some, Ok}
 use Rattle.std.specs.Str.{IsUtf8}
 use Rattle.lasso_parts.specs.Texts.{Text, position_of}
 use Rattle.lasso_single.specs.Filling.{extend}
@@ -9,7 +9,7 @@ use Rattle.lasso_input.specs.Lines.{lines_of}
 use Rattle.lasso_counts.specs.Counts.{AreCounts}
 use Rattle.lasso_codes.specs.Columns.{is_null, texts_of, entry_at}
 use Rattle.lasso_codes.specs.Decode.{fed_lines}
-use Rattle.lasso_codes.specs.Distinct.{distinct_report}
+use Rattle.lasso_codes.specs.Distinct.{distinct_report, with_feed}
 use Rattle.lasso_codes.specs.Reading.{ReadItems, texts_from}
 
 -- these lines were read and are UTF-8. The rest is left, and its first line has this number
@@ -25,12 +25,14 @@ pub record Counting (input rest : List ℕ) (number : ℕ) (old now : InternerVi
   pub counted : AreCounts done now.texts counts
   pub list : extend spur_at old done (Ok tt) now
 
--- these lines were read and interned, and the part is their report
+-- these lines were read and interned, and the part is their report. What was read is these lines with their
+-- line feeds, unless nothing is left
 pub record OnTheWay (input : List ℕ) (limit : ℕ) (rest : List ℕ) (number : ℕ) (now : InternerView) (part : List ℕ) : Type 0 where
   pub done : List Text
   pub taken : Taken input rest number done
   pub list : extend spur_at (made_with 4096 limit) done (Ok tt) now
   pub part_is : part ≡ distinct_report done
+  pub fed : (input ≡ flat_map with_feed done ++ rest) ⊎ (rest ≡ [])
 
 -- the number of a line: that of a null, or the position of the line, which is never that of a null
 abbrev pub IsEntryAs : Bool → List Text → Text → ℕ → Type 0

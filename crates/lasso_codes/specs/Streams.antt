@@ -1,5 +1,6 @@
 -- How calls change the bytes that a reader has left and those that a writer has, if they are known.
-use Rattle.std.specs.Prelude.{ℕ, ◌≡◌, ◌<◌, Bool, true, false, List, [], ◌∷◌, ◌++◌, length, Option, Some, None, Result, MatchResult, option_map, if◌then◌else◌}
+use Rattle.std.specs.Prelude.{ℕ, ◌≡◌, ◌⊎◌, ◌<◌, Bool, true, false, List, [], ◌∷◌, ◌++◌, length, Option, Some, None, Result, MatchResult, option_map, if◌then◌else◌}
+use Rattle.std.specs.Io.{StopsAt}
 use Rattle.std.specs.Io.KnownBytes.{Appends}
 use Rattle.lasso_input.specs.Lines.{lines_of, is_line_feed}
 use Rattle.lasso_codes.specs.Errors.{IsWriteError}
@@ -19,10 +20,20 @@ Writes before after P = (part : List ℕ) × Appends before after part × P part
 abbrev pub WritesAll : List ℕ → Result (Unit {0}) RunError → List ℕ → Type 0
 WritesAll bytes result part = MatchResult result (λ _. part ≡ bytes) (λ error. IsWriteError error × Begins part bytes)
 
+-- a read up to a line feed failed: some of the known bytes were read, of which no byte but the last is a line
+-- feed, and the others are left
+abbrev pub LosesPart : Option (List ℕ) → Option (List ℕ) → Type 0
+LosesPart before after =
+    (bytes : List ℕ) → before ≡ Some bytes → (begun : List ℕ) × (left : List ℕ) × (after ≡ Some left) × (bytes ≡ begun ++ left) × StopsAt begun 10
+
+-- the line was read and its line feed, and these bytes are left; or nothing is
+abbrev pub IsFed : List ℕ → List ℕ → List ℕ → Type 0
+IsFed bytes line left = (bytes ≡ line ++ 10 ∷ left) ⊎ (left ≡ [])
+
 -- the first line of the known bytes was read, and the lines of the rest are left; or there were no bytes
 abbrev pub TakesLine : Option (List ℕ) → Option (List ℕ) → Bool → List ℕ → Type 0
 TakesLine before after true line =
-    (bytes : List ℕ) → before ≡ Some bytes → (rest : List ℕ) × (after ≡ Some rest) × (lines_of bytes ≡ line ∷ lines_of rest)
+    (bytes : List ℕ) → before ≡ Some bytes → (rest : List ℕ) × (after ≡ Some rest) × (lines_of bytes ≡ line ∷ lines_of rest) × IsFed bytes line rest
 TakesLine before after false line = (bytes : List ℕ) → before ≡ Some bytes → bytes ≡ []
 
 -- the first line, if a line feed ends it, and the bytes after that

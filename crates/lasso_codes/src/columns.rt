@@ -1,17 +1,20 @@
-//! Writes a column: a header line, the dictionary's lines in the order of their codes, and an entry for each
-//! line.
-ghost use Rattle.std.specs.Prelude.{◌≡◌, ◌+◌, ◌≤◌, ◌++◌, ◌∷◌, [], Err, IfOk, MatchResult, length, map, take, decimal, flat_map};
+//! The numbers of a column's lines, and how a column is written: a header line, the dictionary's lines in the
+//! order of their codes, and an entry for each line.
+ghost use Rattle.std.specs.Prelude.{◌≡◌, ◌+◌, ◌≤◌, ◌++◌, ◌∷◌, [], Err, IfOk, IfErr, OnOk, OnErr, MatchResult, length, map, take, vec_capacity, vec_len, decimal, flat_map};
 ghost use Rattle.lasso_codes.specs.Columns.{column_of, entry_at, entry_bytes, header, header_front};
 ghost use Rattle.lasso_codes.specs.Distinct.{with_feed};
 ghost use Rattle.lasso_codes.specs.Streams.{Writes, WritesAll};
 ghost use Rattle.lasso_codes.specs.Errors.{failed_writes, gone_readers};
+ghost use Rattle.lasso_columns.specs.declared.faults.LineError.TheVariants.{Refused};
+ghost use Rattle.lasso_parts.specs.declared.util.LassoErrorKind.TheVariants.{FailedAllocation};
 
 use crate::error::RunError;
 use crate::output::{write_bytes, write_line, write_number};
 use crate::streams::Output;
 use itoa::Buffer;
-use lasso::SpurRodeo;
 use lasso::index::Texts;
+use lasso::{LassoError, LassoErrorKind, SpurRodeo};
+use lasso_columns::LineError;
 use std::io::Write;
 
 /// The number of a null. It is never a code.
@@ -22,6 +25,22 @@ pub const TEXT_HEADER: &[u8] = b"lasso-codes 1 text ";
 
 /// The start of the header of a column whose entries are bytes.
 pub const BINARY_HEADER: &[u8] = b"lasso-codes 1 binary ";
+
+/// Appends the entry of the line with this number.
+///
+/// # Errors
+/// Out of memory. The entries are as they were.
+pub fn append(numbers: &mut Vec<u32>, entry: u32, number: usize) -> Result<(), LineError>
+    ensures items { OnOk result (numbers.new.items ≡ numbers.old.items ++ entry ∷ []) }
+    ensures error { IfErr result (λ error. error ≡ Refused number FailedAllocation) }
+    ensures full { OnErr result (vec_capacity numbers.old ≤ vec_len numbers.old) }
+{
+    if numbers.push(entry).is_err() {
+        let error = LassoError::new(LassoErrorKind::FailedAllocation);
+        return Err(LineError::Refused(number, error));
+    }
+    Ok(())
+}
 
 /// Writes the column whose dictionary is the interner's texts. `numbers` has an entry for each line: its
 /// code, or `NULL`.

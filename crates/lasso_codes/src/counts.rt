@@ -1,5 +1,5 @@
 //! Counts the lines.
-ghost use Rattle.std.specs.Prelude.{◌≡◌, ◌+◌, ◌-◌, ◌^◌, ◌<◌, ◌≤◌, ◌++◌, ◌∷◌, [], ℕ, List, Some, Ok, Err, OnOk, IfOk, IfErr, MatchResult, All, IsTrue, IsUtf8, length, drop, map, sum, flat_map, vec_len};
+ghost use Rattle.std.specs.Prelude.{◌≡◌, ◌+◌, ◌-◌, ◌^◌, ◌<◌, ◌≤◌, ◌++◌, ◌∷◌, [], ℕ, List, Some, Ok, Err, OnOk, IfOk, IfErr, MatchResult, All, IsUtf8, length, drop, map, sum, flat_map, vec_len};
 ghost use Rattle.lasso_parts.specs.Texts.{Text};
 ghost use Rattle.lasso_single.specs.Filling.{extend};
 ghost use Rattle.lasso_single.specs.Intern.{InternsIn};
@@ -11,20 +11,21 @@ ghost use Rattle.lasso_counts.specs.Counts.{AreCounts, pair_of};
 ghost use Rattle.lasso_codes.specs.Counts.{CountsEnd, CountingError, RefusesNewLine, count_line};
 ghost use Rattle.lasso_codes.specs.Stages.{Counting};
 ghost use Rattle.lasso_codes.specs.Streams.{Writes, WritesAll};
-ghost use Rattle.lasso_codes.specs.Errors.{failed_reads, failed_writes, gone_readers, IsWriteEnd, IsDataError, IsInputError};
+ghost use Rattle.lasso_codes.specs.Errors.{failed_reads, failed_writes, gone_readers, FailsWriting, IsWriteEnd, IsDataError, IsInputError};
 
 use crate::arguments::Settings;
-use crate::distinct::new_rodeo;
 use crate::error::RunError;
 use crate::input::next_line;
-use crate::lines::{line_text, untested_len};
+use crate::interner::new_rodeo;
+use crate::lines::taken;
 use crate::output::{end_flushed, write_bytes, write_line, write_number};
 use crate::streams::{Input, Output};
 use crate::whole::{read_whole, text_lines};
 use lasso::{MemoryLimits, SpurRodeo};
 use lasso_columns::LineError;
-use lasso_counts::{Ranked, by_frequency, count_in_parts, count_text};
-use lasso_input::find_newline;
+use lasso_counts::{Ranked, by_frequency, count_in_parts, count_next};
+use lasso_input::{Line, Stretch};
+use lasso_single::batch::Batch;
 use std::alloc::Global;
 use std::cmp::Reverse;
 use std::io::{Read, Write};
@@ -49,6 +50,8 @@ pub fn counts<H: AllocGlobal + Threads + Sync, R: Read + Drop, W: Write + Drop>(
     ensures reads { ¬ (result ≡ Err RunError.WriteFailed) → input.new.failures ≡ input.old.failures + failed_reads result }
     ensures writes { output.new.failures ≡ output.old.failures + failed_writes result }
     ensures gone { ¬ (result ≡ Err RunError.WriteFailed) → output.new.gone ≡ output.old.gone + gone_readers result }
+    ensures write_failed { result ≡ Err RunError.WriteFailed → FailsWriting input.old input.new output.old output.new (λ error. (bytes : List ℕ) → input.old.left ≡ Some bytes →
+        Writes output.old.written output.new.written (λ part. CountsEnd bytes settings.limit settings.top part (Err error))) }
 {
     let result = write_counts(rt, input, output, settings);
     end_flushed(output, result)
@@ -120,15 +123,18 @@ fn count_lines<R: Read + Drop>(
     ensures faults { IfErr result IsInputError }
     ensures reads { input.new.failures ≡ input.old.failures + failed_reads result }
 {
+    let mut batch = Batch::new();
     let mut line = Vec::new(alloc);
     let mut number = 1;
     while number < usize::MAX {
-        let (next, used) = count_stretch(rodeo, counts, input.buffered(), number)?;
+        let shown = input.buffered();
+        let (next, used) = count_stretch(rodeo, &mut batch, counts, shown, number)?;
         input.consume(used);
         if !next_line(input, &mut line, next)? {
             return Ok(());
         }
-        if let Err(error) = count_line(rodeo, counts, &line, false, next) {
+        let whole = Line::untested(&line);
+        if let Err(error) = count_line(rodeo, &mut batch, counts, &whole, next) {
             return Err(RunError::Line(error));
         }
         number = next + 1;
@@ -140,6 +146,7 @@ fn count_lines<R: Read + Drop>(
 // line after them, and the position where it begins.
 fn count_stretch(
     rodeo: &mut SpurRodeo,
+    batch: &mut Batch,
     counts: &mut Vec<u64>,
     stretch: &[u8],
     first: usize,
@@ -157,31 +164,27 @@ fn count_stretch(
         Counting input (stretch.now ++ later) first (made_with 4096 limit) rodeo.old counts.old.items → CountingError limit (lines_of input) error) }
     ensures faults { IfErr result IsDataError }
 {
-    let untested = untested_len(stretch);
-    let mut used = 0;
+    let mut lines = Stretch::new(stretch);
     for number in first..usize::MAX {
-        let rest = &stretch[used..];
-        let Some(len) = find_newline(rest) else {
-            return Ok((number, used));
+        lines.look_ahead(rodeo, batch);
+        let Some(line) = lines.next_ended() else {
+            return Ok((number, taken(stretch, &lines)));
         };
-        let is_text = untested < rest.len() - len;
-        if let Err(error) = count_line(rodeo, counts, &rest[..len], is_text, number) {
+        if let Err(error) = count_line(rodeo, batch, counts, &line, number) {
             return Err(RunError::Line(error));
         }
-        used += len + 1;
     }
     Err(RunError::TooManyLines)
 }
 
-// Counts the line with this number. `is_text`: the caller has checked that it is UTF-8.
+// Counts the line with this number, the next text of `batch`.
 fn count_line(
     rodeo: &mut SpurRodeo,
+    batch: &mut Batch,
     counts: &mut Vec<u64>,
-    line: &[u8],
-    is_text: bool,
+    line: &Line<'_>,
     number: usize,
 ) -> Result<(), LineError>
-    requires text { IsTrue is_text → IsUtf8 line.now }
     requires lengths { vec_len counts.old ≡ length rodeo.old.texts }
     requires fits { sum counts.old.items < 2 ^ 64 - 1 }
     ensures interned { OnOk result (IsUtf8 line.now × ((key : ℕ) × InternsIn {K = ℕ} spur_at rodeo.old line.now (Ok key) rodeo.new)) }
@@ -191,10 +194,10 @@ fn count_line(
     ensures error { IfErr result (IsFaultOf rodeo.old line.now number) }
     ensures memory { IfErr result (RefusesNewLine rodeo.old counts.new line.now) }
 {
-    let Ok(text) = line_text(line, is_text) else {
+    let Ok(text) = line.text() else {
         return Err(LineError::NotText(number));
     };
-    match count_text(rodeo, text, counts) {
+    match count_next(rodeo, text, batch, counts) {
         Ok(()) => Ok(()),
         Err(error) => Err(LineError::Refused(number, error)),
     }

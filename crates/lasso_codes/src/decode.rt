@@ -2,15 +2,15 @@
 ghost use Rattle.std.specs.Prelude.{◌≡◌, ◌+◌, ◌-◌, ◌≤◌, ◌++◌, [], ℕ, List, Option, Some, Err, IfOk, IfErr, drop, length};
 ghost use Rattle.lasso_codes.specs.Arguments.{word_of};
 ghost use Rattle.lasso_codes.specs.Decode.{line_at, DecodeEnd, DecodingError, WritesEntry, WritesLines};
-ghost use Rattle.lasso_codes.specs.Errors.{failed_reads, failed_writes, gone_readers, IsWriteEnd, IsOutputError};
+ghost use Rattle.lasso_codes.specs.Errors.{failed_reads, failed_writes, gone_readers, FailsWriting, IsWriteEnd, IsOutputError};
 ghost use Rattle.lasso_codes.specs.Reading.{items_from, ReadItems};
 ghost use Rattle.lasso_codes.specs.Stages.{LinesAhead};
 ghost use Rattle.lasso_parts.specs.Texts.{Text};
 ghost use Rattle.lasso_codes.specs.Streams.{Writes};
 
-use crate::distinct::new_rodeo;
 use crate::entries::{Entry, first_entry, line_at, next_entry};
 use crate::error::RunError;
+use crate::interner::new_rodeo;
 use crate::output::{end_flushed, write_line};
 use crate::reading::{Header, next_header, read_texts};
 use crate::streams::{Input, Output};
@@ -37,6 +37,8 @@ pub fn decode<R: Read + Drop, W: Write + Drop>(
     ensures reads { ¬ (result ≡ Err RunError.WriteFailed) → input.new.failures ≡ input.old.failures + failed_reads result }
     ensures writes { output.new.failures ≡ output.old.failures + failed_writes result }
     ensures gone { ¬ (result ≡ Err RunError.WriteFailed) → output.new.gone ≡ output.old.gone + gone_readers result }
+    ensures write_failed { result ≡ Err RunError.WriteFailed → FailsWriting input.old input.new output.old output.new (λ error. (bytes : List ℕ) → input.old.left ≡ Some bytes →
+        Writes output.old.written output.new.written (λ part. DecodeEnd bytes limits (word_of null.entry) part (Err error))) }
 {
     let result = write_decoded(alloc, input, output, limits, null);
     end_flushed(output, result)

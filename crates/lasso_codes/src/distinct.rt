@@ -1,20 +1,19 @@
 //! Lists the distinct lines.
-ghost use Rattle.std.specs.Prelude.{◌≡◌, ◌+◌, ◌<◌, ◌≤◌, ◌-◌, ◌^◌, ◌++◌, ℕ, List, [], Option, Some, Err, IfOk, IfErr, IsTrue, IsUtf8, drop, length};
-ghost use Rattle.lasso_single.specs.Interner.{made_with};
-ghost use Rattle.lasso_columns.specs.declared.faults.LineError.TheVariants.{Refused};
-ghost use Rattle.lasso_parts.specs.declared.util.LassoErrorKind.TheVariants.{FailedAllocation};
+ghost use Rattle.std.specs.Prelude.{◌≡◌, ◌+◌, ◌<◌, ◌≤◌, ◌-◌, ◌^◌, ◌++◌, ℕ, List, [], Option, Some, Err, IfOk, IfErr, drop, length};
 ghost use Rattle.lasso_codes.specs.Stages.{OnTheWay};
 ghost use Rattle.lasso_codes.specs.Streams.{Writes};
 ghost use Rattle.lasso_codes.specs.Distinct.{DistinctEnd, PassesLine};
-ghost use Rattle.lasso_codes.specs.Errors.{failed_reads, failed_writes, gone_readers, IsWriteEnd, IsOutputError};
+ghost use Rattle.lasso_codes.specs.Errors.{failed_reads, failed_writes, gone_readers, FailsWriting, IsWriteEnd, IsOutputError};
 
 use crate::error::RunError;
 use crate::input::next_line;
-use crate::lines::{intern_line, untested_len};
+use crate::interner::new_rodeo;
+use crate::lines::{intern_line, taken};
 use crate::output::{end_flushed, write_line};
 use crate::streams::{Input, Output};
-use lasso::{Capacity, MemoryLimits, Rodeo, SpurRodeo};
-use lasso_input::find_newline;
+use lasso::{MemoryLimits, SpurRodeo};
+use lasso_input::{Line, Stretch};
+use lasso_single::batch::Batch;
 use std::alloc::Global;
 use std::io::{Read, Write};
 
@@ -31,11 +30,13 @@ pub fn distinct<R: Read + Drop, W: Write + Drop>(
     limits: MemoryLimits,
 ) -> Result<(), RunError>
     ensures report { (bytes : List ℕ) → input.old.left ≡ Some bytes →
-        Writes output.old.written output.new.written (λ part. DistinctEnd bytes limits part result) }
+        Writes output.old.written output.new.written (λ part. DistinctEnd bytes limits input.new.left part result) }
     ensures flushed { ¬ (IsWriteEnd result) → output.new.pending ≡ [] }
     ensures reads { ¬ (result ≡ Err RunError.WriteFailed) → input.new.failures ≡ input.old.failures + failed_reads result }
     ensures writes { output.new.failures ≡ output.old.failures + failed_writes result }
     ensures gone { ¬ (result ≡ Err RunError.WriteFailed) → output.new.gone ≡ output.old.gone + gone_readers result }
+    ensures write_failed { result ≡ Err RunError.WriteFailed → FailsWriting input.old input.new output.old output.new (λ error. (bytes : List ℕ) → input.old.left ≡ Some bytes →
+        Writes output.old.written output.new.written (λ part. DistinctEnd bytes limits input.new.left part (Err error))) }
 {
     let result = write_distinct(alloc, input, output, limits);
     end_flushed(output, result)
@@ -49,23 +50,26 @@ fn write_distinct<R: Read + Drop, W: Write + Drop>(
     limits: MemoryLimits,
 ) -> Result<(), RunError>
     ensures report { (bytes : List ℕ) → input.old.left ≡ Some bytes →
-        Writes output.old.written output.new.written (λ part. DistinctEnd bytes limits part result) }
+        Writes output.old.written output.new.written (λ part. DistinctEnd bytes limits input.new.left part result) }
     ensures reads { input.new.failures ≡ input.old.failures + failed_reads result }
     ensures writes { output.new.failures ≡ output.old.failures + failed_writes result }
     ensures gone { output.new.gone ≡ output.old.gone + gone_readers result }
 {
     let mut rodeo = new_rodeo(alloc, limits)?;
+    let mut batch = Batch::new();
     let mut line = Vec::new(alloc);
     let mut number = 1;
     while number < usize::MAX {
-        let (next, used) = pass_stretch(&mut rodeo, input.buffered(), number, output)?;
+        let shown = input.buffered();
+        let (next, used) = pass_stretch(&mut rodeo, &mut batch, shown, number, output)?;
         input.consume(used);
         // The next line is not in the buffer as a whole, so reading it may wait.
         output.flush()?;
         if !next_line(input, &mut line, next)? {
             return Ok(());
         }
-        pass_line(&mut rodeo, &line, false, next, output)?;
+        let whole = Line::untested(&line);
+        pass_line(&mut rodeo, &mut batch, &whole, next, output)?;
         number = next + 1;
     }
     Err(RunError::TooManyLines)
@@ -75,6 +79,7 @@ fn write_distinct<R: Read + Drop, W: Write + Drop>(
 // line. Returns the number of the line after them, and the position where it begins.
 fn pass_stretch<W: Write + Drop>(
     rodeo: &mut SpurRodeo,
+    batch: &mut Batch,
     stretch: &[u8],
     first: usize,
     output: &mut Output<W>,
@@ -85,59 +90,40 @@ fn pass_stretch<W: Write + Drop>(
     ensures more { IfOk result (λ at. first ≤ at.0) }
     ensures number { IfOk result (λ at. at.0 < 2 ^ 64 - 1) }
     ensures within { IfOk result (λ at. at.1 ≤ length stretch.now) }
-    ensures error { IfErr result (λ error. (input later : List ℕ) (limit : ℕ) (before : Option (List ℕ)) →
+    ensures error { IfErr result (λ error. (input later : List ℕ) (limit : ℕ) (before after : Option (List ℕ)) →
         Writes before output.old.written (OnTheWay input limit (stretch.now ++ later) first rodeo.old) →
-        Writes before output.new.written (λ part. DistinctEnd input limit part (Err error))) }
+        Writes before output.new.written (λ part. DistinctEnd input limit after part (Err error))) }
     ensures faults { IfErr result IsOutputError }
     ensures writes { output.new.failures ≡ output.old.failures + failed_writes result }
     ensures gone { output.new.gone ≡ output.old.gone + gone_readers result }
 {
-    let untested = untested_len(stretch);
-    let mut used = 0;
+    let mut lines = Stretch::new(stretch);
     for number in first..usize::MAX {
-        let rest = &stretch[used..];
-        let Some(len) = find_newline(rest) else {
-            return Ok((number, used));
+        lines.look_ahead(rodeo, batch);
+        let Some(line) = lines.next_ended() else {
+            return Ok((number, taken(stretch, &lines)));
         };
-        let is_text = untested < rest.len() - len;
-        pass_line(rodeo, &rest[..len], is_text, number, output)?;
-        used += len + 1;
+        pass_line(rodeo, batch, &line, number, output)?;
     }
     Err(RunError::TooManyLines)
 }
 
-// Interns the line with this number, and writes it if it is new. `is_text`: the caller has checked that it is
-// UTF-8.
+// Interns the line with this number, the next text of `batch`, and writes it if it is new.
 fn pass_line<W: Write + Drop>(
     rodeo: &mut SpurRodeo,
-    line: &[u8],
-    is_text: bool,
+    batch: &mut Batch,
+    line: &Line<'_>,
     number: usize,
     output: &mut Output<W>,
 ) -> Result<(), RunError>
-    requires { IsTrue is_text → IsUtf8 line.now }
     ensures written { Writes output.old.written output.new.written (λ part. PassesLine rodeo.old line.now number part rodeo.new result) }
     ensures faults { IfErr result IsOutputError }
     ensures writes { output.new.failures ≡ output.old.failures + failed_writes result }
     ensures gone { output.new.gone ≡ output.old.gone + gone_readers result }
 {
-    match intern_line(rodeo, line, is_text, number) {
-        Ok(true) => write_line(output, line),
+    match intern_line(rodeo, batch, line, number) {
+        Ok(true) => write_line(output, line.bytes()),
         Ok(false) => Ok(()),
         Err(error) => Err(RunError::Line(error)),
-    }
-}
-
-/// A new interner for lines.
-///
-/// # Errors
-/// Out of memory, with the line number 0.
-pub fn new_rodeo(alloc: Global, limits: MemoryLimits) -> Result<SpurRodeo, RunError>
-    ensures made { IfOk result (λ rodeo. rodeo ≡ made_with 4096 limits) }
-    ensures refused { IfErr result (λ error. error ≡ RunError.Line (Refused 0 FailedAllocation)) }
-{
-    match Rodeo::with_capacity_and_memory_limits(alloc, Capacity::default(), limits) {
-        Ok(rodeo) => Ok(rodeo),
-        Err(_) => Err(RunError::no_memory(0)),
     }
 }

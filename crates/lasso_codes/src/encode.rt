@@ -1,5 +1,5 @@
 //! Encodes lines as a column.
-ghost use Rattle.std.specs.Prelude.{◌≡◌, ◌+◌, ◌<◌, ◌≤◌, ◌-◌, ◌^◌, ◌++◌, ◌∷◌, [], ℕ, List, Some, Ok, Err, OnOk, OnErr, IfOk, IfErr, MatchResult, All, IsTrue, IsUtf8, drop, length, map, vec_capacity, vec_len};
+ghost use Rattle.std.specs.Prelude.{◌≡◌, ◌+◌, ◌<◌, ◌≤◌, ◌-◌, ◌^◌, ◌++◌, ◌∷◌, [], ℕ, List, false, Some, Ok, Err, OnOk, IfOk, IfErr, MatchResult, All, IsUtf8, drop, length, map};
 ghost use Rattle.lasso_single.specs.Filling.{extend};
 ghost use Rattle.lasso_single.specs.Interner.{InternerView, made_with};
 ghost use Rattle.lasso_encode.specs.Encoding.{spur_at, IsAdmitted, IsRefused};
@@ -9,26 +9,27 @@ ghost use Rattle.lasso_columns.specs.declared.faults.LineError.TheVariants.{Refu
 ghost use Rattle.lasso_parts.specs.declared.util.LassoErrorKind.TheVariants.{FailedAllocation};
 ghost use Rattle.lasso_codes.specs.Arguments.{word_of};
 ghost use Rattle.lasso_codes.specs.Columns.{is_null, texts_of};
-ghost use Rattle.lasso_codes.specs.Encode.{AreNumbered, EncodeEnd, EncodingError, IsNumbered};
-ghost use Rattle.lasso_codes.specs.Errors.{failed_reads, failed_writes, gone_readers, IsWriteEnd, IsDataError, IsInputError};
+ghost use Rattle.lasso_codes.specs.Encode.{AreNumbered, EncodeEnd, EncodingError, IsNoNull, IsNumbered};
+ghost use Rattle.lasso_codes.specs.Errors.{failed_reads, failed_writes, gone_readers, FailsWriting, IsWriteEnd, IsDataError, IsInputError};
 ghost use Rattle.lasso_codes.specs.Limits.{LacksMemory};
 ghost use Rattle.lasso_codes.specs.Stages.{Encoding};
 ghost use Rattle.lasso_codes.specs.Streams.{Writes};
 ghost use Rattle.lasso_codes.specs.Whole.{spread};
 
 use crate::arguments::Settings;
-use crate::columns::{NULL, write_column};
-use crate::distinct::new_rodeo;
+use crate::columns::{NULL, append, write_column};
 use crate::error::RunError;
 use crate::input::next_line;
-use crate::lines::{line_text, untested_len};
+use crate::interner::new_rodeo;
+use crate::lines::taken;
 use crate::output::end_flushed;
 use crate::streams::{Input, Output};
 use crate::whole::{read_whole, text_lines};
-use lasso::{LassoError, LassoErrorKind, LassoResult, MemoryLimits, SpurRodeo};
+use lasso::{LassoResult, MemoryLimits, SpurRodeo};
 use lasso_columns::{LineError, encode_in_parts};
-use lasso_encode::intern_code;
-use lasso_input::find_newline;
+use lasso_encode::intern_code_next;
+use lasso_input::{Line, Stretch};
+use lasso_single::batch::Batch;
 use std::alloc::Global;
 use std::io::{Read, Write};
 use std::thread::Threads;
@@ -52,6 +53,8 @@ pub fn encode<H: AllocGlobal + Threads + Sync, R: Read + Drop, W: Write + Drop>(
     ensures reads { ¬ (result ≡ Err RunError.WriteFailed) → input.new.failures ≡ input.old.failures + failed_reads result }
     ensures writes { output.new.failures ≡ output.old.failures + failed_writes result }
     ensures gone { ¬ (result ≡ Err RunError.WriteFailed) → output.new.gone ≡ output.old.gone + gone_readers result }
+    ensures write_failed { result ≡ Err RunError.WriteFailed → FailsWriting input.old input.new output.old output.new (λ error. (bytes : List ℕ) → input.old.left ≡ Some bytes →
+        Writes output.old.written output.new.written (λ part. EncodeEnd bytes settings.limit (word_of null.entry) settings.binary part (Err error))) }
 {
     let result = write_encoded(rt, input, output, settings, null);
     end_flushed(output, result)
@@ -122,15 +125,18 @@ fn encode_lines<R: Read + Drop>(
     ensures faults { IfErr result IsInputError }
     ensures reads { input.new.failures ≡ input.old.failures + failed_reads result }
 {
+    let mut batch = Batch::new();
     let mut line = Vec::new(alloc);
     let mut number = 1;
     while number < usize::MAX {
-        let (next, used) = encode_stretch(rodeo, numbers, null, input.buffered(), number)?;
+        let shown = input.buffered();
+        let (next, used) = encode_stretch(rodeo, &mut batch, numbers, null, shown, number)?;
         input.consume(used);
         if !next_line(input, &mut line, next)? {
             return Ok(());
         }
-        if let Err(error) = encode_line(rodeo, numbers, null, &line, false, next) {
+        let whole = Line::untested(&line);
+        if let Err(error) = encode_line(rodeo, &mut batch, numbers, null, &whole, next) {
             return Err(RunError::Line(error));
         }
         number = next + 1;
@@ -142,6 +148,7 @@ fn encode_lines<R: Read + Drop>(
 // the line after them, and the position where it begins.
 fn encode_stretch(
     rodeo: &mut SpurRodeo,
+    batch: &mut Batch,
     numbers: &mut Vec<u32>,
     null: Option<&[u8]>,
     stretch: &[u8],
@@ -158,18 +165,15 @@ fn encode_stretch(
         EncodingError limit (word_of null.entry) (lines_of input) error) }
     ensures faults { IfErr result IsDataError }
 {
-    let untested = untested_len(stretch);
-    let mut used = 0;
+    let mut lines = Stretch::new(stretch);
     for number in first..usize::MAX {
-        let rest = &stretch[used..];
-        let Some(len) = find_newline(rest) else {
-            return Ok((number, used));
+        lines.look_ahead(rodeo, batch);
+        let Some(line) = lines.next_ended() else {
+            return Ok((number, taken(stretch, &lines)));
         };
-        let is_text = untested < rest.len() - len;
-        if let Err(error) = encode_line(rodeo, numbers, null, &rest[..len], is_text, number) {
+        if let Err(error) = encode_line(rodeo, batch, numbers, null, &line, number) {
             return Err(RunError::Line(error));
         }
-        used += len + 1;
     }
     Err(RunError::TooManyLines)
 }
@@ -259,21 +263,21 @@ fn number_texts(
     Ok(())
 }
 
-// Appends the entry of the line with this number. `is_text`: the caller has checked that it is UTF-8.
+// Appends the entry of the line with this number, the next text of `batch`.
 fn encode_line(
     rodeo: &mut SpurRodeo,
+    batch: &mut Batch,
     numbers: &mut Vec<u32>,
     null: Option<&[u8]>,
-    line: &[u8],
-    is_text: bool,
+    line: &Line<'_>,
     number: usize,
 ) -> Result<(), LineError>
-    requires { IsTrue is_text → IsUtf8 line.now }
     ensures numbered { OnOk result (IsUtf8 line.now × ((entry : ℕ) × IsNumbered (word_of null.entry) rodeo.old line.now rodeo.new entry × (numbers.new.items ≡ numbers.old.items ++ entry ∷ []))) }
     ensures error { IfErr result (IsFaultOf rodeo.old line.now number) }
     ensures memory { IfErr result (LineMayLackMemory rodeo.old numbers.old line.now) }
+    ensures null { IfErr result (IsNoNull (word_of null.entry) line.now) }
 {
-    let entry = entry_of(rodeo, null, line, is_text, number)?;
+    let entry = entry_of(rodeo, batch, null, line, number)?;
     append(numbers, entry, number)?;
     Ok(())
 }
@@ -281,51 +285,40 @@ fn encode_line(
 // The entry of the line with this number. Interns the line, unless it is a null.
 fn entry_of(
     rodeo: &mut SpurRodeo,
+    batch: &mut Batch,
     null: Option<&[u8]>,
-    line: &[u8],
-    is_text: bool,
+    line: &Line<'_>,
     number: usize,
 ) -> Result<u32, LineError>
-    requires { IsTrue is_text → IsUtf8 line.now }
     ensures { MatchResult result
         (λ entry. IsUtf8 line.now × IsNumbered (word_of null.entry) rodeo.old line.now rodeo.new entry)
-        (λ error. IsFaultOf rodeo.old line.now number error × LacksMemory rodeo.old line.now error) }
+        (λ error. IsFaultOf rodeo.old line.now number error × LacksMemory rodeo.old line.now error × IsNoNull (word_of null.entry) line.now error) }
 {
-    let Ok(text) = line_text(line, is_text) else {
+    let Ok(text) = line.text() else {
         return Err(LineError::NotText(number));
     };
-    match number_of(rodeo, null, text) {
+    match number_of(rodeo, batch, null, text) {
         Ok(entry) => Ok(entry),
         Err(error) => Err(LineError::Refused(number, error)),
     }
 }
 
-/// Appends the entry of the line with this number.
-///
-/// # Errors
-/// Out of memory. The entries are as they were.
-pub fn append(numbers: &mut Vec<u32>, entry: u32, number: usize) -> Result<(), LineError>
-    ensures items { OnOk result (numbers.new.items ≡ numbers.old.items ++ entry ∷ []) }
-    ensures error { IfErr result (λ error. error ≡ Refused number FailedAllocation) }
-    ensures full { OnErr result (vec_capacity numbers.old ≤ vec_len numbers.old) }
-{
-    if numbers.push(entry).is_err() {
-        let error = LassoError::new(LassoErrorKind::FailedAllocation);
-        return Err(LineError::Refused(number, error));
-    }
-    Ok(())
-}
-
 // The entry of the text. Interns the text, unless it is a null.
-fn number_of(rodeo: &mut SpurRodeo, null: Option<&[u8]>, text: &str) -> LassoResult<u32>
+fn number_of(
+    rodeo: &mut SpurRodeo,
+    batch: &mut Batch,
+    null: Option<&[u8]>,
+    text: &str,
+) -> LassoResult<u32>
     ensures { MatchResult result
         (IsNumbered (word_of null.entry) rodeo.old text.now rodeo.new)
-        (λ error. IsRefused rodeo.old text.now error × (error ≡ FailedAllocation → IsAdmitted rodeo.old text.now)) }
+        (λ error. IsRefused rodeo.old text.now error × (error ≡ FailedAllocation → IsAdmitted rodeo.old text.now) × (is_null (word_of null.entry) text.now ≡ false)) }
 {
     if is_null(null, text.as_bytes()) {
+        batch.skip();
         return Ok(NULL);
     }
-    intern_code(rodeo, text)
+    intern_code_next(rodeo, text, batch)
 }
 
 // Whether the line is a null.

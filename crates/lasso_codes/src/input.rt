@@ -1,7 +1,7 @@
 //! Reads lines.
-ghost use Rattle.std.specs.Prelude.{◌≡◌, ◌+◌, ℕ, List, [], ◌∷◌, ◌++◌, IfOk, IfErr};
+ghost use Rattle.std.specs.Prelude.{◌≡◌, ◌+◌, ℕ, List, [], ◌∷◌, ◌++◌, IfOk, IfErr, OnErr};
 ghost use Rattle.lasso_input.specs.Lines.{NoFeed};
-ghost use Rattle.lasso_codes.specs.Streams.{CutsLine, TakesLine};
+ghost use Rattle.lasso_codes.specs.Streams.{CutsLine, LosesPart, TakesLine};
 ghost use Rattle.lasso_codes.specs.Errors.{failed_reads, IsReadError};
 
 use crate::error::RunError;
@@ -19,6 +19,7 @@ pub fn next_line<R: Read + Drop>(
     number: usize,
 ) -> Result<bool, RunError>
     ensures taken { IfOk result (λ is_line. TakesLine input.old.left input.new.left is_line line.new.items) }
+    ensures lost { OnErr result (LosesPart input.old.left input.new.left) }
     ensures errors { IfErr result (IsReadError number) }
     ensures reads { input.new.failures ≡ input.old.failures + failed_reads result }
 {

@@ -13,6 +13,7 @@ pub mod error;
 pub mod failures;
 pub mod help;
 pub mod input;
+pub mod interner;
 pub mod laws;
 pub mod lines;
 pub mod merge;

@@ -6,17 +6,16 @@ ghost use Rattle.lasso_encode.specs.Codes.{AreCodes};
 ghost use Rattle.lasso_columns.specs.declared.faults.LineError.TheVariants.{Refused};
 ghost use Rattle.lasso_parts.specs.declared.util.LassoErrorKind.TheVariants.{FailedAllocation};
 ghost use Rattle.lasso_codes.specs.Columns.{entry_at};
-ghost use Rattle.lasso_codes.specs.Errors.{failed_reads, failed_writes, gone_readers, IsWriteEnd, IsDataError, IsInputError};
+ghost use Rattle.lasso_codes.specs.Errors.{failed_reads, failed_writes, gone_readers, FailsWriting, IsWriteEnd, IsDataError, IsInputError};
 ghost use Rattle.lasso_codes.specs.Merge.{recoded, AddsEntries, AddsEntry, AreMerged, EntriesError, MergeEnd, MergingError};
 ghost use Rattle.lasso_codes.specs.Stages.{EntriesAhead};
 ghost use Rattle.lasso_codes.specs.Reading.{items_from, ReadItems};
 ghost use Rattle.lasso_codes.specs.Streams.{Writes};
 
-use crate::columns::{NULL, write_column};
-use crate::distinct::new_rodeo;
-use crate::encode::append;
+use crate::columns::{NULL, append, write_column};
 use crate::entries::{Entry, first_entry, next_entry};
 use crate::error::{ColumnError, RunError};
+use crate::interner::new_rodeo;
 use crate::output::end_flushed;
 use crate::reading::{Header, next_header, read_texts};
 use crate::streams::{Input, Output};
@@ -44,6 +43,8 @@ pub fn merge<R: Read + Drop, W: Write + Drop>(
     ensures reads { ¬ (result ≡ Err RunError.WriteFailed) → input.new.failures ≡ input.old.failures + failed_reads result }
     ensures writes { output.new.failures ≡ output.old.failures + failed_writes result }
     ensures gone { ¬ (result ≡ Err RunError.WriteFailed) → output.new.gone ≡ output.old.gone + gone_readers result }
+    ensures write_failed { result ≡ Err RunError.WriteFailed → FailsWriting input.old input.new output.old output.new (λ error. (bytes : List ℕ) → input.old.left ≡ Some bytes →
+        Writes output.old.written output.new.written (λ part. MergeEnd bytes limits binary part (Err error))) }
 {
     let result = write_merged(alloc, input, output, limits, binary);
     end_flushed(output, result)

@@ -1,5 +1,5 @@
 //! Writes bytes, lines and numbers.
-ghost use Rattle.std.specs.Prelude.{◌≡◌, ◌+◌, ◌⊎◌, ◌++◌, ◌∷◌, [], Ok, Err, IfErr, decimal};
+ghost use Rattle.std.specs.Prelude.{◌≡◌, ◌+◌, ◌≤◌, ◌⊎◌, ◌++◌, ◌∷◌, [], Ok, Err, IfErr, decimal};
 ghost use Rattle.std.specs.Io.KnownBytes.{Keeps};
 ghost use Rattle.lasso_codes.specs.Streams.{Writes, WritesAll};
 ghost use Rattle.lasso_codes.specs.Errors.{failed_writes, gone_readers, IsWriteError, IsWriteEnd};
@@ -68,6 +68,7 @@ pub fn end_flushed<W: Write + Drop>(
     ensures writes { ¬ (IsWriteEnd ended) → output.new.failures ≡ output.old.failures + failed_writes result }
     ensures gone { ¬ (IsWriteEnd ended) → ¬ (result ≡ Err RunError.WriteFailed) → output.new.gone ≡ output.old.gone + gone_readers result }
     ensures gone_alone { ended ≡ Ok tt → output.new.gone ≡ output.old.gone + gone_readers result }
+    ensures gone_most { output.new.gone ≤ output.old.gone + 1 }
     ensures flushed { ¬ (IsWriteEnd result) → output.new.pending ≡ [] }
 {
     match ended {

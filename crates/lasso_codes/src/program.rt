@@ -5,8 +5,9 @@ ghost use Rattle.lasso_codes.specs.Counts.{CountsEnd};
 ghost use Rattle.lasso_codes.specs.Decode.{DecodeEnd};
 ghost use Rattle.lasso_codes.specs.Distinct.{DistinctEnd};
 ghost use Rattle.lasso_codes.specs.Encode.{EncodeEnd};
-ghost use Rattle.lasso_codes.specs.Errors.{failed_reads, failed_writes, gone_readers, IsWriteEnd, IsWriteError};
+ghost use Rattle.lasso_codes.specs.Errors.{failed_reads, failed_writes, gone_readers, FailsWriting, IsWriteEnd, IsWriteError};
 ghost use Rattle.lasso_codes.specs.Merge.{MergeEnd};
+ghost use Rattle.lasso_codes.specs.Requests.{RequestEnd};
 ghost use Rattle.lasso_codes.specs.Streams.{Writes};
 ghost use Rattle.lasso_codes.specs.declared.arguments.Settings.{Settings};
 ghost use Rattle.lasso_codes.specs.declared.arguments.Command.TheVariants.{Help, VerbHelp, Version, Run};
@@ -41,7 +42,7 @@ pub fn run_request<H: AllocGlobal + Threads + Sync, R: Read + Drop, W: Write + D
     output: &mut Output<W>,
 ) -> Result<(), RunError>
     ensures distinct { (settings : Settings) (bytes : List ℕ) → request.now.command ≡ Run Distinct settings → input.old.left ≡ Some bytes →
-        Writes output.old.written output.new.written (λ part. DistinctEnd bytes settings.limit part result) }
+        Writes output.old.written output.new.written (λ part. DistinctEnd bytes settings.limit input.new.left part result) }
     ensures counts { (settings : Settings) (bytes : List ℕ) → request.now.command ≡ Run Counts settings → input.old.left ≡ Some bytes →
         Writes output.old.written output.new.written (λ part. CountsEnd bytes settings.limit settings.top part result) }
     ensures decode { (settings : Settings) (bytes : List ℕ) → request.now.command ≡ Run Decode settings → input.old.left ≡ Some bytes →
@@ -57,6 +58,8 @@ pub fn run_request<H: AllocGlobal + Threads + Sync, R: Read + Drop, W: Write + D
     ensures reads { ¬ (result ≡ Err RunError.WriteFailed) → input.new.failures ≡ input.old.failures + failed_reads result }
     ensures writes { output.new.failures ≡ output.old.failures + failed_writes result }
     ensures gone { ¬ (result ≡ Err RunError.WriteFailed) → output.new.gone ≡ output.old.gone + gone_readers result }
+    ensures write_failed { result ≡ Err RunError.WriteFailed → FailsWriting input.old input.new output.old output.new (λ error. (bytes : List ℕ) → input.old.left ≡ Some bytes →
+        Writes output.old.written output.new.written (λ part. RequestEnd request.now.command (word_of request.now.null) bytes input.new.left part (Err error))) }
 {
     let null = request.null;
     match request.command {

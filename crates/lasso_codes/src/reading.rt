@@ -1,5 +1,5 @@
 //! Reads the header and the dictionary of a column.
-ghost use Rattle.std.specs.Prelude.{◌≡◌, ◌+◌, ◌≤◌, ◌-◌, ◌++◌, ◌∷◌, [], ℕ, List, Some, Ok, IfOk, IfErr, IsTrue, IsUtf8, OnOk, MatchResult, drop, length};
+ghost use Rattle.std.specs.Prelude.{◌≡◌, ◌+◌, ◌≤◌, ◌-◌, ◌++◌, ◌∷◌, [], ℕ, List, Some, Ok, IfOk, IfErr, OnOk, MatchResult, drop, length};
 ghost use Rattle.lasso_single.specs.Filling.{extend};
 ghost use Rattle.lasso_single.specs.Interner.{InternerView, made_with};
 ghost use Rattle.lasso_encode.specs.Encoding.{spur_at};
@@ -11,12 +11,13 @@ ghost use Rattle.lasso_codes.specs.Errors.{failed_reads, IsDataError, IsInputErr
 use crate::columns::{BINARY_HEADER, TEXT_HEADER};
 use crate::error::{ColumnError, RunError};
 use crate::input::{Cut, next_whole_line};
-use crate::lines::{intern_line, untested_len};
+use crate::lines::{intern_line, taken};
 use crate::numbers::parse_digits;
 use crate::streams::Input;
 use lasso::SpurRodeo;
 use lasso_columns::LineError;
-use lasso_input::find_newline;
+use lasso_input::{Line, Stretch};
+use lasso_single::batch::Batch;
 use memchr::memchr;
 use std::io::Read;
 
@@ -75,9 +76,11 @@ pub fn read_texts<R: Read + Drop>(
     ensures faults { IfErr result IsInputError }
     ensures reads { input.new.failures ≡ input.old.failures + failed_reads result }
 {
+    let mut batch = Batch::new();
     let mut count = 0;
     while count < distinct {
-        let (next, used) = add_texts(rodeo, input.buffered(), distinct, count, column)?;
+        let shown = input.buffered();
+        let (next, used) = add_texts(rodeo, &mut batch, shown, distinct, count, column)?;
         input.consume(used);
         if next == distinct {
             return Ok(());
@@ -85,7 +88,8 @@ pub fn read_texts<R: Read + Drop>(
         let number = next + 1;
         match next_whole_line(input, line)? {
             Cut::Whole => {
-                if let Err(error) = add_text(rodeo, line, false, number) {
+                let whole = Line::untested(line);
+                if let Err(error) = add_text(rodeo, &mut batch, &whole, number) {
                     return Err(RunError::Column(column, error));
                 }
             }
@@ -102,6 +106,7 @@ pub fn read_texts<R: Read + Drop>(
 // the next one, and the position where that begins.
 fn add_texts(
     rodeo: &mut SpurRodeo,
+    batch: &mut Batch,
     stretch: &[u8],
     distinct: usize,
     count: usize,
@@ -116,33 +121,28 @@ fn add_texts(
         extend spur_at (made_with 4096 limit) rodeo.old.texts (Ok tt) rodeo.old → TextsError limit distinct column bytes error) }
     ensures faults { IfErr result IsDataError }
 {
-    let untested = untested_len(stretch);
-    let mut used = 0;
+    let mut lines = Stretch::new(stretch);
     for position in count..distinct {
-        let rest = &stretch[used..];
-        let Some(len) = find_newline(rest) else {
-            return Ok((position, used));
+        let Some(line) = lines.next_ended() else {
+            return Ok((position, taken(stretch, &lines)));
         };
-        let is_text = untested < rest.len() - len;
-        if let Err(error) = add_text(rodeo, &rest[..len], is_text, position + 1) {
+        if let Err(error) = add_text(rodeo, batch, &line, position + 1) {
             return Err(RunError::Column(column, error));
         }
-        used += len + 1;
     }
-    Ok((distinct, used))
+    Ok((distinct, taken(stretch, &lines)))
 }
 
-// Interns the text with this number, which has to be new. `is_text`: the caller has checked that it is UTF-8.
+// Interns the text with this number, which has to be new. Texts that are new need no look ahead.
 fn add_text(
     rodeo: &mut SpurRodeo,
-    line: &[u8],
-    is_text: bool,
+    batch: &mut Batch,
+    line: &Line<'_>,
     number: usize,
 ) -> Result<(), ColumnError>
-    requires { IsTrue is_text → IsUtf8 line.now }
     ensures { MatchResult result (λ _. AddsText rodeo.old line.now rodeo.new) (AddError rodeo.old line.now number) }
 {
-    match intern_line(rodeo, line, is_text, number) {
+    match intern_line(rodeo, batch, line, number) {
         Ok(true) => Ok(()),
         Ok(false) => Err(ColumnError::Doubled(number)),
         Err(LineError::NotText(_)) => Err(ColumnError::NotUtf8(number)),

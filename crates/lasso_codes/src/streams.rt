@@ -3,14 +3,14 @@
 //! No contract can say that a call of the inner reader or writer returned an error. So each of the two types
 //! counts the errors that it gets, in one method, `failed`, and only the methods of this file can call it: the
 //! others see the counts by their contracts, and can't change them.
-ghost use Rattle.std.specs.Prelude.{◌≡◌, ◌+◌, ◌<◌, ◌≤◌, ℕ, List, ◌++◌, Some, IfOk, Err, IfErr, IfSome, OnOk, [], drop, length, vec_len};
+ghost use Rattle.std.specs.Prelude.{◌≡◌, ◌+◌, ◌<◌, ◌≤◌, ℕ, List, ◌++◌, Some, IfOk, Err, IfErr, IfSome, OnOk, OnErr, [], drop, length, vec_len};
 ghost use Rattle.std.specs.Io.{WritesAtMost};
 ghost use Rattle.std.specs.Io.BufRead.{DropsThrough, take_through};
 ghost use Rattle.std.specs.Io.Buffered.{reader_buffer, reader_remaining, writer_buffer, writer_contents};
 ghost use Rattle.std.specs.Io.KnownBytes.{IsAtEnd, Keeps, WriteAppends, append_known, prepend_known};
 ghost use Rattle.std.specs.IoError.{error_kind};
 ghost use Rattle.lasso_codes.specs.Errors.{failed_reads, failed_writes, gone_readers, IsReadError, IsWriteError};
-ghost use Rattle.lasso_codes.specs.Streams.{TakesByte};
+ghost use Rattle.lasso_codes.specs.Streams.{LosesPart, TakesByte};
 ghost use Rattle.lasso_columns.specs.declared.faults.LineError.TheVariants.{Refused};
 ghost use Rattle.lasso_parts.specs.declared.util.LassoErrorKind.TheVariants.{FailedAllocation};
 
@@ -88,6 +88,7 @@ impl<R: Read + Drop> Input<R> {
         ensures bytes { OnOk result (IfSome self.old.left (λ xs. line.new.items ≡ line.old.items ++ take_through 10 xs)) }
         ensures rest { OnOk result (DropsThrough self.old.left self.new.left 10) }
         ensures end { IfOk result (λ n. n ≡ 0 → IsAtEnd self.old.left) }
+        ensures lost { OnErr result (LosesPart self.old.left self.new.left) }
         ensures errors { IfErr result (IsReadError number) }
         ensures reads { self.new.failures ≡ self.old.failures + failed_reads result }
     {

@@ -8,10 +8,9 @@ ghost use Rattle.lasso_codes.specs.Whole.{AreTextLines};
 
 use crate::error::RunError;
 use crate::streams::Input;
-use lasso_input::first_line;
+use lasso_input::Stretch;
 use std::alloc::Global;
 use std::io::Read;
-use std::str::from_utf8;
 
 /// Reads all bytes that are left.
 ///
@@ -47,9 +46,9 @@ pub fn text_lines(alloc: Global, bytes: &[u8]) -> Result<TextLines<'_>, RunError
     ensures errors { IfErr result (λ error. error ≡ RunError.Line (Refused 0 FailedAllocation)) }
 {
     let mut texts = Vec::new(alloc);
-    let mut rest = bytes;
-    while let Some((line, after)) = first_line(rest) {
-        let Ok(text) = from_utf8(line) else {
+    let mut lines = Stretch::new(bytes);
+    while let Some(line) = lines.next_line() {
+        let Ok(text) = line.text() else {
             return Ok(TextLines {
                 texts,
                 is_complete: false,
@@ -58,7 +57,6 @@ pub fn text_lines(alloc: Global, bytes: &[u8]) -> Result<TextLines<'_>, RunError
         if texts.push(text).is_err() {
             return Err(RunError::no_memory(0));
         }
-        rest = after;
     }
     Ok(TextLines {
         texts,

@@ -1,7 +1,7 @@
-use Rattle.std.proofs.Common.{ℕ, ◌≡◌, ◌+◌, ◌-◌, ◌≤◌, List, ◌++◌, length, take, drop, sum}
+use Rattle.std.proofs.Common.{ℕ, ◌≡◌, ◌+◌, List, ◌++◌, length, sum}
 use Rattle.std.specs.Prelude.{vec_len}
-use Rattle.std.specs.Str.{IsUtf8}
 use Rattle.lasso_single.specs.Interner.{InternerView}
+use Rattle.lasso_input.proofs.Remaining.{IsEndOf}
 use Rattle.lasso_codes.specs.Stages.{Counting}
 use Rattle.lasso_codes.proofs.counts.count_stretch.Given as goal
 
@@ -10,7 +10,6 @@ abbrev pub invariant-loop-number : goal.invariant-loop-number
 invariant-loop-number l = record {
   lengths : vec_len l.counts ≡ length l.rodeo.texts;
   total : sum l.counts.items + 1 ≡ l.number;
-  within : l.used ≤ length l.fn.stretch;
-  text : IsUtf8 (take (length (drop l.used l.fn.stretch) - l.untested) (drop l.used l.fn.stretch));
-  counted : (input later : List ℕ) (start : InternerView) → Counting input (l.fn.stretch ++ later) l.fn.first start l.fn.rodeo l.fn.counts.items → Counting input (drop l.used l.fn.stretch ++ later) l.number start l.rodeo l.counts.items;
+  end : IsEndOf l.lines l.fn.stretch;
+  counted : (input later : List ℕ) (start : InternerView) → Counting input (l.fn.stretch ++ later) l.fn.first start l.fn.rodeo l.fn.counts.items → Counting input (l.lines ++ later) l.number start l.rodeo l.counts.items;
 }

@@ -1,4 +1,8 @@
-use Rattle.lasso_codes.proofs.Failing.{reads_end, writes_end, gone_end}
+use Rattle.std.proofs.Common.{ℕ, ◌≡◌, List, Err, Some, subst}
+use Rattle.lasso_codes.specs.Counts.{CountsEnd}
+use Rattle.lasso_codes.specs.Streams.{Writes}
+use Rattle.lasso_codes.specs.declared.error.RunError.{RunError}
+use Rattle.lasso_codes.proofs.Failing.{fails_writing, reads_end, writes_end, gone_end}
 use Rattle.lasso_codes.proofs.Written.{writes_kept}
 use Rattle.lasso_codes.proofs.CountedLines.{end_then}
 use Rattle.lasso_codes.proofs.counts.counts.Goals as goal
@@ -23,3 +27,12 @@ returns-clause-gone g c =
     let run = c.write_counts-result in
     let last = c.end_flushed in
     gone_end c.args.output.now run.new.output last.new.output run.result last.result last.ensures.no_flush run.ensures.gone last.ensures.gone
+
+pub returns-clause-write_failed : goal.returns-clause-write_failed
+returns-clause-write_failed g c = λ failed.
+    let run = c.write_counts-result in
+    let last = c.end_flushed in
+    let before = c.args.output.now.written in
+    let ends : RunError → Type 0 = λ error. (bytes : List ℕ) → c.args.input.now.left ≡ Some bytes → Writes before last.new.output.written (λ part. CountsEnd bytes c.args.settings.limit c.args.settings.top part (Err error)) in
+    fails_writing c.args.input.now run.new.input c.args.output.now run.new.output last.new.output last.result ends failed run.result last.ensures.no_flush run.ensures.reads run.ensures.gone last.ensures.gone_alone last.ensures.gone_most (λ error is bytes e.
+    writes_kept _ _ _ _ _ (run.ensures.report bytes e) last.ensures.kept (λ part end. subst (λ r. CountsEnd bytes c.args.settings.limit c.args.settings.top part r) is end))

@@ -1,5 +1,5 @@
-use Rattle.std.proofs.Common.{ℕ, ◌-◌, ◌≤◌, List, ◌++◌, Option, length, take, drop, ◌≡◌}
-use Rattle.std.specs.Str.{IsUtf8}
+use Rattle.std.proofs.Common.{ℕ, ◌≡◌, List, ◌++◌, Option}
+use Rattle.lasso_input.proofs.Remaining.{IsEndOf}
 use Rattle.lasso_codes.specs.Stages.{OnTheWay}
 use Rattle.lasso_codes.specs.Streams.{Writes}
 use Rattle.lasso_codes.proofs.distinct.pass_stretch.Given as goal
@@ -7,9 +7,8 @@ use Rattle.lasso_codes.proofs.distinct.pass_stretch.Given as goal
 -- the lines before this number were interned and written if new, and the bytes after them are left
 abbrev pub invariant-loop-number : goal.invariant-loop-number
 invariant-loop-number g l = record {
-  within : l.used ≤ length l.fn.stretch;
-  text : IsUtf8 (take (length (drop l.used l.fn.stretch) - l.untested) (drop l.used l.fn.stretch));
-  passed : (input later : List ℕ) (limit : ℕ) (before : Option (List ℕ)) → Writes before l.fn.output.written (OnTheWay input limit (l.fn.stretch ++ later) l.fn.first l.fn.rodeo) → Writes before l.output.written (OnTheWay input limit (drop l.used l.fn.stretch ++ later) l.number l.rodeo);
+  end : IsEndOf l.lines l.fn.stretch;
+  passed : (input later : List ℕ) (limit : ℕ) (before : Option (List ℕ)) → Writes before l.fn.output.written (OnTheWay input limit (l.fn.stretch ++ later) l.fn.first l.fn.rodeo) → Writes before l.output.written (OnTheWay input limit (l.lines ++ later) l.number l.rodeo);
   writes : l.output.failures ≡ l.fn.output.failures;
   gone : l.output.gone ≡ l.fn.output.gone;
 }

@@ -1,6 +1,6 @@
-use Rattle.std.proofs.Common.{ℕ, ◌-◌, ◌≤◌, List, ◌++◌, length, take, drop}
-use Rattle.std.specs.Str.{IsUtf8}
+use Rattle.std.proofs.Common.{ℕ, List, ◌++◌}
 use Rattle.lasso_single.specs.Interner.{InternerView}
+use Rattle.lasso_input.proofs.Remaining.{IsEndOf}
 use Rattle.lasso_codes.specs.Arguments.{word_of}
 use Rattle.lasso_codes.specs.Stages.{Encoding}
 use Rattle.lasso_codes.proofs.encode.encode_stretch.Given as goal
@@ -8,7 +8,6 @@ use Rattle.lasso_codes.proofs.encode.encode_stretch.Given as goal
 -- the lines before this number have their numbers, and the bytes after them are left
 abbrev pub invariant-loop-number : goal.invariant-loop-number
 invariant-loop-number l = record {
-  within : l.used ≤ length l.fn.stretch;
-  text : IsUtf8 (take (length (drop l.used l.fn.stretch) - l.untested) (drop l.used l.fn.stretch));
-  numbered : (input later : List ℕ) (start : InternerView) → Encoding input (l.fn.stretch ++ later) l.fn.first (word_of l.fn.null) start l.fn.rodeo l.fn.numbers.items → Encoding input (drop l.used l.fn.stretch ++ later) l.number (word_of l.fn.null) start l.rodeo l.numbers.items;
+  end : IsEndOf l.lines l.fn.stretch;
+  numbered : (input later : List ℕ) (start : InternerView) → Encoding input (l.fn.stretch ++ later) l.fn.first (word_of l.fn.null) start l.fn.rodeo l.fn.numbers.items → Encoding input (l.lines ++ later) l.number (word_of l.fn.null) start l.rodeo l.numbers.items;
 }

@@ -1,17 +1,16 @@
-use Rattle.std.proofs.Common.{ℕ, ◌-◌, ◌≤◌, List, ◌++◌, length, take, drop}
-use Rattle.std.specs.Str.{IsUtf8}
+use Rattle.std.proofs.Common.{ℕ, List, ◌++◌}
 use Rattle.lasso_single.specs.Filling.{extend}
 use Rattle.lasso_single.specs.Interner.{InternerView}
 use Rattle.lasso_single.proofs.Filled.{accepted}
 use Rattle.lasso_encode.specs.Encoding.{spur_at}
+use Rattle.lasso_input.proofs.Remaining.{IsEndOf}
 use Rattle.lasso_codes.specs.Stages.{Reading}
 use Rattle.lasso_codes.proofs.reading.add_texts.Given as goal
 
 -- some texts were read and interned, and the bytes after them are left
 abbrev pub invariant-loop-position : goal.invariant-loop-position
 invariant-loop-position l = record {
-  within : l.used ≤ length l.fn.stretch;
-  text : IsUtf8 (take (length (drop l.used l.fn.stretch) - l.untested) (drop l.used l.fn.stretch));
-  added : (bytes later : List ℕ) → Reading bytes (l.fn.stretch ++ later) l.fn.count l.fn.rodeo → Reading bytes (drop l.used l.fn.stretch ++ later) l.position l.rodeo;
+  end : IsEndOf l.lines l.fn.stretch;
+  added : (bytes later : List ℕ) → Reading bytes (l.fn.stretch ++ later) l.fn.count l.fn.rodeo → Reading bytes (l.lines ++ later) l.position l.rodeo;
   list : (start : InternerView) → extend spur_at start l.fn.rodeo.texts accepted l.fn.rodeo → extend spur_at start l.rodeo.texts accepted l.rodeo;
 }

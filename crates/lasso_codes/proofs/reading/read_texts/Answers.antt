@@ -1,4 +1,4 @@
-use Rattle.std.proofs.Common.{◌≡◌, ◌+◌, ◌<◌, [], ◌++◌, Ok, drop, subst, arith}
+use Rattle.std.proofs.Common.{◌≡◌, ◌∙◌, ◌+◌, ◌<◌, [], ◌++◌, Ok, drop, subst, arith}
 use Rattle.std.proofs.lemmas.Result.{err_from_is_err_and}
 use Rattle.lasso_single.specs.Filling.{extend}
 use Rattle.lasso_single.specs.Interner.{InternerView}
@@ -19,7 +19,7 @@ returns-in_err-next-clause-error g c =
     let at = c.loop-count in
     rw (p.1, p.2) (λ bytes e limit made.
     let ahead = at.invariant.ahead bytes e in
-    let hand = c.buffered.ensures.first ahead.0 ahead.1 in
+    let hand = c.buffered-shown.ensures.first ahead.0 ahead.1 in
     let so_far = subst (λ bs. Reading bytes bs at.count at.rodeo) hand.1 ahead.2 in
     let list = subst (λ (i : InternerView). extend spur_at i at.rodeo.texts accepted at.rodeo) made at.invariant.list in
     c.in_err-next.ensures.error bytes hand.0 limit so_far list)
@@ -29,12 +29,12 @@ pub returns-then-next-distinct-clause-taken : goal.returns-then-next-distinct-cl
 returns-then-next-distinct-clause-taken g c = λ bytes e.
     let at = c.loop-count in
     let ahead = at.invariant.ahead bytes e in
-    let shown = c.buffered.result.now in
-    let hand = c.buffered.ensures.first ahead.0 ahead.1 in
+    let shown = c.buffered-shown.result.now in
+    let hand = c.buffered-shown.ensures.first ahead.0 ahead.1 in
     let so_far = subst (λ bs. Reading bytes bs at.count at.rodeo) hand.1 ahead.2 in
     let then = c.in_ok-next.ensures.added bytes hand.0 so_far in
     let left = drop c.in_ok-next.used shown ++ hand.0 in
-    let known = left_after _ _ _ shown hand.0 ahead.0 c.in_ok-next.used c.buffered.ensures.value c.consume.ensures.left ahead.1 hand.1 in
+    let known = left_after _ _ _ shown hand.0 ahead.0 c.in_ok-next.used c.buffered-shown.ensures.value c.consume.ensures.left ahead.1 hand.1 in
     (left, known, subst (λ n. texts_from n [] bytes ≡ Ok (c.add_texts.new.rodeo.texts, left)) c.if-next-distinct.true then.read)
 
 pub returns-then-next-distinct-clause-list : goal.returns-then-next-distinct-clause-list
@@ -45,18 +45,18 @@ returns-in-Err-clause-error g c = λ bytes e limit made.
     let at = c.loop-count in
     let next = c.in_ok-next.next in
     let ahead = at.invariant.ahead bytes e in
-    let shown = c.buffered.result.now in
-    let hand = c.buffered.ensures.first ahead.0 ahead.1 in
+    let shown = c.buffered-shown.result.now in
+    let hand = c.buffered-shown.ensures.first ahead.0 ahead.1 in
     let so_far = subst (λ bs. Reading bytes bs at.count at.rodeo) hand.1 ahead.2 in
     let then = c.in_ok-next.ensures.added bytes hand.0 so_far in
     let left = drop c.in_ok-next.used shown ++ hand.0 in
-    let known = left_after _ _ _ shown hand.0 ahead.0 c.in_ok-next.used c.buffered.ensures.value c.consume.ensures.left ahead.1 hand.1 in
+    let known = left_after _ _ _ shown hand.0 ahead.0 c.in_ok-next.used c.buffered-shown.ensures.value c.consume.ensures.left ahead.1 hand.1 in
     let small : next < c.args.distinct = omega (arith, c.in_ok-next.ensures.more, c.if-next-distinct.false) in
     let now = c.add_texts.new.rodeo in
     let line = c.next_whole_line.new.line.items in
     let cut = cut_as _ _ c.in_ok-next_whole_line.field-0 Whole line c.in_ok-next_whole_line.ensures.taken c.in-Whole.is left known in
     let list = subst (λ (i : InternerView). extend spur_at i now.texts accepted now) made (c.in_ok-next.ensures.list c.args.rodeo.now at.invariant.list) in
-    let error = subst (λ l. AddError now l (next + 1) c.in-Err.error) c.deref.ensures.value c.in-Err.ensures in
+    let error = subst (λ l. AddError now l (next + 1) c.in-Err.error) (c.untested-whole.ensures ∙ c.deref.ensures.value) c.in-Err.ensures in
     reading_fails bytes left next c.args.distinct now small then limit c.args.column line cut.0 c.in-Err.error list cut.2 error
 
 pub returns-in-Part : goal.returns-in-Part
@@ -69,12 +69,12 @@ returns-in-Part g c = record {
       let at = c.loop-count in
       let next = c.in_ok-next.next in
       let ahead = at.invariant.ahead bytes e in
-      let shown = c.buffered.result.now in
-      let hand = c.buffered.ensures.first ahead.0 ahead.1 in
+      let shown = c.buffered-shown.result.now in
+      let hand = c.buffered-shown.ensures.first ahead.0 ahead.1 in
       let so_far = subst (λ bs. Reading bytes bs at.count at.rodeo) hand.1 ahead.2 in
       let then = c.in_ok-next.ensures.added bytes hand.0 so_far in
       let left = drop c.in_ok-next.used shown ++ hand.0 in
-      let known = left_after _ _ _ shown hand.0 ahead.0 c.in_ok-next.used c.buffered.ensures.value c.consume.ensures.left ahead.1 hand.1 in
+      let known = left_after _ _ _ shown hand.0 ahead.0 c.in_ok-next.used c.buffered-shown.ensures.value c.consume.ensures.left ahead.1 hand.1 in
       let small : next < c.args.distinct = omega (arith, c.in_ok-next.ensures.more, c.if-next-distinct.false) in
       let none = no_cut _ _ c.in_ok-next_whole_line.field-0 c.next_whole_line.new.line.items c.in_ok-next_whole_line.ensures.taken c.in-Part.is left known in
       let now = c.add_texts.new.rodeo in
@@ -90,18 +90,18 @@ loop-count-preserved g c =
     let now = c.add_texts.new.rodeo in
     let after = c.add_text.new.rodeo in
     let line = c.next_whole_line.new.line.items in
-    let adds = subst (λ l. AddsText now l after) c.deref.ensures.value c.in_default.ensures in
+    let adds = subst (λ l. AddsText now l after) (c.untested-whole.ensures ∙ c.deref.ensures.value) c.in_default.ensures in
     record {
       within = omega (arith, small);
       reads = omega (arith, c.in_ok-next_whole_line.ensures.reads, c.consume.ensures.reads, at.invariant.reads);
       ahead = λ bytes e.
           let ahead = at.invariant.ahead bytes e in
-          let shown = c.buffered.result.now in
-          let hand = c.buffered.ensures.first ahead.0 ahead.1 in
+          let shown = c.buffered-shown.result.now in
+          let hand = c.buffered-shown.ensures.first ahead.0 ahead.1 in
           let so_far = subst (λ bs. Reading bytes bs at.count at.rodeo) hand.1 ahead.2 in
           let then = c.in_ok-next.ensures.added bytes hand.0 so_far in
           let left = drop c.in_ok-next.used shown ++ hand.0 in
-          let known = left_after _ _ _ shown hand.0 ahead.0 c.in_ok-next.used c.buffered.ensures.value c.consume.ensures.left ahead.1 hand.1 in
+          let known = left_after _ _ _ shown hand.0 ahead.0 c.in_ok-next.used c.buffered-shown.ensures.value c.consume.ensures.left ahead.1 hand.1 in
           let cut = cut_as _ _ c.in_ok-next_whole_line.field-0 Whole line c.in_ok-next_whole_line.ensures.taken c.in-Whole.is left known in
           (cut.0, cut.1, reading_push bytes left next c.args.distinct now small then line cut.0 after cut.2 adds);
       list = adds_more c.args.rodeo.now now after line (c.in_ok-next.ensures.list c.args.rodeo.now at.invariant.list) adds;

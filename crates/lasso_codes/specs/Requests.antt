@@ -1,0 +1,29 @@
+-- How a run of a request ends.
+use Rattle.std.specs.Prelude.{ℕ, List, Option, Result}
+use Rattle.lasso_parts.specs.Texts.{Text}
+use Rattle.lasso_codes.specs.Counts.{CountsEnd}
+use Rattle.lasso_codes.specs.Decode.{DecodeEnd}
+use Rattle.lasso_codes.specs.Distinct.{DistinctEnd}
+use Rattle.lasso_codes.specs.Encode.{EncodeEnd}
+use Rattle.lasso_codes.specs.Merge.{MergeEnd}
+use Rattle.lasso_codes.specs.declared.arguments.Command.{Command}
+use Rattle.lasso_codes.specs.declared.arguments.Command.TheVariants.{Help, VerbHelp, Version, Run}
+use Rattle.lasso_codes.specs.declared.arguments.Settings.{Settings}
+use Rattle.lasso_codes.specs.declared.arguments.Verb.{Verb}
+use Rattle.lasso_codes.specs.declared.arguments.Verb.TheVariants.{Counts, Decode, Distinct, Encode, Merge}
+use Rattle.lasso_codes.specs.declared.error.RunError.{RunError}
+
+-- how a run of a verb over this input ends, when it has written the part and these bytes of the input are left
+abbrev pub VerbEnd : Verb → Settings → Option Text → List ℕ → Option (List ℕ) → List ℕ → Result (Unit {0}) RunError → Type 0
+VerbEnd Counts settings null input after part result = CountsEnd input settings.limit settings.top part result
+VerbEnd Decode settings null input after part result = DecodeEnd input settings.limit null part result
+VerbEnd Distinct settings null input after part result = DistinctEnd input settings.limit after part result
+VerbEnd Encode settings null input after part result = EncodeEnd input settings.limit null settings.binary part result
+VerbEnd Merge settings null input after part result = MergeEnd input settings.limit settings.binary part result
+
+-- the same for a request: of a help text it says nothing
+abbrev pub RequestEnd : Command → Option Text → List ℕ → Option (List ℕ) → List ℕ → Result (Unit {0}) RunError → Type 0
+RequestEnd Help null input after part result = Unit {0}
+RequestEnd (VerbHelp verb) null input after part result = Unit {0}
+RequestEnd Version null input after part result = Unit {0}
+RequestEnd (Run verb settings) null input after part result = VerbEnd verb settings null input after part result

@@ -1,0 +1,23 @@
+//! Makes interners for lines.
+ghost use Rattle.std.specs.Prelude.{◌≡◌, IfOk, IfErr};
+ghost use Rattle.lasso_single.specs.Interner.{made_with};
+ghost use Rattle.lasso_columns.specs.declared.faults.LineError.TheVariants.{Refused};
+ghost use Rattle.lasso_parts.specs.declared.util.LassoErrorKind.TheVariants.{FailedAllocation};
+
+use crate::error::RunError;
+use lasso::{Capacity, MemoryLimits, Rodeo, SpurRodeo};
+use std::alloc::Global;
+
+/// A new interner for lines.
+///
+/// # Errors
+/// Out of memory, with the line number 0.
+pub fn new_rodeo(alloc: Global, limits: MemoryLimits) -> Result<SpurRodeo, RunError>
+    ensures made { IfOk result (λ rodeo. rodeo ≡ made_with 4096 limits) }
+    ensures refused { IfErr result (λ error. error ≡ RunError.Line (Refused 0 FailedAllocation)) }
+{
+    match Rodeo::with_capacity_and_memory_limits(alloc, Capacity::default(), limits) {
+        Ok(rodeo) => Ok(rodeo),
+        Err(_) => Err(RunError::no_memory(0)),
+    }
+}
