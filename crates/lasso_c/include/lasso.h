@@ -48,10 +48,10 @@
  * "make c" builds it, and prints how to link a program without installing it. The header is for C from C99 on and
  * for C++.
  *
- * What a call writes and returns is proved. Not proved are that LASSO_NO_MEMORY comes only if malloc or realloc
- * returned none; of lasso_capacity more than that it is at least lasso_len; that lasso_text and lasso_texts leave
- * their interner as it was, and how long a lent text lasts, past the next call; which seed or keys an interner
- * hashes by; what the caller owes; and what is said here of threads and of memory.
+ * What a call writes and returns is proved, and what it leaves of its interner. Not proved are that
+ * LASSO_NO_MEMORY comes only if malloc or realloc returned none; of lasso_capacity more than that it is at least
+ * lasso_len; how long a lent text lasts, past the next call; that an interner hashes by the seed or keys that it
+ * was made with; what the caller owes; and what is said here of threads and of memory.
  */
 #ifndef LASSO_H
 #define LASSO_H

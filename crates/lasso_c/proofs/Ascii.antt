@@ -2,8 +2,8 @@
 --
 -- Four bytes as one number are a number of the last three, and the first. An `and` goes by both, so where it is 0 the highest bit of
 -- the first byte is 0, and so is the `and` of the others.
-use Rattle.std.proofs.Common.{ℕ, zero, suc, ◌≡◌, ◌+◌, ◌-◌, ◌*◌, ◌/◌, ◌<◌, ◌≤◌, inl, inr, true, List, [], ◌∷◌, length, refl, ap, sym, subst, ◌∙◌, lit<, arith}
-use Rattle.std.specs.Prelude.{IsAscii, IsUtf8, bit_and, bit_or, slice_index}
+use Rattle.std.proofs.Common.{ℕ, zero, suc, ◌≡◌, ◌+◌, ◌-◌, ◌*◌, ◌/◌, ◌<◌, ◌≤◌, inl, inr, true, List, [], ◌∷◌, length, ap, sym, subst, ◌∙◌, lit<, arith}
+use Rattle.std.specs.Prelude.{IsAscii, bit_and, bit_or, slice_index}
 use Rattle.std.specs.Str.{is_utf8}
 use Rattle.std.proofs.lemmas.Bool.{cases_lt}
 use Rattle.std.proofs.lemmas.List.{get_or_past}

@@ -2,7 +2,7 @@
 --
 -- The code of nulls is none of the dictionary's, so a code is that of nulls just where its row is a null. The bits of the codes are
 -- packed eight to a byte, and dividing a byte by a power of two moves one of them to the front (`bit_of_byte`).
-use Rattle.std.proofs.Common.{ℕ, zero, suc, ◌≡◌, ◌+◌, ◌-◌, ◌*◌, ◌/◌, ◌%◌, ◌^◌, ◌<◌, ◌≤◌, Bool, true, false, not, nat_eq, if◌then◌else◌, List, [], ◌∷◌, length, map, get_or, slice_get, take, drop, is_some, unwrap_or, Option, Some, None, refl, ap, sym, subst, ◌∙◌, arith, add-one, length-drop}
+use Rattle.std.proofs.Common.{ℕ, zero, suc, ◌≡◌, ◌+◌, ◌*◌, ◌/◌, ◌%◌, ◌^◌, ◌<◌, ◌≤◌, Bool, true, false, not, nat_eq, if◌then◌else◌, List, [], ◌∷◌, length, map, get_or, slice_get, take, drop, is_some, unwrap_or, Option, Some, None, refl, ap, sym, ◌∙◌, arith, add-one, length-drop}
 use Rattle.std.specs.Int.{div_ceil}
 use Rattle.std.proofs.Math.Nat.{div-div-eq-div-mul}
 use Rattle.std.proofs.lemmas.Bool.Decides.{nat_tests}
@@ -10,10 +10,10 @@ use Rattle.std.proofs.lemmas.Grind.{div_ceil_times, pow_more}
 use Rattle.std.proofs.lemmas.List.{get_or-drop, get_or-map, get_or-take, length-map, length-take}
 use Rattle.std.proofs.lemmas.Option.{get_or_from_slice_get, slice_get_within}
 use Rattle.lasso_parts.specs.Texts.{Text, position_of}
-use Rattle.lasso_c.specs.Bitmap.{bitmap_of, byte_of, bytes_of, code_bits, present_at}
+use Rattle.lasso_c.specs.Bitmap.{bitmap_of, byte_of, code_bits, present_at}
 use Rattle.lasso_c.specs.Layout.{present_texts}
-use Rattle.lasso_c.specs.Encoding.{dictionary_of, row_code, row_codes}
-use Rattle.lasso_c.specs.Decoding.{rows_named, text_of_code}
+use Rattle.lasso_c.specs.Encoding.{dictionary_of, row_codes}
+use Rattle.lasso_c.specs.Decoding.{rows_named}
 use Rattle.lasso_c.specs.Laws.{DecodingGivesNullsBack}
 use Rattle.lasso_c.proofs.Bits.{bit_small, byte_at, length-bytes_of}
 use Rattle.lasso_c.proofs.RoundTrip.{Each, HasCode, all_stand, at_code}

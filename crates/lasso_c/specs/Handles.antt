@@ -10,7 +10,8 @@ use Rattle.lasso_c.specs.Decoding.{fitting, unless_faulty}
 use Rattle.lasso_c.specs.declared.error.Sizes.{Sizes}
 use Rattle.lasso_c.specs.declared.error.CallError.{CallError}
 use Rattle.lasso_c.specs.declared.error.CallError.TheVariants.{CodesTooShort, TooManyBytes, NoInterner, NoSuchCode, NoSuchText, NotUtf8}
-use Rattle.lasso_c.specs.declared.slot.Interner.{Interner}
+use Rattle.lasso_c.specs.declared.seed.Seed.{Seed}
+use Rattle.lasso_c.specs.declared.seeded.Interner.{Interner}
 
 -- the texts of the interner, or none if there is no interner
 abbrev pub texts_in : Option Interner → List Text
@@ -26,6 +27,11 @@ account_in (Some interner) = Some interner.rodeo.account
 abbrev pub first_in : Option Interner → Option ℕ
 first_in None = None
 first_in (Some interner) = Some interner.rodeo.first
+
+-- what the hashers of the interner begin with, if there is one
+abbrev pub seed_in : Option Interner → Option Seed
+seed_in None = None
+seed_in (Some interner) = Some interner.seed
 
 -- the code of a text among these, or that they do not have it
 abbrev pub text_lookup_in : List Text → Text → Result ℕ CallError

@@ -12,7 +12,8 @@ use crate::batches::intern_column;
 use crate::error::{CallError, Sizes};
 use crate::layout::put_text;
 use crate::seed::Seed;
-use lasso_parts::keys::{Key, Spur};
+use lasso_parts::index::Texts;
+use lasso_parts::keys::Spur;
 use lasso_single::rodeo::Rodeo;
 use std::alloc::Global;
 
@@ -163,7 +164,5 @@ pub(crate) fn text_at_code(dictionary: &Dictionary, code: usize) -> &str
     requires { code < length dictionary.now.texts }
     ensures { slice_get dictionary.now.texts code ≡ Some result.now }
 {
-    let _fits = dictionary.len();
-    let key = Spur::try_from_usize(code).unwrap();
-    dictionary.resolve(key)
+    dictionary.text_at(code)
 }

@@ -2,7 +2,8 @@
 ghost use Rattle.std.specs.Prelude.{◌≡◌, None, Some, is_some, option_map};
 ghost use Rattle.std.specs.Borrow.{sem};
 
-use crate::slot::{Block, Interner, Slot};
+use crate::seeded::Interner;
+use crate::slot::{Block, Slot};
 use std::alloc::Global;
 
 /// An interner, or none. All zero it is none.

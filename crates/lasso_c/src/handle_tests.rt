@@ -1,6 +1,6 @@
 //! A handle may be passed from thread to thread: it may, since an interner may.
 use crate::handle::Lasso;
-use crate::slot::Interner;
+use crate::seeded::Interner;
 
 fn is_send<T: Send>() {}
 

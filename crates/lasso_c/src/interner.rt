@@ -8,8 +8,9 @@ ghost use Rattle.lasso_parts.specs.Account.{clear, fresh, with_limit};
 ghost use Rattle.lasso_parts.specs.Texts.{position_of};
 ghost use Rattle.lasso_c.specs.Layout.{column_rows, greatest_offset, layout_texts, offsets_from, over, present_texts};
 ghost use Rattle.lasso_c.specs.Encoding.{with_new, with_all_new, codes_of, codes_or, row_codes};
-ghost use Rattle.lasso_c.specs.Handles.{account_in, code_lookup, dictionary_outcome, first_in, lookup_outcome, text_lookup, texts_in};
+ghost use Rattle.lasso_c.specs.Handles.{account_in, code_lookup, dictionary_outcome, first_in, lookup_outcome, seed_in, text_lookup, texts_in};
 ghost use Rattle.lasso_c.specs.Interning.{BatchEnds, TextEnds};
+ghost use Rattle.lasso_c.specs.Seeds.{IsFixed};
 ghost use Rattle.lasso_c.specs.Status.{Reports, outcome_status};
 
 use crate::batches::{code_in, copy_text};
@@ -32,19 +33,21 @@ pub extern "C" fn lasso_new(alloc: Global, lasso: &mut Lasso, limit: usize) -> u
     ensures texts { result ≡ DONE → texts_in lasso.new.slot.value ≡ [] }
     ensures account { result ≡ DONE → account_in lasso.new.slot.value ≡ Some (fresh 4096 limit) }
     ensures first { result ≡ DONE → first_in lasso.new.slot.value ≡ Some 4096 }
+    ensures seed { result ≡ DONE → IfSome (seed_in lasso.new.slot.value) IsFixed }
     ensures refused { ¬ (result ≡ DONE) → result ≡ NO_MEMORY }
     ensures kept { ¬ (result ≡ DONE) → lasso.new.slot.value ≡ lasso.old.slot.value }
 {
     make(alloc, lasso, Capacity::default(), limit, Seed::fixed())
 }
 
-/// Interns a text, and writes its code. It returns `NOT_UTF8`; `NO_INTERNER`; and where the interner refuses the text
+/// Interns a text, and writes its code. It returns `NOT_UTF8`; `NO_INTERNER`; and if the interner refuses the text
 /// `LIMIT_REACHED`, `NO_CODE_LEFT` or `NO_MEMORY`. Nothing has changed then.
 #[unsafe(no_mangle)]
 pub extern "C" fn lasso_intern(lasso: &mut Lasso, text: &[u8], code: &mut u32) -> u32
     ensures texts { result ≡ DONE → texts_in lasso.new.slot.value ≡ with_new (texts_in lasso.old.slot.value) text.now }
     ensures code { result ≡ DONE → position_of (texts_in lasso.new.slot.value) text.now ≡ Some code.new }
     ensures outcome { TextEnds (is_utf8 text.now) lasso.old.slot.value text.now result lasso.new.slot.value }
+    ensures seed { seed_in lasso.new.slot.value ≡ seed_in lasso.old.slot.value }
     ensures kept { ¬ (result ≡ DONE) → lasso.new.slot.value ≡ lasso.old.slot.value }
     ensures code_kept { ¬ (result ≡ DONE) → code.new ≡ code.old }
 {
@@ -64,7 +67,7 @@ pub extern "C" fn lasso_intern(lasso: &mut Lasso, text: &[u8], code: &mut u32) -
 }
 
 /// Interns the texts of a layout in their order, up to the first that is refused, and writes the codes of those before it. The
-/// report says how many these are, and also where the refused one is. It returns `CODES_TOO_SHORT` and interns none where a code
+/// report says how many these are, and also where the refused one is. It returns `CODES_TOO_SHORT` and interns none if a code
 /// of each text has no room, `NO_INTERNER` without an interner, and else what the refused text gives: `OFFSETS_FALL`,
 /// `OFFSET_PAST_BYTES` or `NOT_UTF8` for its layout, or a refusal of `lasso_intern`.
 #[unsafe(no_mangle)]
@@ -78,15 +81,16 @@ pub extern "C" fn lasso_intern_batch(
     ensures outcome { BatchEnds greatest_offset lasso.old.slot.value [] bytes.now offsets.now (length codes.old) result report.new lasso.new.slot.value }
     ensures texts { texts_in lasso.new.slot.value ≡ with_all_new (texts_in lasso.old.slot.value) (take report.new.texts (layout_texts bytes.now offsets.now)) }
     ensures codes { codes.new ≡ over (codes_of (texts_in lasso.new.slot.value) (take report.new.texts (layout_texts bytes.now offsets.now))) codes.old }
+    ensures seed { seed_in lasso.new.slot.value ≡ seed_in lasso.old.slot.value }
     ensures whole { result ≡ DONE → report.new.texts ≡ length (layout_texts bytes.now offsets.now) }
     ensures within { report.new.texts ≤ length (layout_texts bytes.now offsets.now) }
 {
     widths::intern_batch(lasso, bytes, offsets, codes, report)
 }
 
-/// The same for a column with nulls: bit i of byte i / 8 of `present`, counted from the least, is 1 where row i is present, and without
-/// a byte each is. A null has the code `null`, and no text is interned for it. It returns `BITMAP_TOO_SHORT` and interns none where
-/// `present` has too few bits.
+/// The same for a column with nulls: bit i of byte i / 8 of `present`, counted from the least, is 1 if row i is present; if `present`
+/// is empty, each row is present. A null has the code `null`, and no text is interned for it. It returns `BITMAP_TOO_SHORT` and
+/// interns none if `present` has too few bits.
 #[unsafe(no_mangle)]
 pub extern "C" fn lasso_intern_batch_nulls(
     lasso: &mut Lasso,
@@ -100,14 +104,15 @@ pub extern "C" fn lasso_intern_batch_nulls(
     ensures outcome { BatchEnds greatest_offset lasso.old.slot.value present.now bytes.now offsets.now (length codes.old) result report.new lasso.new.slot.value }
     ensures texts { texts_in lasso.new.slot.value ≡ with_all_new (texts_in lasso.old.slot.value) (present_texts (take report.new.texts (column_rows present.now bytes.now offsets.now))) }
     ensures codes { codes.new ≡ over (row_codes null (texts_in lasso.new.slot.value) (take report.new.texts (column_rows present.now bytes.now offsets.now))) codes.old }
+    ensures seed { seed_in lasso.new.slot.value ≡ seed_in lasso.old.slot.value }
     ensures whole { result ≡ DONE → report.new.texts ≡ length (layout_texts bytes.now offsets.now) }
     ensures within { report.new.texts ≤ length (layout_texts bytes.now offsets.now) }
 {
     widths::intern_batch_nulls(lasso, bytes, offsets, present, null, codes, report)
 }
 
-/// Writes the code of a text. It returns `NOT_UTF8` where the text is not UTF-8, `NO_INTERNER` without an interner,
-/// `NO_SUCH_TEXT` where the text is absent, and writes nothing then.
+/// Writes the code of a text. It returns `NOT_UTF8` if the text is not UTF-8, `NO_INTERNER` without an interner,
+/// `NO_SUCH_TEXT` if the text is absent, and writes nothing then.
 #[unsafe(no_mangle)]
 pub extern "C" fn lasso_get(lasso: &mut Lasso, text: &[u8], code: &mut u32) -> u32
     ensures status { result ≡ outcome_status (text_lookup (is_utf8 text.now) lasso.old.slot.value text.now) }
@@ -142,7 +147,7 @@ fn find_code(lasso: &mut Lasso, text: &[u8]) -> Result<u32, CallError>
 }
 
 /// Writes the code of each text of a layout, and `absent` for a text that the interner does not have. The report has their
-/// number. It returns `NO_INTERNER` without an interner, `CODES_TOO_SHORT` where a code of each text has no room, and
+/// number. It returns `NO_INTERNER` without an interner, `CODES_TOO_SHORT` if a code of each text has no room, and
 /// `OFFSETS_FALL`, `OFFSET_PAST_BYTES` or `NOT_UTF8` for what is first wrong with the layout. What is refused writes nothing but
 /// its report.
 #[unsafe(no_mangle)]
@@ -163,7 +168,7 @@ pub extern "C" fn lasso_get_batch(
 }
 
 /// Writes the text of a code as far as there is room, and how many bytes the whole text has. It returns `NO_INTERNER` without an
-/// interner, `NO_SUCH_CODE` where the code has no text, and writes nothing then.
+/// interner, `NO_SUCH_CODE` if the code has no text, and writes nothing then.
 #[unsafe(no_mangle)]
 pub extern "C" fn lasso_resolve(
     lasso: &mut Lasso,
@@ -185,8 +190,8 @@ pub extern "C" fn lasso_resolve(
 }
 
 /// Writes the layout of the texts from a code on: what a reader lacks that has those before. The report has their sizes, which
-/// are those that are needed where it returns `OFFSETS_TOO_SHORT` or `BYTES_TOO_SHORT`. It returns `TOO_MANY_BYTES` where they have
-/// more bytes than offsets can tell, `NO_INTERNER` without an interner. What is refused writes nothing but its report.
+/// are those that are needed if it returns `OFFSETS_TOO_SHORT` or `BYTES_TOO_SHORT`. It returns `TOO_MANY_BYTES` if they have
+/// more bytes than the greatest offset, `NO_INTERNER` without an interner. What is refused writes nothing but its report.
 #[unsafe(no_mangle)]
 pub extern "C" fn lasso_dictionary(
     lasso: &mut Lasso,
@@ -256,13 +261,14 @@ pub extern "C" fn lasso_limit(lasso: &mut Lasso) -> usize
     interner.rodeo.max_memory_usage()
 }
 
-/// Sets how many bytes the interner's buckets may take. It may lie below what they take: then no bucket comes. It returns
+/// Sets how many bytes the interner's buckets may take. It may be less than they take: then no bucket comes. It returns
 /// `NO_INTERNER` without an interner.
 #[unsafe(no_mangle)]
 pub extern "C" fn lasso_set_limit(lasso: &mut Lasso, limit: usize) -> u32
     ensures texts { texts_in lasso.new.slot.value ≡ texts_in lasso.old.slot.value }
     ensures account { IfSome (account_in lasso.old.slot.value) (λ account. account_in lasso.new.slot.value ≡ Some (with_limit account limit)) }
     ensures first { first_in lasso.new.slot.value ≡ first_in lasso.old.slot.value }
+    ensures seed { seed_in lasso.new.slot.value ≡ seed_in lasso.old.slot.value }
     ensures done { IsSome lasso.old.slot.value → result ≡ DONE }
     ensures none { lasso.old.slot.value ≡ None → (result ≡ NO_INTERNER) × (lasso.new.slot.value ≡ None) }
 {
@@ -279,6 +285,7 @@ pub extern "C" fn lasso_clear(lasso: &mut Lasso) -> u32
     ensures texts { texts_in lasso.new.slot.value ≡ [] }
     ensures account { IfSome lasso.old.slot.value (λ interner. account_in lasso.new.slot.value ≡ Some (clear interner.rodeo.first interner.rodeo.account)) }
     ensures first { first_in lasso.new.slot.value ≡ first_in lasso.old.slot.value }
+    ensures seed { seed_in lasso.new.slot.value ≡ seed_in lasso.old.slot.value }
     ensures done { IsSome lasso.old.slot.value → result ≡ DONE }
     ensures none { lasso.old.slot.value ≡ None → (result ≡ NO_INTERNER) × (lasso.new.slot.value ≡ None) }
 {

@@ -4,7 +4,7 @@ ghost use Rattle.std.specs.Prelude.{◌≡◌, ◌≤◌, [], length, take, drop
 ghost use Rattle.std.specs.List.{concat};
 ghost use Rattle.lasso_c.specs.Layout.{greatest_large_offset, column_rows, layout_texts, offsets_from, over, present_texts};
 ghost use Rattle.lasso_c.specs.Encoding.{codes_of, codes_or, row_codes, with_all_new};
-ghost use Rattle.lasso_c.specs.Handles.{dictionary_outcome, lookup_outcome, texts_in};
+ghost use Rattle.lasso_c.specs.Handles.{dictionary_outcome, lookup_outcome, seed_in, texts_in};
 ghost use Rattle.lasso_c.specs.Interning.{BatchEnds};
 ghost use Rattle.lasso_c.specs.Status.{Reports};
 
@@ -25,6 +25,7 @@ pub extern "C" fn lasso_intern_batch_large(
     ensures outcome { BatchEnds greatest_large_offset lasso.old.slot.value [] bytes.now offsets.now (length codes.old) result report.new lasso.new.slot.value }
     ensures texts { texts_in lasso.new.slot.value ≡ with_all_new (texts_in lasso.old.slot.value) (take report.new.texts (layout_texts bytes.now offsets.now)) }
     ensures codes { codes.new ≡ over (codes_of (texts_in lasso.new.slot.value) (take report.new.texts (layout_texts bytes.now offsets.now))) codes.old }
+    ensures seed { seed_in lasso.new.slot.value ≡ seed_in lasso.old.slot.value }
     ensures whole { result ≡ DONE → report.new.texts ≡ length (layout_texts bytes.now offsets.now) }
     ensures within { report.new.texts ≤ length (layout_texts bytes.now offsets.now) }
 {
@@ -45,6 +46,7 @@ pub extern "C" fn lasso_intern_batch_nulls_large(
     ensures outcome { BatchEnds greatest_large_offset lasso.old.slot.value present.now bytes.now offsets.now (length codes.old) result report.new lasso.new.slot.value }
     ensures texts { texts_in lasso.new.slot.value ≡ with_all_new (texts_in lasso.old.slot.value) (present_texts (take report.new.texts (column_rows present.now bytes.now offsets.now))) }
     ensures codes { codes.new ≡ over (row_codes null (texts_in lasso.new.slot.value) (take report.new.texts (column_rows present.now bytes.now offsets.now))) codes.old }
+    ensures seed { seed_in lasso.new.slot.value ≡ seed_in lasso.old.slot.value }
     ensures whole { result ≡ DONE → report.new.texts ≡ length (layout_texts bytes.now offsets.now) }
     ensures within { report.new.texts ≤ length (layout_texts bytes.now offsets.now) }
 {
@@ -69,7 +71,7 @@ pub extern "C" fn lasso_get_batch_large(
     widths::get_batch(lasso, bytes, offsets, absent, codes, report)
 }
 
-/// `lasso_dictionary` with offsets of 64 bits. It returns `TOO_MANY_BYTES` where the texts have more than 2^63 - 1.
+/// `lasso_dictionary` with offsets of 64 bits. It returns `TOO_MANY_BYTES` if the texts have more than 2^63 - 1.
 #[unsafe(no_mangle)]
 pub extern "C" fn lasso_dictionary_large(
     lasso: &mut Lasso,

@@ -7,7 +7,6 @@ const BYTES: &[u8] = b"redbluea text of more bytes than an entry";
 
 const LONG: &[u8] = b"a text of more bytes than an entry";
 
-// What a call that lends leaves of its interner is no clause.
 static BY_CODE: [Step; 17] = [
     Step::Lends(0, (12, b"none")),
     Step::LendsAll(0, 4, &[]),

@@ -42,6 +42,7 @@ mod offsets;
 mod seed;
 #[cfg(test)]
 mod seed_tests;
+pub mod seeded;
 pub mod slot;
 pub mod status;
 #[cfg(test)]
@@ -93,8 +94,8 @@ pub extern "C" fn lasso_encode(
     error::tell(&outcome, report)
 }
 
-/// The same for a column with nulls: bit i of byte i / 8 of `present`, counted from the least, is 1 where row i is present, and without
-/// a byte each is. A null has the code `null`, and its bytes are in no dictionary.
+/// The same for a column with nulls: bit i of byte i / 8 of `present`, counted from the least, is 1 if row i is present; if `present`
+/// is empty, each row is present. A null has the code `null`, and its bytes are in no dictionary.
 #[unsafe(no_mangle)]
 pub extern "C" fn lasso_encode_nulls(
     alloc: Global,
@@ -132,7 +133,7 @@ pub extern "C" fn lasso_encode_nulls(
     error::tell(&outcome, report)
 }
 
-/// Writes the texts that codes name, in the layout of the dictionary. It returns a status, and where that is not `DONE` it
+/// Writes the texts that codes name, in the layout of the dictionary. It returns a status, and if that is not `DONE` it
 /// writes nothing but the report.
 #[unsafe(no_mangle)]
 pub extern "C" fn lasso_decode(
@@ -163,7 +164,7 @@ pub extern "C" fn lasso_decode(
 }
 
 /// The same for a column with nulls: the code `null` gives an empty row, whose bit in `present` is 0; each other row has 1, and the
-/// bits of the last byte after the rows are 0. It returns `BITMAP_TOO_SHORT` where `present` has too few bits.
+/// bits of the last byte after the rows are 0. It returns `BITMAP_TOO_SHORT` if `present` has too few bits.
 #[unsafe(no_mangle)]
 pub extern "C" fn lasso_decode_nulls(
     dictionary_bytes: &[u8],

@@ -2,15 +2,14 @@
 ghost use Rattle.std.specs.Prelude.{◌≡◌, [], None, Some, IfSome, IsSome, max};
 ghost use Rattle.lasso_parts.specs.Account.{fresh};
 ghost use Rattle.lasso_single.specs.Copies.{clone_of, clone_size};
-ghost use Rattle.lasso_c.specs.Handles.{account_in, first_in, texts_in};
+ghost use Rattle.lasso_c.specs.Handles.{account_in, first_in, seed_in, texts_in};
+ghost use Rattle.lasso_c.specs.Seeds.{IsFixed, keyed_seed};
 
-use crate::encoding::Dictionary;
 use crate::handle::Lasso;
 use crate::seed::Seed;
-use crate::slot::Interner;
+use crate::seeded::Interner;
 use crate::status::{DONE, NO_INTERNER, NO_MEMORY};
-use lasso_parts::util::{Capacity, MemoryLimits};
-use lasso_single::rodeo::Rodeo;
+use lasso_parts::util::Capacity;
 use std::alloc::Global;
 
 /// `lasso_new` with room for `texts` texts before the list of texts grows, and a first bucket of `bytes` bytes, at least one. The
@@ -27,6 +26,7 @@ pub extern "C" fn lasso_new_sized(
     ensures texts { result ≡ DONE → texts_in lasso.new.slot.value ≡ [] }
     ensures account { result ≡ DONE → account_in lasso.new.slot.value ≡ Some (fresh (max bytes 1) limit) }
     ensures first { result ≡ DONE → first_in lasso.new.slot.value ≡ Some (max bytes 1) }
+    ensures seed { result ≡ DONE → IfSome (seed_in lasso.new.slot.value) IsFixed }
     ensures refused { ¬ (result ≡ DONE) → result ≡ NO_MEMORY }
     ensures kept { ¬ (result ≡ DONE) → lasso.new.slot.value ≡ lasso.old.slot.value }
 {
@@ -48,6 +48,7 @@ pub extern "C" fn lasso_new_keyed(
     ensures texts { result ≡ DONE → texts_in lasso.new.slot.value ≡ [] }
     ensures account { result ≡ DONE → account_in lasso.new.slot.value ≡ Some (fresh 4096 limit) }
     ensures first { result ≡ DONE → first_in lasso.new.slot.value ≡ Some 4096 }
+    ensures seed { result ≡ DONE → seed_in lasso.new.slot.value ≡ Some (keyed_seed key0 key1) }
     ensures refused { ¬ (result ≡ DONE) → result ≡ NO_MEMORY }
     ensures kept { ¬ (result ≡ DONE) → lasso.new.slot.value ≡ lasso.old.slot.value }
 {
@@ -75,6 +76,7 @@ pub extern "C" fn lasso_new_sized_keyed(
     ensures texts { result ≡ DONE → texts_in lasso.new.slot.value ≡ [] }
     ensures account { result ≡ DONE → account_in lasso.new.slot.value ≡ Some (fresh (max bytes 1) limit) }
     ensures first { result ≡ DONE → first_in lasso.new.slot.value ≡ Some (max bytes 1) }
+    ensures seed { result ≡ DONE → seed_in lasso.new.slot.value ≡ Some (keyed_seed key0 key1) }
     ensures refused { ¬ (result ≡ DONE) → result ≡ NO_MEMORY }
     ensures kept { ¬ (result ≡ DONE) → lasso.new.slot.value ≡ lasso.old.slot.value }
 {
@@ -82,7 +84,7 @@ pub extern "C" fn lasso_new_sized_keyed(
     make(alloc, lasso, sized, limit, Seed::keyed(key0, key1))
 }
 
-/// Makes an interner with the same texts under the same codes in another handle. Their bytes lie in one bucket of just their size, or
+/// Makes an interner with the same texts under the same codes in another handle. Their bytes are in one bucket of just their size, or
 /// of 4096 bytes if they have none, and its limit is the same, or that size if it is greater. It hashes with the same seed. It
 /// returns `NO_INTERNER` without an interner to clone, `NO_MEMORY` out of memory, and `clone` is as it was then.
 #[unsafe(no_mangle)]
@@ -91,6 +93,7 @@ pub extern "C" fn lasso_clone(alloc: Global, lasso: &mut Lasso, clone: &mut Lass
     ensures texts { result ≡ DONE → texts_in clone.new.slot.value ≡ texts_in lasso.old.slot.value }
     ensures account { result ≡ DONE → IfSome lasso.old.slot.value (λ interner. account_in clone.new.slot.value ≡ clone_of interner.rodeo.texts interner.rodeo.account.limit) }
     ensures first { result ≡ DONE → first_in clone.new.slot.value ≡ Some (clone_size (texts_in lasso.old.slot.value)) }
+    ensures seed { result ≡ DONE → seed_in clone.new.slot.value ≡ seed_in lasso.old.slot.value }
     ensures none { lasso.old.slot.value ≡ None → result ≡ NO_INTERNER }
     ensures refused { IsSome lasso.old.slot.value → ¬ (result ≡ DONE) → result ≡ NO_MEMORY }
     ensures clone_kept { ¬ (result ≡ DONE) → clone.new.slot.value ≡ clone.old.slot.value }
@@ -99,8 +102,8 @@ pub extern "C" fn lasso_clone(alloc: Global, lasso: &mut Lasso, clone: &mut Lass
     let Some(interner) = lasso.interner() else {
         return NO_INTERNER;
     };
-    match interner.rodeo.try_clone() {
-        Ok(rodeo) => hold(alloc, clone, rodeo),
+    match interner.try_clone() {
+        Ok(made) => hold(alloc, clone, made),
         Err(_) => NO_MEMORY,
     }
 }
@@ -117,26 +120,26 @@ pub(crate) fn make(
     ensures texts { result ≡ DONE → texts_in lasso.new.slot.value ≡ [] }
     ensures account { result ≡ DONE → account_in lasso.new.slot.value ≡ Some (fresh capacity.bytes limit) }
     ensures first { result ≡ DONE → first_in lasso.new.slot.value ≡ Some capacity.bytes }
+    ensures seed { result ≡ DONE → seed_in lasso.new.slot.value ≡ Some seed }
     ensures refused { ¬ (result ≡ DONE) → result ≡ NO_MEMORY }
     ensures kept { ¬ (result ≡ DONE) → lasso.new.slot.value ≡ lasso.old.slot.value }
 {
-    let limits = MemoryLimits::new(limit);
-    match Rodeo::with_capacity_memory_limits_and_hasher(alloc, capacity, limits, seed) {
-        Ok(rodeo) => hold(alloc, lasso, rodeo),
+    match Interner::new(alloc, capacity, limit, seed) {
+        Ok(interner) => hold(alloc, lasso, interner),
         Err(_) => NO_MEMORY,
     }
 }
 
 // Holds the interner, and lets go of one that was held. The handle is as it was out of memory.
-fn hold(alloc: Global, lasso: &mut Lasso, rodeo: Dictionary) -> u32
-    ensures held { result ≡ DONE → IfSome lasso.new.slot.value (λ interner. interner.rodeo ≡ rodeo) }
+fn hold(alloc: Global, lasso: &mut Lasso, interner: Interner) -> u32
+    ensures held { result ≡ DONE → lasso.new.slot.value ≡ Some interner }
     ensures made { result ≡ DONE → IsSome lasso.new.slot.value }
     ensures refused { ¬ (result ≡ DONE) → result ≡ NO_MEMORY }
     ensures kept { ¬ (result ≡ DONE) → lasso.new.slot.value ≡ lasso.old.slot.value }
 {
-    let Ok(interner) = Box::new(alloc, Interner { rodeo }) else {
+    let Ok(boxed) = Box::new(alloc, interner) else {
         return NO_MEMORY;
     };
-    lasso.put(alloc, interner);
+    lasso.put(alloc, boxed);
     DONE
 }

@@ -1,22 +1,16 @@
 // Memory of a caller's in which an interner is kept between calls.
 //
 // An export can take no box, so a box is taken apart here: `Block` is its memory, and `Slot` the same beside what gives it back.
-// Both own what lies at their pointers by their types' models, so no caller says anything of memory.
+// Both own what is at their pointers by their types' models, so no caller says anything of memory.
 ghost use Rattle.std.specs.Prelude.{◌≡◌, Option, None, Some};
 ghost use Rattle.std.specs.Borrow.{sem};
 ghost use Rattle.std.specs.Box.Ownership.{box_owns};
 ghost use Rattle.lasso_c.specs.Held.{freed_by_heap, held, interner_coded};
-ghost use Rattle.lasso_c.specs.declared.slot.Interner.{Interner};
+ghost use Rattle.lasso_c.specs.declared.seeded.Interner.{Interner};
 
-use crate::encoding::Dictionary;
+use crate::seeded::Interner;
 use std::alloc::Global;
 use std::marker::Model;
-
-/// An interner whose keys are codes.
-#[derive(Drop)]
-pub struct Interner {
-    pub(crate) rodeo: Dictionary,
-}
 
 // The memory of a box, without the box.
 pub(crate) struct Block<T> {
@@ -65,7 +59,7 @@ impl Slot {
         }
     }
 
-    // The interner that lies there.
+    // The slot of the interner in the block.
     pub(crate) fn of_block(alloc: Global, block: Block<Interner>) -> Slot
         ensures { result.value ≡ Some block.value }
     {

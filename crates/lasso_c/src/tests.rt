@@ -14,7 +14,7 @@ use lasso_parts::util::LassoErrorKind;
 use std::alloc::Global;
 use std::process::Abort;
 use std::test::Fail;
-use steps::{Step, walk_on};
+use steps::{Step, clones, walk_on};
 
 // Encodes the columns, and checks what comes of each.
 pub fn encode_all<R: Abort + AllocGlobal>(rt: &R, rows: &[Encoding]) -> Result<(), Fail> {
@@ -423,6 +423,22 @@ fn twenty_thousand_texts_are_interned_in_a_batch(rt: HostRuntime) -> Result<(), 
         is_as_told(&rt, found, time)?;
     }
     walk_on(&rt, &mut lasso, &[Step::Counts(5000)])
+}
+
+#[test]
+fn an_interner_of_five_thousand_texts_is_cloned(rt: HostRuntime) -> Result<(), Fail> {
+    let texts = texts_up_to(rt.alloc(), 5000, 5000)?;
+    let codes = codes_of_texts(rt.alloc(), 5000, 5000)?;
+    let mut written = vec![in rt.alloc(); 9u32; 5000]?;
+    let (mut lasso, mut clone) = (Lasso::none(rt.alloc()), Lasso::none(rt.alloc()));
+    walk_on(&rt, &mut lasso, &[Step::Makes(usize::MAX)])?;
+    let (interned, _) = batches_of(&mut lasso, &texts, &codes, &mut written);
+    is_as_told(&rt, interned, 1)?;
+    is_as_told(&rt, clones(rt.alloc(), &mut lasso, &mut clone, 0), 2)?;
+    let (present, found) = batches_of(&mut clone, &texts, &codes, &mut written);
+    is_as_told(&rt, present, 3)?;
+    is_as_told(&rt, found, 4)?;
+    walk_on(&rt, &mut clone, &[Step::Counts(5000)])
 }
 
 // Why an interner refuses a text, and what that comes to for the text with the number 3 of a batch. No test has

@@ -3,7 +3,7 @@ ghost use Rattle.std.specs.Prelude.{◌≡◌, ◌≤◌, [], length, take, drop
 ghost use Rattle.std.specs.List.{concat};
 ghost use Rattle.lasso_c.specs.Layout.{column_rows, layout_texts, offsets_from, over, present_texts};
 ghost use Rattle.lasso_c.specs.Encoding.{codes_of, codes_or, row_codes, with_all_new};
-ghost use Rattle.lasso_c.specs.Handles.{dictionary_outcome, lookup_outcome, texts_in};
+ghost use Rattle.lasso_c.specs.Handles.{dictionary_outcome, lookup_outcome, seed_in, texts_in};
 ghost use Rattle.lasso_c.specs.Interning.{BatchEnds};
 ghost use Rattle.lasso_c.specs.Status.{Reports};
 
@@ -24,6 +24,7 @@ pub(crate) fn intern_batch<O: Offset>(
     ensures outcome { BatchEnds O.greatest lasso.old.slot.value [] bytes.now (O.numbers offsets.now) (length codes.old) result report.new lasso.new.slot.value }
     ensures texts { texts_in lasso.new.slot.value ≡ with_all_new (texts_in lasso.old.slot.value) (take report.new.texts (layout_texts bytes.now (O.numbers offsets.now))) }
     ensures codes { codes.new ≡ over (codes_of (texts_in lasso.new.slot.value) (take report.new.texts (layout_texts bytes.now (O.numbers offsets.now)))) codes.old }
+    ensures seed { seed_in lasso.new.slot.value ≡ seed_in lasso.old.slot.value }
     ensures whole { result ≡ DONE → report.new.texts ≡ length (layout_texts bytes.now (O.numbers offsets.now)) }
     ensures within { report.new.texts ≤ length (layout_texts bytes.now (O.numbers offsets.now)) }
 {
@@ -47,6 +48,7 @@ pub(crate) fn intern_batch_nulls<O: Offset>(
     ensures outcome { BatchEnds O.greatest lasso.old.slot.value present.now bytes.now (O.numbers offsets.now) (length codes.old) result report.new lasso.new.slot.value }
     ensures texts { texts_in lasso.new.slot.value ≡ with_all_new (texts_in lasso.old.slot.value) (present_texts (take report.new.texts (column_rows present.now bytes.now (O.numbers offsets.now)))) }
     ensures codes { codes.new ≡ over (row_codes null (texts_in lasso.new.slot.value) (take report.new.texts (column_rows present.now bytes.now (O.numbers offsets.now)))) codes.old }
+    ensures seed { seed_in lasso.new.slot.value ≡ seed_in lasso.old.slot.value }
     ensures whole { result ≡ DONE → report.new.texts ≡ length (layout_texts bytes.now (O.numbers offsets.now)) }
     ensures within { report.new.texts ≤ length (layout_texts bytes.now (O.numbers offsets.now)) }
 {

@@ -1,4 +1,4 @@
-use Rattle.std.proofs.Common.{◌≡◌, List, ℕ, sym, ap, ◌∙◌}
+use Rattle.std.proofs.Common.{sym, ap, ◌∙◌}
 use Rattle.std.specs.List.{fold}
 use Rattle.lasso_c.specs.Seeds.{finished, started, written}
 use Rattle.lasso_c.specs.declared.seed.Seed.{Seed}

@@ -1,6 +1,6 @@
 -- `get_mut` lends the interner that the slot's memory holds. While it is lent, the slot is that memory's right and the handle, and
 -- whatever interner comes back lies where the first did, so it is the slot's again.
-use Rattle.std.proofs.Common.{◌≡◌, ℕ, List, [], ◌∷◌, refl, sym, ap, ◌∙◌}
+use Rattle.std.proofs.Common.{◌≡◌, ℕ, List, [], ◌∷◌, refl, sym}
 use Rattle.std.specs.Prelude.{Option, None, Some}
 use Rattle.std.specs.Box.Ownership.{box_owns}
 use mir.Raw.{raw as bare}
@@ -12,9 +12,8 @@ use base.Fml.{Fml, GName, ftrue, fsep, flft}
 use base.Fraction.{full_share}
 use contract.Monad.{fact}
 use contract.Running.{tables}
-use prog.Wp.{Env}
 use types.Logic.{Logic, sem}
-use types.Kit.{‵, raw, ◌⊛◌, some, later, at_ret, ◌$◌, ◌∵◌, !, qed, done, move, keep, drop, use1, use2, split, split3, join, fsplit, fsplit3, fjoin, fpack, pick, await, rewrite, suffices, frame, group}
+use types.Kit.{‵, raw, ◌⊛◌, some, later, at_ret, ◌$◌, ◌∵◌, !, qed, done, move, keep, use1, use2, split, split3, join, fsplit, fsplit3, fjoin, fpack, pick, await, rewrite, suffices, frame, group}
 use types.Part.{whole, sub, look_in}
 use types.Run.{enter, of_opd, addr, load, stop, fld, first, blocks, exec, returns}
 use types.ByLocal.{alloc_all, pass_all, free_all, look_at, get, through, sets, sets_last, env}
@@ -35,7 +34,7 @@ use Rattle.std_heap.proofs.Handle.{heap_val}
 use Rattle.std_heap.specs.contracts.Global as Heap
 use Rattle.lasso_c.specs.Held.{freed_by_heap, held}
 use Rattle.lasso_c.specs.Lending.{with_interner}
-use Rattle.lasso_c.specs.contracts.slot.Interner as Interner
+use Rattle.lasso_c.specs.contracts.seeded.Interner as Interner
 use Rattle.lasso_c.specs.contracts.slot.Slot as Slot
 use Rattle.lasso_c.proofs.slot.Slot.TheLaws as slot
 use Rattle.lasso_c.specs.contracts.slot.Slot.get_mut as f

@@ -39,8 +39,8 @@ use Rattle.std_alloc.proofs.boxed.Box.TheLaws as box
 use Rattle.std_alloc.specs.contracts.boxed.Box.from_raw as callee
 use Rattle.std_alloc.proofs.boxed.Box.from_raw.Met.{met}
 use Rattle.lasso_c.specs.Held.{held}
-use Rattle.lasso_c.specs.contracts.slot.Interner as Interner
-use Rattle.lasso_c.proofs.slot.Interner.TheLaws as interner
+use Rattle.lasso_c.specs.contracts.seeded.Interner as Interner
+use Rattle.lasso_c.proofs.seeded.Interner.TheLaws as interner
 use Rattle.lasso_c.specs.contracts.slot.Slot as Slot
 use Rattle.lasso_c.proofs.slot.Slot.TheLaws as slot
 use Rattle.lasso_c.specs.contracts.slot.Slot.into_box as f

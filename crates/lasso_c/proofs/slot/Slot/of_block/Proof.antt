@@ -17,8 +17,8 @@ use Rattle.std_heap.specs.contracts.Global as Heap
 use Rattle.std_heap.proofs.Global.TheLaws as heap
 use Rattle.lasso_c.specs.contracts.slot.Block as Block
 use Rattle.lasso_c.proofs.slot.Block.TheLaws as block
-use Rattle.lasso_c.specs.contracts.slot.Interner as Interner
-use Rattle.lasso_c.proofs.slot.Interner.TheLaws as interner
+use Rattle.lasso_c.specs.contracts.seeded.Interner as Interner
+use Rattle.lasso_c.proofs.seeded.Interner.TheLaws as interner
 use Rattle.lasso_c.specs.contracts.slot.Slot as Slot
 use Rattle.lasso_c.specs.contracts.slot.Slot.of_block as f
 use Rattle.lasso_c.proofs.SlotValues.{word, word_fits, lone_word, lone_word_fits, slot_made}
