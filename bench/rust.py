@@ -5,20 +5,13 @@ of the least."""
 import sys
 from statistics import median
 
+from readings import read_rounds
+
 GOALS = {
     (100_000, 7): {"new": 1.1, "present": 1.1, "get": 1.2, "resolve": 1.2},
     (100_000, 35): {"new": 1.0, "present": 1.2, "get": 1.2, "resolve": 1.2},
     (10_000, 7): {"new": 1.1, "present": 1.3, "get": 1.3, "resolve": 2.0},
 }
-
-
-def read_rounds(lines):
-    """The times of all rounds by count, bytes and call, and then by program."""
-    rounds = {}
-    for line in lines:
-        program, count, size, call, time = line.split()
-        rounds.setdefault((int(count), int(size), call), {}).setdefault(program, []).append(float(time))
-    return rounds
 
 
 def main():

@@ -8,8 +8,21 @@ use std::time::Instant;
 /// How many texts there are.
 pub const COUNTS: [u32; 4] = [10_000, 90_000, 100_000, 1_000_000];
 
-/// How many texts there are, and the bytes of each.
+/// How many texts there are, and the bytes of each, where `lasso_proved` is measured.
 pub const SIZES: [(u32, usize); 3] = [(100_000, 7), (100_000, 35), (10_000, 7)];
+
+/// The same of `lasso_bench sizes`.
+pub const ALL_SIZES: [(u32, usize); 9] = [
+    (10_000, 7),
+    (10_000, 35),
+    (10_000, 200),
+    (100_000, 7),
+    (100_000, 35),
+    (100_000, 200),
+    (1_000_000, 7),
+    (1_000_000, 35),
+    (1_000_000, 200),
+];
 
 const STRIDE: u32 = 7919;
 
@@ -96,18 +109,20 @@ fn get_all<T: Texts>(pool: &T, texts: &[String]) -> usize {
     texts.iter().filter_map(|text| pool.get(text)).map(|key| key as usize).fold(0, usize::wrapping_add)
 }
 
-/// Prints for each count and size of texts, and for each call, the count, the bytes of a text, the call, and the nanoseconds that
-/// it takes. Present texts come in an order that jumps.
-pub fn round_of_sizes<T: Texts>() {
-    for (count, bytes) in SIZES {
+/// Prints for each of these counts and sizes of texts, and for each call, the count, the bytes of a text, the call, and the
+/// nanoseconds that it takes. Present texts come in an order that jumps.
+pub fn round_of_sizes<T: Texts>(sizes: &[(u32, usize)]) {
+    for (count, bytes) in sizes.iter().copied() {
         let texts: Vec<String> = (0..count).map(|number| sized(number, bytes)).collect();
         let again: Vec<String> = (0..count).map(|position| sized(jumped(position, count), bytes)).collect();
+        let absent: Vec<String> = (count..2 * count).map(|number| sized(number, bytes)).collect();
         let positions = (0..count as usize).sum();
         let last_bytes = again.iter().map(|text| usize::from(*text.as_bytes().last().unwrap())).sum();
         let mut pool = T::new();
         let time = |call: &str, wanted, work: &mut dyn FnMut() -> usize| time(count, &format!("{bytes} {call}"), wanted, work);
         time("new", positions, &mut || intern_all(black_box(&mut pool), black_box(&texts)));
         time("present", positions, &mut || intern_all(black_box(&mut pool), black_box(&again)));
+        time("absent", absent.len(), &mut || count_absent(black_box(&pool), black_box(&absent)));
         time("get", positions, &mut || get_all(black_box(&pool), black_box(&again)));
         let keys: Vec<u32> = again.iter().filter_map(|text| pool.get(text)).collect();
         time("resolve", last_bytes, &mut || resolve_all(black_box(&pool), black_box(&keys)));

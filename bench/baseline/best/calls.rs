@@ -1,5 +1,6 @@
-//! How long single calls take in one round, over the same texts in the same order as in `lasso_bench round`. The word
-//! says which hash: `fx`, `ahash` or `fold`. Prints for each count of texts the nanoseconds of a call.
+//! How long single calls take in one round, over the same texts in the same order as in `lasso_bench round`, or with the
+//! word `sizes` as in `lasso_bench sizes`. The first word says which hash: `fx`, `ahash` or `fold`. Prints for each count of
+//! texts, and each size, the nanoseconds of a call.
 #[path = "../opaque.rs"]
 mod opaque;
 mod pool;
@@ -7,7 +8,7 @@ mod pool;
 mod rounds;
 
 use pool::{Fold, Fx, Pool, TextHash, A};
-use rounds::{round, Texts, COUNTS};
+use rounds::{round, round_of_sizes, Texts, ALL_SIZES, COUNTS};
 
 impl<H: TextHash> Texts for Pool<H> {
     fn new() -> Self {
@@ -30,13 +31,22 @@ impl<H: TextHash> Texts for Pool<H> {
     }
 }
 
-fn main() {
+fn measure<H: TextHash>(word: Option<&str>) {
+    if word == Some("sizes") {
+        return round_of_sizes::<Pool<H>>(&ALL_SIZES);
+    }
     for count in COUNTS {
-        match std::env::args().nth(1).as_deref() {
-            Some("fx") => round::<Pool<Fx>>(count),
-            Some("ahash") => round::<Pool<A>>(count),
-            Some("fold") => round::<Pool<Fold>>(count),
-            _ => panic!("usage: calls fx|ahash|fold"),
-        }
+        round::<Pool<H>>(count);
+    }
+}
+
+fn main() {
+    let words: Vec<String> = std::env::args().skip(1).collect();
+    let second = words.get(1).map(String::as_str);
+    match words.first().map(String::as_str) {
+        Some("fx") => measure::<Fx>(second),
+        Some("ahash") => measure::<A>(second),
+        Some("fold") => measure::<Fold>(second),
+        _ => panic!("usage: calls fx|ahash|fold [sizes]"),
     }
 }

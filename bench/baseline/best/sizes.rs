@@ -9,7 +9,7 @@ mod rounds;
 
 use kept::Kept;
 use pool::{Fold, Fx, Pool, TextHash, A};
-use rounds::{round_of_sizes, Texts};
+use rounds::{round_of_sizes, Texts, SIZES};
 
 impl<H: TextHash> Texts for Pool<H> {
     fn new() -> Self {
@@ -55,12 +55,12 @@ impl<H: TextHash> Texts for Kept<H> {
 
 fn main() {
     match std::env::args().nth(1).as_deref() {
-        Some("fx") => round_of_sizes::<Pool<Fx>>(),
-        Some("ahash") => round_of_sizes::<Pool<A>>(),
-        Some("fold") => round_of_sizes::<Pool<Fold>>(),
-        Some("kept-fx") => round_of_sizes::<Kept<Fx>>(),
-        Some("kept-ahash") => round_of_sizes::<Kept<A>>(),
-        Some("kept-fold") => round_of_sizes::<Kept<Fold>>(),
+        Some("fx") => round_of_sizes::<Pool<Fx>>(&SIZES),
+        Some("ahash") => round_of_sizes::<Pool<A>>(&SIZES),
+        Some("fold") => round_of_sizes::<Pool<Fold>>(&SIZES),
+        Some("kept-fx") => round_of_sizes::<Kept<Fx>>(&SIZES),
+        Some("kept-ahash") => round_of_sizes::<Kept<A>>(&SIZES),
+        Some("kept-fold") => round_of_sizes::<Kept<Fold>>(&SIZES),
         _ => panic!("usage: sizes [kept-]fx|[kept-]ahash|[kept-]fold"),
     }
 }

@@ -5,7 +5,7 @@ mod opaque;
 mod rounds;
 
 use lasso_proved::{Key, Rodeo, Spur};
-use rounds::{round_of_sizes, Texts};
+use rounds::{round_of_sizes, Texts, SIZES};
 
 impl Texts for Rodeo {
     fn new() -> Self {
@@ -29,5 +29,5 @@ impl Texts for Rodeo {
 }
 
 fn main() {
-    round_of_sizes::<Rodeo>();
+    round_of_sizes::<Rodeo>(&SIZES);
 }

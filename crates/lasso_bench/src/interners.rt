@@ -1,5 +1,6 @@
 //! An interner that threads share: how long a call takes each of them.
-use crate::calls::{Calls, Plain, WithPass, filled};
+use crate::batches::{Batches64, Batches1024};
+use crate::calls::{Calls, Plain, WithHints, WithPass, filled, resolve_keys, resolve_keys_plainly};
 use crate::lines::Lines;
 use crate::table::Table;
 use crate::threads::THREADS;
@@ -19,39 +20,50 @@ pub fn time_interners<R: AllocGlobal + Clock + Print + Threads + Wait + Sync>(
     table: &mut Table,
     lines: &Lines,
 ) {
-    for threads in THREADS {
-        table.add(rt, "new", threads, time_new(rt, lines, threads));
-        table.add(rt, "intern", threads, time_intern(rt, lines, threads));
-    }
-    time_filled::<WithPass, R>(rt, table, ["present", "resolve"], lines);
-    time_filled::<Plain, R>(rt, table, ["plain_present", "plain_resolve"], lines);
+    time_filling::<WithPass, R>(rt, table, ["new", "intern"], lines);
+    time_filling::<WithHints, R>(rt, table, ["hinted_new", "hinted_intern"], lines);
+    time_filling::<Batches64, R>(rt, table, ["batch64_new", "batch64_intern"], lines);
+    time_filling::<Batches1024, R>(rt, table, ["batch1024_new", "batch1024_intern"], lines);
+    let Some(rodeo) = filled(rt, &lines.distinct) else {
+        return table.fail(REFUSED);
+    };
+    time_finding::<WithPass, R>(rt, table, ["present", "get"], &rodeo, lines);
+    time_finding::<WithHints, R>(rt, table, ["hinted_present", "hinted_get"], &rodeo, lines);
+    time_finding::<Plain, R>(rt, table, ["plain_present", "plain_get"], &rodeo, lines);
+    time_finding::<Batches64, R>(rt, table, ["batch64_present", "batch64_get"], &rodeo, lines);
+    time_finding::<Batches1024, R>(
+        rt,
+        table,
+        ["batch1024_present", "batch1024_get"],
+        &rodeo,
+        lines,
+    );
+    time_resolving(rt, table, &rodeo, lines);
 }
 
-// Times the calls of an interner that has all lines: to intern present texts, and to resolve keys.
-fn time_filled<C: Calls, R: AllocGlobal + Clock + Print + Threads + Wait + Sync>(
+// Times the calls that fill a new interner, with each number of threads.
+fn time_filling<C: Calls, R: AllocGlobal + Clock + Print + Threads + Wait + Sync>(
     rt: &R,
     table: &mut Table,
     names: [&str; 2],
     lines: &Lines,
 ) {
-    let Some(rodeo) = filled(rt, &lines.distinct) else {
-        return table.fail(REFUSED);
-    };
-    time_calls::<C, R>(rt, table, names, &rodeo, lines);
+    let [new, intern] = names;
+    for threads in THREADS {
+        table.add(rt, new, threads, time_new::<C, R>(rt, lines, threads));
+        table.add(rt, intern, threads, time_intern::<C, R>(rt, lines, threads));
+    }
 }
 
-// Times the calls of a filled interner with each number of threads.
-fn time_calls<C: Calls, R: AllocGlobal + Clock + Print + Threads + Wait + Sync>(
+// Times the calls that intern and look up texts of an interner that has them all, with each number of threads.
+fn time_finding<C: Calls, R: AllocGlobal + Clock + Print + Threads + Wait + Sync>(
     rt: &R,
     table: &mut Table,
     names: [&str; 2],
     rodeo: &SpurThreadedRodeo,
     lines: &Lines,
 ) {
-    let Ok(keys) = keys_of(rt, rodeo, &lines.again) else {
-        return table.fail(NO_MEMORY);
-    };
-    let [present, resolve] = names;
+    let [present, get] = names;
     for threads in THREADS {
         table.add(
             rt,
@@ -61,10 +73,28 @@ fn time_calls<C: Calls, R: AllocGlobal + Clock + Print + Threads + Wait + Sync>(
         );
         table.add(
             rt,
-            resolve,
+            get,
             threads,
-            time_resolve::<C, R>(rt, rodeo, &keys, lines, threads),
+            time_get::<C, R>(rt, rodeo, lines, threads),
         );
+    }
+}
+
+// Times the calls that resolve keys, with each number of threads.
+fn time_resolving<R: AllocGlobal + Clock + Print + Threads + Wait + Sync>(
+    rt: &R,
+    table: &mut Table,
+    rodeo: &SpurThreadedRodeo,
+    lines: &Lines,
+) {
+    let Ok(keys) = keys_of(rt, rodeo, &lines.again) else {
+        return table.fail(NO_MEMORY);
+    };
+    for threads in THREADS {
+        let by_pass = time_resolve(rt, rodeo, &keys, lines, threads, false);
+        table.add(rt, "resolve", threads, by_pass);
+        let plain = time_resolve(rt, rodeo, &keys, lines, threads, true);
+        table.add(rt, "plain_resolve", threads, plain);
     }
 }
 
@@ -102,22 +132,51 @@ fn time_present<C: Calls, R: AllocGlobal + Clock + Threads + Wait + Sync>(
     tenths_if_all(sums, &wanted, "a key is wrong", elapsed, lines.again.len())
 }
 
-// Has `threads` threads resolve all keys of the lines at once.
-fn time_resolve<C: Calls, R: AllocGlobal + Clock + Threads + Sync>(
+// Has `threads` threads look all lines up at once, which are present.
+fn time_get<C: Calls, R: AllocGlobal + Clock + Threads + Wait + Sync>(
+    rt: &R,
+    rodeo: &SpurThreadedRodeo,
+    lines: &Lines,
+    threads: usize,
+) -> Tenths {
+    let start = started(rt);
+    let sums = map_indices(
+        rt,
+        rt.alloc(),
+        threads,
+        &|_| C::get_all(rt, rodeo, &lines.again),
+    );
+    let elapsed = elapsed_since(rt, start);
+    let wanted = Some(lines.positions);
+    tenths_if_all(sums, &wanted, "a key is wrong", elapsed, lines.again.len())
+}
+
+// Has `threads` threads resolve all keys of the lines at once, with a pass or plainly.
+fn time_resolve<R: AllocGlobal + Clock + Threads + Sync>(
     rt: &R,
     rodeo: &SpurThreadedRodeo,
     keys: &[Spur],
     lines: &Lines,
     threads: usize,
+    is_plain: bool,
 ) -> Tenths {
     let start = started(rt);
-    let sums = map_indices(rt, rt.alloc(), threads, &|_| C::resolve_all(rodeo, keys));
+    let sums = map_indices(
+        rt,
+        rt.alloc(),
+        threads,
+        &|_| if is_plain {
+            resolve_keys_plainly(rodeo, keys)
+        } else {
+            resolve_keys(rodeo, keys)
+        },
+    );
     let elapsed = elapsed_since(rt, start);
     tenths_if_all(sums, &lines.lengths, "a text is wrong", elapsed, keys.len())
 }
 
 // Has `threads` threads intern the distinct lines, each a part of them, in a new interner.
-fn time_new<R: AllocGlobal + Clock + Threads + Wait + Sync>(
+fn time_new<C: Calls, R: AllocGlobal + Clock + Threads + Wait + Sync>(
     rt: &R,
     lines: &Lines,
     threads: usize,
@@ -125,13 +184,13 @@ fn time_new<R: AllocGlobal + Clock + Threads + Wait + Sync>(
     let Ok(rodeo) = ThreadedRodeo::default(rt.alloc()) else {
         return Err(NO_MEMORY);
     };
-    let (sum, tenths) = time_parts(rt, &rodeo, &lines.distinct, threads);
+    let (sum, tenths) = time_parts::<C, R>(rt, &rodeo, &lines.distinct, threads);
     let are_keys = sum == Some(sum_of_positions(lines.distinct.len()));
     if_so(are_keys, "a text was refused, or a key is wrong", tenths)
 }
 
 // Has `threads` threads intern the lines, each a part of them, in a new interner.
-fn time_intern<R: AllocGlobal + Clock + Threads + Wait + Sync>(
+fn time_intern<C: Calls, R: AllocGlobal + Clock + Threads + Wait + Sync>(
     rt: &R,
     lines: &Lines,
     threads: usize,
@@ -139,14 +198,14 @@ fn time_intern<R: AllocGlobal + Clock + Threads + Wait + Sync>(
     let Ok(rodeo) = ThreadedRodeo::default(rt.alloc()) else {
         return Err(NO_MEMORY);
     };
-    let (sum, tenths) = time_parts(rt, &rodeo, &lines.texts, threads);
+    let (sum, tenths) = time_parts::<C, R>(rt, &rodeo, &lines.texts, threads);
     let are_texts = sum.is_some() && rodeo.len() == lines.distinct.len();
     if_so(are_texts, "a text was refused, or is wrong", tenths)
 }
 
 // Has `threads` threads intern the texts, each a part of them. Returns the sum of their positions, or `None` if one is refused, and
 // what a call takes each thread.
-fn time_parts<R: AllocGlobal + Clock + Threads + Wait + Sync>(
+fn time_parts<C: Calls, R: AllocGlobal + Clock + Threads + Wait + Sync>(
     rt: &R,
     rodeo: &SpurThreadedRodeo,
     texts: &[String],
@@ -159,7 +218,7 @@ fn time_parts<R: AllocGlobal + Clock + Threads + Wait + Sync>(
         rt.alloc(),
         texts,
         size,
-        &|_, part| WithPass::intern_all(rt, rodeo, part),
+        &|_, part| C::intern_all(rt, rodeo, part),
     );
     let elapsed = elapsed_since(rt, start);
     let Ok(sums) = sums else {

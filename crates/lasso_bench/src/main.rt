@@ -1,13 +1,15 @@
 //! Times the interner, by what the word names: with `round` one round of its calls and of those of its frozen forms, with
-//! `refill` an interner that is cleared and filled again, with `collide` filling one with texts that collide, with `shared` the log of a
-//! shared interner; over the lines of standard input, with `interners` one round of the interner that threads share, with
-//! `walks` walks over it and freezing it, with `columns` encoding and decoding. A line of the output is the call, the number of threads
-//! or of texts, and the nanoseconds of a call. With `fill` it interns these lines as they come and prints how many texts there are; with
-//! `small` it does all of this over a few texts and prints what the calls answered; and without words nothing.
+//! `sizes` one round of calls that take one text and of calls that take all, over texts of given sizes, with `refill` an interner that
+//! is cleared and filled again, with `collide` filling one with texts that collide, with `shared` the log of a shared interner; over the
+//! lines of standard input, with `interners` one round of the interner that threads share, with `walks` walks over it and freezing it,
+//! with `columns` encoding and decoding. A line of the output is the call, the number of threads or of texts, and the nanoseconds of a
+//! call; with `sizes` the bytes of a text come first. With `fill` it interns these lines as they come and prints how many texts there
+//! are; with `small` it does all of this over a few texts and prints what the calls answered; and without words nothing.
 #![tactic(auto)]
 
 ghost use Rattle.std.specs.Prelude.{◌<◌};
 
+mod batches;
 mod calls;
 mod collide;
 mod columns;
@@ -19,6 +21,7 @@ mod positions;
 mod refill;
 mod shared;
 mod single;
+mod sized;
 mod small;
 mod table;
 mod texts;
@@ -36,6 +39,7 @@ use lines::Lines;
 use refill::time_refilling;
 use shared::open_log;
 use single::time_calls;
+use sized::time_sizes;
 use small::print_small;
 use std::env;
 use std::io::{BufReader, Read};
@@ -43,7 +47,7 @@ use std::rt::Clock;
 use std::sync::Wait;
 use std::thread::Threads;
 use table::Table;
-use texts::Sample;
+use texts::{Form, Sample};
 use threads::{CALLS, Walk, time_log};
 use walks::time_walks;
 
@@ -93,6 +97,10 @@ fn time_named<R: AllocGlobal + Clock + Input + Print + Threads + Wait + Sync>(
         "refill" => time_refills(rt, table),
         "collide" => time_all_collisions(rt, table),
         "shared" => time_shared(rt, table),
+        "sizes" => {
+            time_sizes(rt, table);
+            Ok(())
+        }
         "small" => print_small(rt, table),
         _ => time_lines_named(rt, table, word),
     }
@@ -119,7 +127,9 @@ fn time_lines_named<R: AllocGlobal + Clock + Input + Print + Threads + Wait + Sy
 }
 
 fn fail_with_usage() -> Result<()> {
-    bail!("usage: lasso_bench [round|refill|collide|shared|interners|walks|columns|fill|small]")
+    bail!(
+        "usage: lasso_bench [round|sizes|refill|collide|shared|interners|walks|columns|fill|small]"
+    )
 }
 
 // Times one round of single calls for each count of texts.
@@ -133,7 +143,7 @@ fn time_rounds<R: AllocGlobal + Clock + Print>(rt: &R, table: &mut Table) -> Res
 
 // Times an interner that is cleared and filled again, and a new one for each round.
 fn time_refills<R: AllocGlobal + Clock + Print>(rt: &R, table: &mut Table) -> Result<()> {
-    let sample = Sample::new(rt.alloc(), REFILLED_TEXTS)?;
+    let sample = Sample::new(rt.alloc(), Form::Named, REFILLED_TEXTS)?;
     time_refilling(rt, table, &sample.texts, REFILLS);
     Ok(())
 }

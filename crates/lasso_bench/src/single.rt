@@ -3,7 +3,7 @@ ghost use Rattle.std.specs.Prelude.{◌<◌};
 
 use crate::frozen::time_frozen;
 use crate::table::Table;
-use crate::texts::Sample;
+use crate::texts::{Form, Sample};
 use crate::timing::{
     NO_MEMORY, Tenths, elapsed_since, last_byte, started, sum_of_last_bytes, sum_of_positions,
     tenths_if,
@@ -16,7 +16,7 @@ use std::rt::Clock;
 pub fn time_calls<R: AllocGlobal + Clock + Print>(rt: &R, table: &mut Table, count: u32)
     requires { 0 < count }
 {
-    let Ok(sample) = Sample::new(rt.alloc(), count) else {
+    let Ok(sample) = Sample::new(rt.alloc(), Form::Named, count) else {
         return table.fail(NO_MEMORY);
     };
     time_single(rt, table, &sample);
@@ -36,9 +36,13 @@ fn time_single<R: AllocGlobal + Clock + Print>(rt: &R, table: &mut Table, sample
     table.add(rt, "try_resolve", count, resolved);
 }
 
-// What each call took over all texts, in an empty interner: to intern new texts and present ones, to ask for absent ones, and to resolve
-// keys.
-fn round<R: AllocGlobal + Clock>(rt: &R, rodeo: &mut SpurRodeo, sample: &Sample) -> [Tenths; 4] {
+/// What each call takes over all texts, in an empty interner: to intern new texts and present ones, to ask for absent ones, and to
+/// resolve keys.
+pub fn round<R: AllocGlobal + Clock>(
+    rt: &R,
+    rodeo: &mut SpurRodeo,
+    sample: &Sample,
+) -> [Tenths; 4] {
     let new = time_interns(rt, rodeo, &sample.texts);
     let present = time_interns(rt, rodeo, &sample.again);
     let absent = time_misses(rt, rodeo, &sample.missing);
@@ -122,8 +126,12 @@ fn count_missing(rodeo: &SpurRodeo, texts: &[String]) -> usize {
     missing
 }
 
-// The keys of the present texts.
-fn keys_of(alloc: Global, rodeo: &SpurRodeo, texts: &[String]) -> Result<Vec<Spur>, AllocError> {
+/// The keys of the present texts.
+pub fn keys_of(
+    alloc: Global,
+    rodeo: &SpurRodeo,
+    texts: &[String],
+) -> Result<Vec<Spur>, AllocError> {
     let mut keys = Vec::new(alloc);
     for text in texts {
         if let Some(key) = rodeo.get(text.as_str()) {

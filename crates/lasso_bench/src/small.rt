@@ -1,6 +1,9 @@
 //! Everything that is timed, once over a few texts: what some calls answer is printed, so that a stored run can be compared with
 //! it. Each timing has a fault on its own if an answer is wrong.
-use crate::calls::{Calls, Plain, WithPass, fill, filled};
+use crate::batches::{Batches64, Batches1024};
+use crate::calls::{
+    Calls, Plain, WithHints, WithPass, fill, filled, resolve_keys, resolve_keys_plainly,
+};
 use crate::collide::time_collisions;
 use crate::columns::time_columns;
 use crate::copying::time_copying;
@@ -10,13 +13,12 @@ use crate::lines::Lines;
 use crate::positions::random_positions;
 use crate::refill::time_refilling;
 use crate::shared::{open_log, read_all};
-use crate::single;
 use crate::table::Table;
-use crate::texts::{Sample, jumped};
+use crate::texts::{Form, Sample, jumped};
 use crate::threads::{Walk, time_log};
 use crate::walks::{time_walks, walk_entries, walk_texts};
+use crate::{single, sized};
 use anyhow::{Context, Result, ensure};
-use lasso::SpurThreadedRodeo;
 use std::rt::Clock;
 use std::sync::Wait;
 use std::thread::Threads;
@@ -33,6 +35,7 @@ pub fn print_small<R: AllocGlobal + Clock + Print + Threads + Wait + Sync>(
 ) -> Result<()> {
     print_orders(rt)?;
     single::time_calls(rt, table, COUNT);
+    sized::time_size(rt, table, COUNT, 35);
     print_refilled(rt, table)?;
     print_frozen(rt)?;
     print_shared(rt, table)?;
@@ -57,7 +60,7 @@ fn print_orders<R: AllocGlobal + Print>(rt: &R) -> Result<()> {
 
 // Times an interner that is cleared and filled again, and prints the bytes that it takes.
 fn print_refilled<R: AllocGlobal + Clock + Print>(rt: &R, table: &mut Table) -> Result<()> {
-    let sample = Sample::new(rt.alloc(), COUNT)?;
+    let sample = Sample::new(rt.alloc(), Form::Named, COUNT)?;
     let usages = time_refilling(rt, table, &sample.texts, 5);
     print_answers(rt, "refilled, in bytes", &usages)
 }
@@ -93,7 +96,11 @@ fn print_shared<R: AllocGlobal + Clock + Print + Threads + Wait + Sync>(
     time_interners(rt, table, &lines);
     print_answers(rt, "filled", &[fill(rt, LINES.as_bytes())?])?;
     print_calls::<WithPass, R>(rt, "with a pass")?;
+    print_calls::<WithHints, R>(rt, "with hints")?;
     print_calls::<Plain, R>(rt, "plain")?;
+    print_calls::<Batches64, R>(rt, "in batches of 64")?;
+    print_calls::<Batches1024, R>(rt, "in batches of 1024")?;
+    print_resolved_keys(rt)?;
     print_walks(rt, table)
 }
 
@@ -128,23 +135,25 @@ fn print_log<R: AllocGlobal + Clock + Print + Threads + Wait + Sync>(
     print_answers(rt, "Log", &[read_all(&log, &[7, 999, 10, 1000])])
 }
 
-// Prints the sum of the positions that three lines are interned at, and of the lengths that a key is resolved to.
+// Prints the sums of the positions that three lines are interned at, and found at.
 fn print_calls<C: Calls, R: AllocGlobal + Print + Wait>(rt: &R, name: &str) -> Result<()> {
-    let lines = Lines::read(rt.alloc(), "b\nabc\nb\n".as_bytes())?;
+    let lines = Lines::read(rt.alloc(), "b\nabc\nb\nabc\nc\n".as_bytes())?;
     let rodeo = filled(rt, &lines.distinct).context("a text was refused")?;
-    print_called::<C, R>(rt, &rodeo, &lines.texts, name)
+    let interned = C::intern_all(rt, &rodeo, &lines.texts).context("a text was refused")?;
+    let found = C::get_all(rt, &rodeo, &lines.texts).context("a text is absent")?;
+    print_answers(rt, name, &[interned, found])
 }
 
-// Prints the sum of the positions that the texts are interned at, and of the lengths that a key is resolved to.
-fn print_called<C: Calls, R: Print + Wait>(
-    rt: &R,
-    rodeo: &SpurThreadedRodeo,
-    texts: &[String],
-    name: &str,
-) -> Result<()> {
-    let positions = C::intern_all(rt, rodeo, texts).context("a text was refused")?;
+// Prints the sums of the lengths that a key is resolved to twice, with a pass and plainly.
+fn print_resolved_keys<R: AllocGlobal + Print + Wait>(rt: &R) -> Result<()> {
+    let lines = Lines::read(rt.alloc(), "b\nabc\n".as_bytes())?;
+    let rodeo = filled(rt, &lines.distinct).context("a text was refused")?;
     let key = rodeo.get(rt, "abc").context("abc is missing")?;
-    print_answers(rt, name, &[positions, C::resolve_all(rodeo, &[key, key])])
+    let lengths = [
+        resolve_keys(&rodeo, &[key, key]),
+        resolve_keys_plainly(&rodeo, &[key, key]),
+    ];
+    print_answers(rt, "resolved", &lengths)
 }
 
 // Times walks, and prints what they give of three texts.

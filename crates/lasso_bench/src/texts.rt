@@ -5,6 +5,15 @@ use std::alloc::{AllocError, Global};
 
 const STRIDE: u64 = 7919;
 
+/// How texts are written.
+#[derive(Drop, Clone, Copy)]
+pub enum Form {
+    /// `text ` and the number.
+    Named,
+    /// The number in at least seven digits, and after it hyphens up to this number of bytes.
+    Padded(usize),
+}
+
 /// Texts to intern, and texts to ask for.
 #[derive(Drop)]
 pub struct Sample {
@@ -17,33 +26,55 @@ pub struct Sample {
 }
 
 impl Sample {
-    /// `count` texts, and as many others. Each list is made on its own, so that a walk over it meets its
-    /// texts side by side. The only error is out of memory.
-    pub fn new(alloc: Global, count: u32) -> Result<Self, AllocError> {
+    /// `count` texts of this form, and as many others. Each list is made on its own, so that a walk over it
+    /// meets its texts side by side. The only error is out of memory.
+    pub fn new(alloc: Global, form: Form, count: u32) -> Result<Self, AllocError> {
         Ok(Sample {
-            texts: numbered_texts(alloc, 0, count)?,
-            again: jumped_texts(alloc, count)?,
-            missing: numbered_texts(alloc, count, count)?,
+            texts: numbered_texts(alloc, form, 0, count)?,
+            again: jumped_texts(alloc, form, count)?,
+            missing: numbered_texts(alloc, form, count, count)?,
         })
     }
 }
 
 // The texts of `count` numbers, from `first` on.
-fn numbered_texts(alloc: Global, first: u32, count: u32) -> Result<Vec<String>, AllocError> {
+fn numbered_texts(
+    alloc: Global,
+    form: Form,
+    first: u32,
+    count: u32,
+) -> Result<Vec<String>, AllocError> {
     let mut texts = Vec::new(alloc);
     for number in 0..count {
-        texts.push(numbered_text(alloc, u64::from(first) + u64::from(number))?)?;
+        texts.push(text_of(alloc, form, u64::from(first) + u64::from(number))?)?;
     }
     Ok(texts)
 }
 
 // The texts of the numbers below `count`, in the other order.
-fn jumped_texts(alloc: Global, count: u32) -> Result<Vec<String>, AllocError> {
+fn jumped_texts(alloc: Global, form: Form, count: u32) -> Result<Vec<String>, AllocError> {
     let mut texts = Vec::new(alloc);
     for number in 0..count {
-        texts.push(numbered_text(alloc, jumped(number, count))?)?;
+        texts.push(text_of(alloc, form, jumped(number, count))?)?;
     }
     Ok(texts)
+}
+
+// The text with this number.
+fn text_of(alloc: Global, form: Form, number: u64) -> Result<String, AllocError> {
+    match form {
+        Form::Named => numbered_text(alloc, number),
+        Form::Padded(bytes) => padded_text(alloc, number, bytes),
+    }
+}
+
+// The number in at least seven digits, and after it hyphens up to this number of bytes.
+fn padded_text(alloc: Global, number: u64, bytes: usize) -> Result<String, AllocError> {
+    let mut text = format!(in alloc; "{number:07}")?;
+    for _ in text.len()..bytes {
+        text.push('-')?;
+    }
+    Ok(text)
 }
 
 /// The text with this number: no other number has it.

@@ -1,5 +1,5 @@
 use Rattle.std.proofs.Common.{◌≡◌}
-use Rattle.lasso_bench.proofs.calls.WithPassCalls.resolve_all.Given as goal
+use Rattle.lasso_bench.proofs.calls.resolve_keys.Given as goal
 
 -- the pass stays one of the interner
 abbrev pub invariant-loop-key : goal.invariant-loop-key

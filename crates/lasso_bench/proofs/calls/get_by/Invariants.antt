@@ -1,5 +1,5 @@
 use Rattle.std.proofs.Common.{◌≡◌}
-use Rattle.lasso_bench.proofs.calls.WithPassCalls.intern_all.Given as goal
+use Rattle.lasso_bench.proofs.calls.get_by.Given as goal
 
 -- the pass stays one of the interner
 abbrev pub invariant-loop-text : goal.invariant-loop-text
