@@ -38,6 +38,7 @@ pub use Rattle.lasso_log.specs.Notes
 pub use Rattle.lasso_log.specs.Openings
 pub use Rattle.lasso_log.specs.Replies
 pub use Rattle.lasso_log.specs.Views
+pub use Rattle.lasso_shared.specs.Batches
 pub use Rattle.lasso_shared.specs.CallerLaws
 pub use Rattle.lasso_shared.specs.Filling as SharedFilling
 pub use Rattle.lasso_shared.specs.Json as SharedJson

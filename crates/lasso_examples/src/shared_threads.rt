@@ -12,7 +12,7 @@ use std::test::Fail;
 use std::thread::{Threads, join};
 
 // The calls of `Interner`.
-const WAYS: [Way; 4] = [Way::TryCopied, Way::Copied, Way::TryStatic, Way::Static];
+static WAYS: [Way; 4] = [Way::TryCopied, Way::Copied, Way::TryStatic, Way::Static];
 
 // How many texts each thread interns.
 const EACH: u32 = 3000;
@@ -36,7 +36,7 @@ fn interns_by<R: Wait>(
 ) -> LassoResult<bool> {
     let mut all = true;
     for at in 0..texts.len() {
-        all &= by_reference(rt, shared, &[Keeps(way, texts[at])])? == 1;
+        all &= is_step(rt, shared, Keeps(way, texts[at]))?;
     }
     Ok(all)
 }
@@ -60,8 +60,8 @@ fn both_intern<R: AllocGlobal + Threads + Wait + Sync>(
 #[test]
 fn two_threads_intern_many_through_references(rt: HostRuntime) -> Result<(), Fail> {
     let (one, other) = (leaked(rt.alloc(), "a")?, leaked(rt.alloc(), "b")?);
-    for way in WAYS {
-        let (all, count) = both_intern(&rt, way, &one, &other)?;
+    for at in 0..WAYS.len() {
+        let (all, count) = both_intern(&rt, WAYS[at], &one, &other)?;
         is_so(&rt, all, "the texts of the keys");
         is_so(&rt, count == 6000, "the number of texts");
     }
@@ -95,6 +95,26 @@ fn has_number<R: Wait>(
     finds::<Spur, _, _>(rt, shared, text, number)
 }
 
+// Whether the call through a reference returns what it has to.
+fn is_step<R: Wait>(rt: &R, shared: &SpurThreadedRodeo, step: Step) -> LassoResult<bool> {
+    Ok(by_reference(rt, shared, &[step])? == 1)
+}
+
+// Interns the text by this call, and looks it up, through a reference. Then looks it up through the interner.
+fn has_key_by<R: Wait>(
+    rt: &R,
+    shared: &SpurThreadedRodeo,
+    way: Way,
+    text: &'static str,
+    number: usize,
+) -> LassoResult<bool> {
+    Ok(
+        is_step(rt, shared, Interns(way, text, Ok(number)))?
+            && is_step(rt, shared, Finds(text, Some(number)))?
+            && has_number(rt, shared, text, Some(number)),
+    )
+}
+
 // Interns the text by each call, and looks it up, through a reference and through the interner.
 fn has_one_key<R: Wait>(
     rt: &R,
@@ -103,17 +123,13 @@ fn has_one_key<R: Wait>(
     number: usize,
 ) -> LassoResult<bool> {
     let mut all = has_number(rt, shared, "absent", None)
-        && by_reference(rt, shared, &ABSENT)? == 1
-        && by_reference(rt, shared, &[Interns(Way::Copied, text, Ok(number))])? == 1;
-    for way in WAYS {
-        let steps = [Interns(way, text, Ok(number)), Finds(text, Some(number))];
-        all &= by_reference(rt, shared, &steps)? == 2;
-        all &= has_number(rt, shared, text, Some(number));
+        && is_step(rt, shared, Finds("absent", None))?
+        && is_step(rt, shared, Interns(Way::Copied, text, Ok(number)))?;
+    for at in 0..WAYS.len() {
+        all &= has_key_by(rt, shared, WAYS[at], text, number)?;
     }
     Ok(all)
 }
-
-static ABSENT: [Step; 1] = [Finds("absent", None)];
 
 // The same for the first hundred texts. Says when it is done.
 fn have_one_key<R: Wait>(
