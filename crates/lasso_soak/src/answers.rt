@@ -1,6 +1,7 @@
 //! Random calls of a thread by its pass, and what they answer.
 ghost use Rattle.std.specs.Prelude.{◌≡◌};
 
+use crate::batches::answer_batch;
 use crate::texts::{Texts, fixed_count, fixed_text};
 use lasso::log::Pass;
 use lasso::{FixedState, Key, LassoErrorKind, LassoResult, MemoryLimits, ThreadedRodeo};
@@ -10,6 +11,9 @@ use std::sync::Wait;
 
 // A limit that is set a little above a usage is less than this number of bytes above it.
 const LITTLE: usize = 64;
+
+// One of this number of calls is about many texts.
+const BATCHES: usize = 64;
 
 /// A call, and what it answered. A text goes by its number among the texts, a key by its position.
 #[derive(Clone, Copy, Debug)]
@@ -99,7 +103,8 @@ pub fn sum_with(sum: u64, text: &str) -> u64 {
     sum
 }
 
-/// Makes `calls` random calls with the pass, and returns what each answered. The only error is out of memory.
+/// Makes `calls` random calls with the pass, and returns what each answered, a call about many texts once for each. The only error is
+/// out of memory.
 ///
 /// After a refusal for the limit come the usage and the limit, read at once. After a usage comes, every other
 /// time, a limit a little above it, if the thread sets limits: so texts often just pass it, or just do not.
@@ -118,22 +123,27 @@ pub fn answers<K: Key, R: AllocGlobal + Wait>(
     let mut draws = Draws::new(seed);
     let mut answers = Vec::new(rt.alloc());
     for _ in 0..calls {
-        let answer = random_answer(rt, rodeo, pass, texts, limits, &mut draws);
-        answers.push(answer)?;
-        if answer.is_past_limit() {
+        if draws.below(BATCHES) == 0 {
+            answer_batch(rt, rodeo, pass, texts, &mut draws, &mut answers)?;
+        } else {
+            let answer = random_answer(rt, rodeo, pass, texts, limits, &mut draws);
+            answers.push(answer)?;
+        }
+        let last = answers.last().copied();
+        if last.is_some_and(|answer| answer.is_past_limit()) {
             answers.push(used(rt, rodeo, pass))?;
             answers.push(allowed(rt, rodeo, pass))?;
         }
-        if let Some(limit) = limit_after(answer, &mut draws) {
+        if let Some(limit) = limit_after(last, &mut draws) {
             answers.push(limited(rt, rodeo, pass, limits.set, limit))?;
         }
     }
     Ok(answers)
 }
 
-// A limit a little above the usage, every other time when that was read.
-fn limit_after(answer: Answer, draws: &mut Draws) -> Option<usize> {
-    let Answer::Used { bytes } = answer else {
+// A limit a little above the usage, every other time when that was the last answer.
+fn limit_after(last: Option<Answer>, draws: &mut Draws) -> Option<usize> {
+    let Some(Answer::Used { bytes }) = last else {
         return None;
     };
     if draws.below(2) != 0 {
