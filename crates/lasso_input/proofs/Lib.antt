@@ -1,4 +1,5 @@
 pub mod Feeds
 pub mod FirstLines
-pub mod Tested
+pub mod LineTexts
 pub mod Remaining
+pub mod Tested

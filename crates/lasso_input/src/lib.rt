@@ -3,14 +3,21 @@
 //!
 //! A `Stretch` is what of the input is in memory at one time. It gives one `Line` after another, and looks ahead
 //! at them for the interner that they go into. `find_newline`, `after_newline` and `first_line` cut bytes by hand.
+//!
+//! `text_of` gives each line a text, whatever its bytes are, and `line_of` gives the line back.
 #![tactic(auto)]
 
+pub mod laws;
 mod line;
 mod newlines;
 mod stretch;
 #[cfg(test)]
 mod tests;
+#[cfg(test)]
+mod text_tests;
+mod texts;
 
 pub use line::Line;
 pub use newlines::{after_newline, find_newline, first_line};
 pub use stretch::Stretch;
+pub use texts::{MARK, is_marked, line_of, own_text, text_of};

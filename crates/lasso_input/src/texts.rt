@@ -1,0 +1,90 @@
+//! Texts of lines of any bytes.
+//!
+//! A line that is UTF-8 and doesn't begin with the mark is its own text. The text of any other line is the mark
+//! and then the line's bytes as digits. So an interner of texts can hold lines of any bytes.
+ghost use Rattle.std.specs.Prelude.{◌≡◌, ◌≤◌, true, false, IfOk, IsOkAnd, MatchOption, length};
+ghost use Rattle.std.specs.Cow.{cow_slice_items, cow_str_bytes, IsBorrowedSlice, IsBorrowedStr};
+ghost use Rattle.std.specs.String.{string_bytes};
+ghost use Rattle.lasso_input.specs.Texts.{escaped, is_marked, is_own_text, line_of, text_of};
+
+use crate::line::Line;
+use hex::FromHexError;
+use std::alloc::{AllocError, Allocator};
+use std::borrow::{CowSlice, CowStr};
+
+/// The mark: the first character of a text that is not its own line. Unicode assigns it to no use.
+pub const MARK: char = '\u{10FFFF}';
+
+// The mark in UTF-8.
+const MARK_BYTES: [u8; 4] = [0xF4, 0x8F, 0xBF, 0xBF];
+
+/// The text of the line. A line that is its own text is borrowed. Any other line's text is the mark and then
+/// the line's bytes as lower-case hexadecimal digits, two a byte.
+///
+/// # Errors
+/// Out of memory, but never for a line that is its own text.
+#[inline(always)]
+pub fn text_of<'a, A: Allocator>(alloc: A, line: &Line<'a>) -> Result<CowStr<'a, A>, AllocError>
+    ensures text { IfOk result (λ text. cow_str_bytes text ≡ text_of line.now) }
+    ensures own { is_own_text line.now ≡ true → IsOkAnd result IsBorrowedStr }
+{
+    match own_text(line) {
+        Some(text) => Ok(CowStr::Borrowed(text)),
+        None => Ok(CowStr::Owned(escape(alloc, line.bytes())?)),
+    }
+}
+
+/// The line as a text, if it is its own text.
+#[inline(always)]
+pub fn own_text<'a>(line: &Line<'a>) -> Option<&'a str>
+    ensures { MatchOption result (is_own_text line.now ≡ false) (λ text. (text.now ≡ line.now) × (is_own_text line.now ≡ true)) }
+{
+    let Ok(text) = line.text() else {
+        return None;
+    };
+    if is_marked(line.bytes()) {
+        return None;
+    }
+    Some(text)
+}
+
+/// The line that has this text. After the mark, digits of both cases are read. A text that begins with the mark,
+/// but doesn't go on with two digits for each byte, is the text of no line, and is returned as it is.
+///
+/// # Errors
+/// Out of memory, but never for a text that doesn't begin with the mark.
+pub fn line_of<A: Allocator>(alloc: A, text: &str) -> Result<CowSlice<'_, u8, A>, AllocError>
+    ensures line { IfOk result (λ line. cow_slice_items line ≡ line_of text.now) }
+    ensures own { is_marked text.now ≡ false → IsOkAnd result IsBorrowedSlice }
+{
+    let bytes = text.as_bytes();
+    if !is_marked(bytes) {
+        return Ok(CowSlice::Borrowed(bytes));
+    }
+    match hex::decode(alloc, &bytes[MARK_BYTES.len()..]) {
+        Ok(line) => Ok(CowSlice::Owned(line)),
+        Err(error) => match error {
+            FromHexError::OutOfMemory => Err(AllocError),
+            _ => Ok(CowSlice::Borrowed(bytes)),
+        },
+    }
+}
+
+/// Whether the bytes begin with the mark. A text that doesn't is its own line.
+#[inline(always)]
+pub fn is_marked(bytes: &[u8]) -> bool
+    ensures value { result ≡ is_marked bytes.now }
+    ensures room { result ≡ true → 4 ≤ length bytes.now }
+{
+    bytes.starts_with(&MARK_BYTES)
+}
+
+// The mark, and then the digits of the bytes.
+#[cold]
+fn escape<A: Allocator>(alloc: A, bytes: &[u8]) -> Result<String<A>, AllocError>
+    ensures { IfOk result (λ text. string_bytes text ≡ escaped bytes.now) }
+{
+    let mut text = hex::encode(alloc, bytes)?;
+    text.insert(0, MARK)?;
+    Ok(text)
+}
