@@ -2,7 +2,7 @@
 --
 -- The bytes before the untested ones are UTF-8. A line feed is ASCII, so UTF-8 can be cut before and after
 -- it. So a line that ends in the tested bytes is UTF-8, and so are the tested bytes after it.
-use Rattle.std.proofs.Common.{ℕ, suc, zero, ◌≡◌, ◌+◌, ◌-◌, ◌<◌, ◌≤◌, ◌==◌, true, List, [], ◌∷◌, length, take, drop, get_or, Some, ap, sym, subst, ◌∙◌, refl, arith, length-drop, length-take}
+use Rattle.std.proofs.Common.{ℕ, suc, zero, ◌≡◌, ◌+◌, ◌-◌, ◌<◌, ◌≤◌, ◌==◌, true, List, [], ◌∷◌, length, take, drop, get_or, Some, ap, subst, ◌∙◌, refl, arith, length-drop, length-take}
 use Rattle.std.specs.List.{slice_index}
 use Rattle.std.specs.Str.{IsUtf8}
 use Rattle.std.proofs.lemmas.List.{drop-take}
