@@ -15,6 +15,8 @@ ghost use Rattle.lasso_c.specs.declared.error.CallError.TheVariants.{NoMemory};
 
 mod ahead;
 mod batches;
+#[cfg(test)]
+mod collision_tests;
 mod decoding;
 mod encoding;
 pub mod error;
