@@ -94,7 +94,7 @@ fn batches_find_present_texts_alone(rt: HostRuntime) -> Result<(), Fail> {
 // Whatever pass would do it, no limit is set, no other text is interned, and only the bytes of new texts are taken.
 #[test]
 fn interning_a_batch_leaves_all_else(rt: HostRuntime) -> Result<(), Fail> {
-    static STEPS: [Step; 10] = [
+    static STEPS: [Step; 12] = [
         ByOne(TakesAll(Texts(&["é", "", "é", "ab"]), Are(&[0, 1, 0, 2]), None)),
         IsLimited(usize::MAX),
         ByNew(Call::Sums(usize::MAX, 4)),
@@ -105,6 +105,8 @@ fn interning_a_batch_leaves_all_else(rt: HostRuntime) -> Result<(), Fail> {
         ByNew(Call::Sums(5000, 4)),
         Lists(Texts(&["é", "", "ab"])),
         Limits(usize::MAX),
+        ByOther(TakesAll(Numbers(0, 3000), From(3), None)),
+        Counts(3003),
     ];
     runs_both::<Spur, FixedState, _>(&rt, Maker::Sized(50, 4, usize::MAX), &STEPS)
 }
@@ -118,7 +120,7 @@ fn looking_up_a_batch_leaves_all(rt: HostRuntime) -> Result<(), Fail> {
         ByNew(Call::Sums(usize::MAX, 4)),
         Lists(Texts(&["é"])),
         Limits(5000),
-        ByOther(FindsAll(&["é"; 700], &[Some(0); 700])),
+        ByOther(FindsAll(&["é"; 2000], &[Some(0); 2000])),
         IsLimited(5000),
         ByNew(Call::Sums(5000, 4)),
         Lists(Texts(&["é"])),
