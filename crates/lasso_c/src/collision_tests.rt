@@ -11,7 +11,7 @@ use std::test::Fail;
 use std::time::{Duration, Instant};
 
 // How many texts there are.
-const COUNT: u32 = 600;
+const COUNT: usize = 600;
 
 // The fixed hasher multiplies 16 bytes at a time, and carries the result over by xor with the next 8 bytes. For a text of
 // 32 bytes that begins so, the first product is equal to those 8 bytes, so that the second one has a factor 0 whatever
@@ -30,7 +30,10 @@ fn colliding(alloc: Global) -> Result<Texts, Fail> {
     for number in 0..COUNT {
         let text = format!(in alloc; "{COLLIDES}{number:08}")?;
         bytes.extend_from_slice(text.as_bytes())?;
-        offsets.push(number.wrapping_add(1).wrapping_mul(32))?;
+        let Ok(end) = u32::try_from(bytes.len()) else {
+            return Err(Fail::from("too many bytes"));
+        };
+        offsets.push(end)?;
     }
     Ok(Texts { bytes, offsets })
 }
@@ -45,7 +48,7 @@ fn fills(rt: &impl Clock, lasso: &mut Lasso, texts: &Texts, codes: &mut [u32]) -
     let (start, mut report) = (Instant::now(rt).ok(), UNSET);
     let status = lasso_intern_batch(lasso, &texts.bytes, &texts.offsets, codes, &mut report);
     let time = since(rt, start)?;
-    if told(status, &report) == (0, (COUNT as usize, 0, 0)) {
+    if told(status, &report) == (0, (COUNT, 0, 0)) {
         Some(time)
     } else {
         None
@@ -57,7 +60,7 @@ fn finds(rt: &impl Clock, lasso: &mut Lasso, texts: &Texts, codes: &mut [u32]) -
     let (start, mut report) = (Instant::now(rt).ok(), UNSET);
     let status = lasso_get_batch(lasso, &texts.bytes, &texts.offsets, 8, codes, &mut report);
     let time = since(rt, start)?;
-    if told(status, &report) == (0, (COUNT as usize, 0, 0)) {
+    if told(status, &report) == (0, (COUNT, 0, 0)) {
         Some(time)
     } else {
         None
@@ -111,7 +114,7 @@ fn is_mostly_short<R: Clock + AllocGlobal>(
     texts: &Texts,
     slow: Option<Duration>,
 ) -> bool {
-    let mut codes = [9u32; COUNT as usize];
+    let mut codes = [9u32; COUNT];
     for _ in 0..4 {
         if is_short(takes(rt, maker, texts, &mut codes), slow) {
             return true;
@@ -125,7 +128,7 @@ fn keys_part_texts_that_collide_under_the_fixed_seed(rt: HostRuntime) -> Result<
     let texts = colliding(rt.alloc())?;
     let mut fixed = Lasso::none(rt.alloc());
     walk_on(&rt, &mut fixed, &[Step::Makes(usize::MAX)])?;
-    let slow = fills(&rt, &mut fixed, &texts, &mut [9u32; COUNT as usize]);
+    let slow = fills(&rt, &mut fixed, &texts, &mut [9u32; COUNT]);
     is_so(&rt, is_mostly_short(&rt, Maker::Keyed, &texts, slow), "with keys");
     is_so(&rt, is_mostly_short(&rt, Maker::Sized, &texts, slow), "of a size");
     is_so(&rt, is_mostly_short(&rt, Maker::Cloned, &texts, slow), "a clone");

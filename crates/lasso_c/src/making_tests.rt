@@ -97,7 +97,7 @@ fn has_room(status: u32, lasso: &mut Lasso, texts: usize, bytes: usize) -> Seen 
     )
 }
 
-// Makes interners of this size, without keys and with the keys of the row.
+// Makes interners of this size, without keys and with keys.
 fn makes_sizes(
     alloc: Global,
     lasso: &mut Lasso,
@@ -113,25 +113,32 @@ fn makes_sizes(
 #[test]
 fn makes_interners_of_any_size(rt: HostRuntime) -> Result<(), Fail> {
     let mut lasso = Lasso::none(rt.alloc());
-    for row in 0..56usize {
-        let size = (TEXTS[row / 7], BYTES[row % 7]);
-        let (sized, keyed) = makes_sizes(rt.alloc(), &mut lasso, size, KEYS[row % 7]);
-        is_as_told(&rt, sized, row)?;
-        is_as_told(&rt, keyed, row)?;
+    for texts in &TEXTS {
+        for bytes in &BYTES {
+            let size = (*texts, *bytes);
+            let (sized, keyed) = makes_sizes(rt.alloc(), &mut lasso, size, (7, u64::MAX));
+            is_as_told(&rt, sized, *bytes)?;
+            is_as_told(&rt, keyed, *bytes)?;
+        }
     }
     Ok(())
+}
+
+// Makes interners with the keys, without a size and with one.
+fn makes_keyed(alloc: Global, lasso: &mut Lasso, (key0, key1): (u64, u64)) -> (Seen, Seen) {
+    let status = lasso_new_keyed(alloc, lasso, usize::MAX, key0, key1);
+    let keyed = has_room(status, lasso, 50, 4096);
+    let status = lasso_new_sized_keyed(alloc, lasso, 9, 70, usize::MAX, key0, key1);
+    (keyed, has_room(status, lasso, 9, 70))
 }
 
 #[test]
 fn makes_interners_of_any_keys(rt: HostRuntime) -> Result<(), Fail> {
     let mut lasso = Lasso::none(rt.alloc());
-    for row in 0..7usize {
-        let keys = KEYS[row];
-        let status = lasso_new_keyed(rt.alloc(), &mut lasso, usize::MAX, keys.0, keys.1);
-        is_as_told(&rt, has_room(status, &mut lasso, 50, 4096), row)?;
-        let status =
-            lasso_new_sized_keyed(rt.alloc(), &mut lasso, 9, 70, usize::MAX, keys.0, keys.1);
-        is_as_told(&rt, has_room(status, &mut lasso, 9, 70), row)?;
+    for keys in &KEYS {
+        let (keyed, sized) = makes_keyed(rt.alloc(), &mut lasso, *keys);
+        is_as_told(&rt, keyed, 1)?;
+        is_as_told(&rt, sized, 2)?;
     }
     Ok(())
 }
