@@ -1,9 +1,9 @@
 //! Texts that collide under the fixed seed. An interner shows its hasher to no contract, so the time tells which one it
-//! has: a search among texts that collide takes time linear in their number, here ten times that of another one.
+//! has: a search among texts that collide takes time linear in their number, here more than ten times that of another one.
 use crate::handle::Lasso;
 use crate::interner::{lasso_get_batch, lasso_intern_batch};
 use crate::making::{lasso_clone, lasso_new_keyed, lasso_new_sized_keyed};
-use crate::tests::checks::{UNSET, is_so, told};
+use crate::tests::checks::{UNSET, is_so};
 use crate::tests::steps::{Step, walk_on};
 use std::alloc::Global;
 use std::rt::Clock;
@@ -38,41 +38,38 @@ fn colliding(alloc: Global) -> Result<Texts, Fail> {
     Ok(Texts { bytes, offsets })
 }
 
+// Ends the test if the call of this status was refused.
+fn ended(status: u32) -> Result<(), Fail> {
+    match status {
+        0 => Ok(()),
+        9 => Err(Fail::from("out of memory")),
+        _ => Err(Fail::from("a call was refused")),
+    }
+}
+
 // How long it takes since then, or nothing if the clock fails.
 fn since(rt: &impl Clock, start: Option<Instant>) -> Option<Duration> {
     start?.elapsed(rt).ok()
 }
 
 // Interns the texts in one batch, and returns how long it takes.
-fn fills(rt: &impl Clock, lasso: &mut Lasso, texts: &Texts, codes: &mut [u32]) -> Option<Duration> {
-    let (start, mut report) = (Instant::now(rt).ok(), UNSET);
-    let status = lasso_intern_batch(lasso, &texts.bytes, &texts.offsets, codes, &mut report);
-    let time = since(rt, start)?;
-    if told(status, &report) == (0, (COUNT, 0, 0)) {
-        Some(time)
-    } else {
-        None
-    }
+fn fills(rt: &impl Clock, lasso: &mut Lasso, texts: &Texts) -> Result<Option<Duration>, Fail> {
+    let (mut codes, mut report) = ([9u32; COUNT], UNSET);
+    let start = Instant::now(rt).ok();
+    let status = lasso_intern_batch(lasso, &texts.bytes, &texts.offsets, &mut codes, &mut report);
+    let time = since(rt, start);
+    ended(status)?;
+    Ok(time)
 }
 
 // The same of looking them up.
-fn finds(rt: &impl Clock, lasso: &mut Lasso, texts: &Texts, codes: &mut [u32]) -> Option<Duration> {
-    let (start, mut report) = (Instant::now(rt).ok(), UNSET);
-    let status = lasso_get_batch(lasso, &texts.bytes, &texts.offsets, 8, codes, &mut report);
-    let time = since(rt, start)?;
-    if told(status, &report) == (0, (COUNT, 0, 0)) {
-        Some(time)
-    } else {
-        None
-    }
-}
-
-// Whether a call took at most a quarter of the time.
-fn is_short(time: Option<Duration>, slow: Option<Duration>) -> bool {
-    match (time, slow) {
-        (Some(time), Some(slow)) => time.as_nanos() < slow.as_nanos() / 4,
-        _ => false,
-    }
+fn finds(rt: &impl Clock, lasso: &mut Lasso, texts: &Texts) -> Result<Option<Duration>, Fail> {
+    let (mut codes, mut report) = ([9u32; COUNT], UNSET);
+    let start = Instant::now(rt).ok();
+    let status = lasso_get_batch(lasso, &texts.bytes, &texts.offsets, 8, &mut codes, &mut report);
+    let time = since(rt, start);
+    ended(status)?;
+    Ok(time)
 }
 
 // How an interner with keys is made.
@@ -89,21 +86,31 @@ fn takes<R: Clock + AllocGlobal>(
     rt: &R,
     maker: Maker,
     texts: &Texts,
-    codes: &mut [u32],
-) -> Option<Duration> {
+) -> Result<Option<Duration>, Fail> {
     let (mut lasso, mut clone) = (Lasso::none(rt.alloc()), Lasso::none(rt.alloc()));
-    let status = match maker {
-        Maker::Sized => lasso_new_sized_keyed(rt.alloc(), &mut lasso, 9, 70, usize::MAX, 7, 8),
-        _ => lasso_new_keyed(rt.alloc(), &mut lasso, usize::MAX, 7, 8),
-    };
-    let time = fills(rt, &mut lasso, texts, codes)?;
     match maker {
-        Maker::Cloned if lasso_clone(rt.alloc(), &mut lasso, &mut clone) == 0 => {
-            finds(rt, &mut clone, texts, codes)
+        Maker::Sized => {
+            ended(lasso_new_sized_keyed(rt.alloc(), &mut lasso, 9, 70, usize::MAX, 7, 8))?;
+            fills(rt, &mut lasso, texts)
         }
-        Maker::Cloned => None,
-        _ if status == 0 => Some(time),
-        _ => None,
+        Maker::Keyed => {
+            ended(lasso_new_keyed(rt.alloc(), &mut lasso, usize::MAX, 7, 8))?;
+            fills(rt, &mut lasso, texts)
+        }
+        Maker::Cloned => {
+            ended(lasso_new_keyed(rt.alloc(), &mut lasso, usize::MAX, 7, 8))?;
+            let _time = fills(rt, &mut lasso, texts)?;
+            ended(lasso_clone(rt.alloc(), &mut lasso, &mut clone))?;
+            finds(rt, &mut clone, texts)
+        }
+    }
+}
+
+// Whether a call took at most a quarter of the time.
+fn is_short(time: Option<Duration>, slow: Option<Duration>) -> bool {
+    match (time, slow) {
+        (Some(time), Some(slow)) => time.as_nanos() < slow.as_nanos() / 4,
+        _ => false,
     }
 }
 
@@ -113,14 +120,13 @@ fn is_mostly_short<R: Clock + AllocGlobal>(
     maker: Maker,
     texts: &Texts,
     slow: Option<Duration>,
-) -> bool {
-    let mut codes = [9u32; COUNT];
+) -> Result<bool, Fail> {
     for _ in 0..4 {
-        if is_short(takes(rt, maker, texts, &mut codes), slow) {
-            return true;
+        if is_short(takes(rt, maker, texts)?, slow) {
+            return Ok(true);
         }
     }
-    false
+    Ok(false)
 }
 
 #[test]
@@ -128,9 +134,9 @@ fn keys_part_texts_that_collide_under_the_fixed_seed(rt: HostRuntime) -> Result<
     let texts = colliding(rt.alloc())?;
     let mut fixed = Lasso::none(rt.alloc());
     walk_on(&rt, &mut fixed, &[Step::Makes(usize::MAX)])?;
-    let slow = fills(&rt, &mut fixed, &texts, &mut [9u32; COUNT]);
-    is_so(&rt, is_mostly_short(&rt, Maker::Keyed, &texts, slow), "with keys");
-    is_so(&rt, is_mostly_short(&rt, Maker::Sized, &texts, slow), "of a size");
-    is_so(&rt, is_mostly_short(&rt, Maker::Cloned, &texts, slow), "a clone");
+    let slow = fills(&rt, &mut fixed, &texts)?;
+    is_so(&rt, is_mostly_short(&rt, Maker::Keyed, &texts, slow)?, "with keys");
+    is_so(&rt, is_mostly_short(&rt, Maker::Sized, &texts, slow)?, "of a size");
+    is_so(&rt, is_mostly_short(&rt, Maker::Cloned, &texts, slow)?, "a clone");
     Ok(())
 }

@@ -53,8 +53,8 @@ fn makes_an_interner_of_the_usual_size(rt: HostRuntime) -> Result<(), Fail> {
 fn grows(alloc: Global, lasso: &mut Lasso, number: usize) -> Result<(bool, bool), Fail> {
     let room = lasso_capacity(lasso);
     let text = number.to_string(alloc)?;
-    if lasso_intern(lasso, text.as_bytes(), &mut 77) != 0 {
-        return Err(Fail::from("a text was refused"));
+    if lasso_intern(lasso, text.as_bytes(), &mut 77) == 9 {
+        return Err(Fail::from("out of memory"));
     }
     Ok((lasso_capacity(lasso) != room, lasso_len(lasso) > room))
 }

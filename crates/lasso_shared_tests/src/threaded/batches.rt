@@ -120,7 +120,7 @@ fn looking_up_a_batch_leaves_all(rt: HostRuntime) -> Result<(), Fail> {
         ByNew(Call::Sums(usize::MAX, 4)),
         Lists(Texts(&["é"])),
         Limits(5000),
-        ByOther(FindsAll(&["é"; 2000], &[Some(0); 2000])),
+        ByOther(FindsAll(&["é"; 200], &[Some(0); 200])),
         IsLimited(5000),
         ByNew(Call::Sums(5000, 4)),
         Lists(Texts(&["é"])),
