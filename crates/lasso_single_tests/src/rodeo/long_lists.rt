@@ -87,6 +87,10 @@ fn reader_finds(reader: &SpurReader, alloc: Global, list: &[&str]) -> Result<boo
     Ok(are_found(found.as_slice()))
 }
 
+fn are_texts(texts: &[&str], wanted: &[&str]) -> bool {
+    texts == wanted
+}
+
 // Whether a `Rodeo` gives the texts of the keys.
 fn resolves(rodeo: &Small, alloc: Global, keys: &[Spur], list: &[&str]) -> Result<bool, Fail> {
     let mut texts = Vec::new(alloc);
@@ -94,7 +98,7 @@ fn resolves(rodeo: &Small, alloc: Global, keys: &[Spur], list: &[&str]) -> Resul
         return Ok(false);
     }
     rodeo.resolve_all(keys, &mut texts)?;
-    Ok(texts.as_slice() == list)
+    Ok(are_texts(texts.as_slice(), list))
 }
 
 // Whether a reader gives them.
@@ -109,7 +113,7 @@ fn reader_resolves(
         return Ok(false);
     }
     reader.resolve_all(keys, &mut texts)?;
-    Ok(texts.as_slice() == list)
+    Ok(are_texts(texts.as_slice(), list))
 }
 
 // Whether a resolver gives them.
@@ -124,7 +128,7 @@ fn resolver_resolves(
         return Ok(false);
     }
     resolver.resolve_all(keys, &mut texts)?;
-    Ok(texts.as_slice() == list)
+    Ok(are_texts(texts.as_slice(), list))
 }
 
 #[test]
