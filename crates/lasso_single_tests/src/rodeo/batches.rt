@@ -8,6 +8,7 @@ use crate::interners::{
     Small, SpurReader, SpurResolver, copied, frozen, has_count, interner, of_texts, resolving,
 };
 use lasso_parts::keys::{Key, Spur};
+use lasso_parts::util::Capacity;
 use lasso_single::batch::{Batch, get_next, intern_next, look_ahead};
 use lasso_single::rodeo::Rodeo;
 use lasso_testing::hashers::{CountingState, SameState};
@@ -397,7 +398,10 @@ fn hashes_interning<R: AllocGlobal + Abort>(
 #[test]
 fn where_looking_ahead_begins_to_intern(rt: HostRuntime) -> Result<(), Fail> {
     let made = Cell::new(0);
-    let mut rodeo: Counted<'_> = Rodeo::with_hasher(rt.alloc(), CountingState::new(&made))?;
+    // a growing index would hash its texts again
+    let room = Capacity::for_strings(1000);
+    let state = CountingState::new(&made);
+    let mut rodeo: Counted<'_> = Rodeo::with_capacity_and_hasher(rt.alloc(), room, state)?;
     let texts = texts_of(rt.alloc())?;
     for index in 0..96 {
         is_so_at(&rt, takes_text(&mut rodeo, texts.as_slice(), index), index);
