@@ -1,7 +1,10 @@
 //! Interners of given capacity, with keys, and cloned, on inputs that were worked by hand.
 use crate::handle::Lasso;
-use crate::tests::checks::is_as_told;
+use crate::interner::{lasso_capacity, lasso_intern, lasso_len, lasso_memory};
+use crate::making::{lasso_new_keyed, lasso_new_sized, lasso_new_sized_keyed};
+use crate::tests::checks::{Seen, is_as_told, is_so_at};
 use crate::tests::steps::{Layout, Step, clones, walk, walk_on};
+use std::alloc::Global;
 use std::test::Fail;
 
 // A text of more bytes than an entry of the list has.
@@ -30,6 +33,114 @@ static OF_A_SIZE: [Step; 16] = [
 #[test]
 fn makes_an_interner_of_a_size(rt: HostRuntime) -> Result<(), Fail> {
     walk(&rt, &OF_A_SIZE)
+}
+
+// The capacity that the header names.
+static OF_THE_USUAL_SIZE: [Step; 4] = [
+    Step::Makes(usize::MAX),
+    Step::Fits(50, usize::MAX),
+    Step::MakesKeyed(usize::MAX),
+    Step::Fits(50, usize::MAX),
+];
+
+#[test]
+fn makes_an_interner_of_the_usual_size(rt: HostRuntime) -> Result<(), Fail> {
+    walk(&rt, &OF_THE_USUAL_SIZE)
+}
+
+// Interns a text that prints the number. Returns whether the capacity changed, and whether there are then more
+// texts than it was.
+fn grows(alloc: Global, lasso: &mut Lasso, number: usize) -> Result<(bool, bool), Fail> {
+    let room = lasso_capacity(lasso);
+    let text = number.to_string(alloc)?;
+    if lasso_intern(lasso, text.as_bytes(), &mut 77) == 9 {
+        return Err(Fail::from("out of memory"));
+    }
+    Ok((lasso_capacity(lasso) != room, lasso_len(lasso) > room))
+}
+
+// The list of texts grows for a text past the capacity, and for no other.
+#[test]
+fn tells_how_many_texts_fit(rt: HostRuntime) -> Result<(), Fail> {
+    for room in [0, 1, 50, 1000] {
+        let mut lasso = Lasso::none(rt.alloc());
+        walk_on(&rt, &mut lasso, &[Step::MakesSized(room, 9, usize::MAX)])?;
+        for number in 0..2100usize {
+            let (is_changed, is_past) = grows(rt.alloc(), &mut lasso, number)?;
+            is_so_at(&rt, is_changed == is_past, number);
+        }
+    }
+    Ok(())
+}
+
+static TEXTS: [usize; 8] = [0, 1, 49, 50, 51, 1000, 5000, 100_000];
+
+static BYTES: [usize; 7] = [0, 1, 4095, 4096, 70_000, 1 << 20, 1 << 24];
+
+// Keys that are equal or not, and have bits at either end.
+static KEYS: [(u64, u64); 7] = [
+    (0, 0),
+    (0, 1),
+    (1, 0),
+    (7, u64::MAX),
+    (u64::MAX, u64::MAX),
+    (1 << 63, 1 << 31),
+    (0x0123_4567_89ab_cdef, 0xfedc_ba98_7654_3210),
+];
+
+// Whether the interner was made, with at least this room.
+fn has_room(status: u32, lasso: &mut Lasso, texts: usize, bytes: usize) -> Seen {
+    let has_bytes = lasso_memory(lasso) == bytes.max(1);
+    (
+        status,
+        status == 0 && lasso_capacity(lasso) >= texts && has_bytes,
+    )
+}
+
+// Makes interners of this size, without keys and with keys.
+fn makes_sizes(
+    alloc: Global,
+    lasso: &mut Lasso,
+    (texts, bytes): (usize, usize),
+    keys: (u64, u64),
+) -> (Seen, Seen) {
+    let status = lasso_new_sized(alloc, lasso, texts, bytes, usize::MAX);
+    let sized = has_room(status, lasso, texts, bytes);
+    let status = lasso_new_sized_keyed(alloc, lasso, texts, bytes, usize::MAX, keys.0, keys.1);
+    (sized, has_room(status, lasso, texts, bytes))
+}
+
+#[test]
+fn makes_interners_of_any_size(rt: HostRuntime) -> Result<(), Fail> {
+    let mut lasso = Lasso::none(rt.alloc());
+    for texts in &TEXTS {
+        for bytes in &BYTES {
+            let size = (*texts, *bytes);
+            let (sized, keyed) = makes_sizes(rt.alloc(), &mut lasso, size, (7, u64::MAX));
+            is_as_told(&rt, sized, *bytes)?;
+            is_as_told(&rt, keyed, *bytes)?;
+        }
+    }
+    Ok(())
+}
+
+// Makes interners with the keys, without a size and with one.
+fn makes_keyed(alloc: Global, lasso: &mut Lasso, (key0, key1): (u64, u64)) -> (Seen, Seen) {
+    let status = lasso_new_keyed(alloc, lasso, usize::MAX, key0, key1);
+    let keyed = has_room(status, lasso, 50, 4096);
+    let status = lasso_new_sized_keyed(alloc, lasso, 9, 70, usize::MAX, key0, key1);
+    (keyed, has_room(status, lasso, 9, 70))
+}
+
+#[test]
+fn makes_interners_of_any_keys(rt: HostRuntime) -> Result<(), Fail> {
+    let mut lasso = Lasso::none(rt.alloc());
+    for keys in &KEYS {
+        let (keyed, sized) = makes_keyed(rt.alloc(), &mut lasso, *keys);
+        is_as_told(&rt, keyed, 1)?;
+        is_as_told(&rt, sized, 2)?;
+    }
+    Ok(())
 }
 
 // More texts than memory can have: the interner stays.

@@ -6,6 +6,7 @@ mod debug;
 mod filling;
 mod hashing;
 mod lists;
+mod long_lists;
 mod words;
 
 use crate::checks::{MEMORY, is_refused, is_so, is_so_at};

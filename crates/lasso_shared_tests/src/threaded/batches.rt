@@ -1,6 +1,6 @@
 //! Batches: one call that interns or looks up the texts of a list, with a pass.
 use crate::checks::{is_so, runs_as, runs_in_two};
-use Step::{ByNew, ByOne, ByOther, Counts, Finds, Lists, Meets, Uses};
+use Step::{ByNew, ByOne, ByOther, Counts, Finds, IsLimited, Limits, Lists, Meets, Uses};
 use lasso_parts::keys::{Key, Spur};
 use lasso_parts::util::{FixedState, LassoErrorKind};
 use lasso_shared_testing::cases::{HINTED, PLAIN};
@@ -89,6 +89,44 @@ fn batches_find_present_texts_alone(rt: HostRuntime) -> Result<(), Fail> {
         Counts(3),
     ];
     runs_both::<Spur, FixedState, _>(&rt, Maker::Default, &STEPS)
+}
+
+// Whatever pass would do it, no limit is set, no other text is interned, and only the bytes of new texts are taken.
+#[test]
+fn interning_a_batch_leaves_all_else(rt: HostRuntime) -> Result<(), Fail> {
+    static STEPS: [Step; 12] = [
+        ByOne(TakesAll(Texts(&["é", "", "é", "ab"]), Are(&[0, 1, 0, 2]), None)),
+        IsLimited(usize::MAX),
+        ByNew(Call::Sums(usize::MAX, 4)),
+        Lists(Texts(&["é", "", "ab"])),
+        Limits(5000),
+        ByOther(TakesAll(Texts(&["ab", "é"]), Are(&[2, 0]), None)),
+        IsLimited(5000),
+        ByNew(Call::Sums(5000, 4)),
+        Lists(Texts(&["é", "", "ab"])),
+        Limits(usize::MAX),
+        ByOther(TakesAll(Numbers(0, 3000), From(3), None)),
+        Counts(3003),
+    ];
+    runs_both::<Spur, FixedState, _>(&rt, Maker::Sized(50, 4, usize::MAX), &STEPS)
+}
+
+#[test]
+fn looking_up_a_batch_leaves_all(rt: HostRuntime) -> Result<(), Fail> {
+    static STEPS: [Step; 11] = [
+        ByOne(Call::Copies("é", Ok(0))),
+        ByOne(FindsAll(&["ab", "é", ""], &[None, Some(0), None])),
+        IsLimited(usize::MAX),
+        ByNew(Call::Sums(usize::MAX, 4)),
+        Lists(Texts(&["é"])),
+        Limits(5000),
+        ByOther(FindsAll(&["é"; 200], &[Some(0); 200])),
+        IsLimited(5000),
+        ByNew(Call::Sums(5000, 4)),
+        Lists(Texts(&["é"])),
+        Limits(usize::MAX),
+    ];
+    runs_both::<Spur, FixedState, _>(&rt, Maker::Sized(50, 4, usize::MAX), &STEPS)
 }
 
 // The only bucket has four bytes.

@@ -8,6 +8,7 @@ use crate::interners::{
     Small, SpurReader, SpurResolver, copied, frozen, has_count, interner, of_texts, resolving,
 };
 use lasso_parts::keys::{Key, Spur};
+use lasso_parts::util::Capacity;
 use lasso_single::batch::{Batch, get_next, intern_next, look_ahead};
 use lasso_single::rodeo::Rodeo;
 use lasso_testing::hashers::{CountingState, SameState};
@@ -366,6 +367,46 @@ fn where_looking_ahead_begins(rt: HostRuntime) -> Result<(), Fail> {
         is_so_at(&rt, takes_text(&mut rodeo, texts.as_slice(), index), index);
     }
     hashes(&rt, &rodeo, texts.as_slice(), &made)
+}
+
+// The same of interning, with other absent texts last, of which each is interned.
+static INTERNING: [Row; 4] = [
+    (0, 0, 63, 32, 33),
+    (0, 0, 64, 32, 34),
+    (63, 25, 64, 7, 33),
+    (63, 24, 64, 8, 34),
+];
+
+fn hashes_interning<R: AllocGlobal + Abort>(
+    rt: &R,
+    rodeo: &mut Counted<'_>,
+    texts: &[&str],
+    made: &Cell<u64>,
+) -> Result<(), Fail> {
+    for row in 0..INTERNING.len() {
+        let mut indices = indices_of(rt.alloc(), &INTERNING[row])?;
+        let _ = indices.pop();
+        indices.push(row.saturating_add(96))?;
+        let before = made.get();
+        let interned = interns_all(rodeo, rt.alloc(), texts, indices.as_slice())?;
+        is_so_at(rt, interned, row);
+        is_so_at(rt, made.get().wrapping_sub(before) == INTERNING[row].4, row);
+    }
+    Ok(())
+}
+
+#[test]
+fn where_looking_ahead_begins_to_intern(rt: HostRuntime) -> Result<(), Fail> {
+    let made = Cell::new(0);
+    // a growing index would hash its texts again
+    let room = Capacity::for_strings(1000);
+    let state = CountingState::new(&made);
+    let mut rodeo: Counted<'_> = Rodeo::with_capacity_and_hasher(rt.alloc(), room, state)?;
+    let texts = texts_of(rt.alloc())?;
+    for index in 0..96 {
+        is_so_at(&rt, takes_text(&mut rodeo, texts.as_slice(), index), index);
+    }
+    hashes_interning(&rt, &mut rodeo, texts.as_slice(), &made)
 }
 
 // Whether a list of texts is the wanted one, or was refused where none is wanted.
