@@ -3,14 +3,14 @@
 -- The key that a call of a pass returns is the text's key in the list that the pass has then seen, so the
 -- code is the text's position there. The lists that passes see only grow. So codes stay right, also after
 -- a pass has learned what another has seen: the codes of all workers are those of one list.
-use Rattle.std.proofs.Common.{ℕ, zero, suc, one-mul, Bor, Result, Err, MatchResult, ◌⊎◌, inl, inr, refl, append_assoc, append-nil, ◌≡◌, ◌+◌, ◌-◌, ◌*◌, ◌<◌, ◌≤◌, List, [], ◌∷◌, ◌++◌, length, take, drop, map, min, ◌/◌, ◌%◌, Option, Some, None, Ok, sym, ap, subst, ◌∙◌, arith}
-use Rattle.std.specs.Prelude.{Contains, option_and_then}
+use Rattle.std.proofs.Common.{ℕ, zero, suc, one-mul, Bor, Result, Err, MatchResult, ◌⊎◌, inl, inr, refl, append_assoc, append-nil, ◌≡◌, ◌+◌, ◌-◌, ◌*◌, ◌<◌, ◌≤◌, List, [], ◌∷◌, ◌++◌, length, take, drop, map, min, ◌/◌, ◌%◌, Option, Some, Ok, sym, ap, subst, ◌∙◌, arith}
+use Rattle.std.specs.Prelude.{Contains}
 use Rattle.std.proofs.Math.Nat.{mul-le-mul_right}
 use Rattle.std.proofs.Math.Seq.{take-add}
 use Rattle.std.proofs.lemmas.List.{take-map, drop-map, take-append-drop}
 use Rattle.std.proofs.lemmas.List.Elements.{Contains-append_left, Contains-append_right}
 use mathlib.Core.List.{IsPrefix}
-use Rattle.lasso_parts.specs.Texts.{Text, position_of, key_of}
+use Rattle.lasso_parts.specs.Texts.{Text, position_of}
 use Rattle.lasso_parts.specs.declared.util.LassoErrorKind.{LassoErrorKind}
 use Rattle.lasso_parts.specs.declared.util.LassoErrorKind.TheVariants.{FailedAllocation}
 use Rattle.lasso_log.specs.History.{History, Totals, totals}

@@ -4,7 +4,7 @@
 -- one after the other, the growths add up. After an interner has grown, a zero is appended for each new text,
 -- which changes the count of none. Then the counts of a part are added one after another: the counts of the
 -- first n texts of the part's list have grown, and the others have not.
-use Rattle.std.proofs.Common.{ℕ, zero, suc, ◌≡◌, ◌+◌, ◌-◌, ◌<◌, ◌≤◌, List, [], ◌∷◌, ◌++◌, length, take, drop, get_or, set, sum, map, Bor, Bool, true, false, cond, Option, Some, None, Result, Ok, Err, is_some, is_err, refl, sym, ap, subst, ◌∙◌, arith, append_assoc, add-zero, length-append}
+use Rattle.std.proofs.Common.{ℕ, zero, suc, ◌≡◌, ◌+◌, ◌-◌, ◌<◌, ◌≤◌, List, [], ◌∷◌, ◌++◌, length, take, get_or, set, sum, map, Bor, Bool, true, false, cond, Option, Some, None, Result, Ok, Err, is_some, is_err, refl, sym, ap, subst, ◌∙◌, arith, append_assoc, add-zero, length-append}
 use Rattle.std.specs.Prelude.{option_and_then, slice_get, replicate}
 use Rattle.std.proofs.lemmas.Option.{slice_get_within}
 use Rattle.std.specs.Str.{bytes_eq}

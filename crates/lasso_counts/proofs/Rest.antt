@@ -4,7 +4,7 @@
 -- the first absent one are counted. That one is not before the text at which interning stopped, since each
 -- text before that is present. So interning the texts before it leaves the same list, and the others are
 -- counted one by one after them.
-use Rattle.std.proofs.Common.{ℕ, zero, suc, ◌≡◌, ◌+◌, ◌-◌, ◌<◌, ◌≤◌, List, [], ◌∷◌, ◌++◌, length, take, drop, get_or, map, Bor, Bool, true, false, cond, Option, Some, None, Result, Ok, Err, OnOk, IfErr, MatchResult, IfSome, IsSomeAnd, is_some, refl, sym, ap, subst, ◌∙◌, arith, length-append}
+use Rattle.std.proofs.Common.{ℕ, zero, suc, ◌≡◌, ◌+◌, ◌-◌, ◌<◌, ◌≤◌, List, [], ◌∷◌, ◌++◌, length, take, drop, get_or, map, Bor, Bool, true, false, cond, Option, Some, None, Result, Ok, Err, OnOk, IfErr, MatchResult, IfSome, IsSomeAnd, is_some, refl, sym, ap, subst, ◌∙◌, arith}
 use Rattle.std.specs.Prelude.{All, IsSome, option_and_then, slice_get}
 use Rattle.std.proofs.Math.Seq.{take-add}
 use Rattle.std.proofs.lemmas.List.{length-take, length-drop, take_all, take-append-drop, take-map, drop-map}

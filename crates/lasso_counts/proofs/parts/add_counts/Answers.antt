@@ -1,4 +1,4 @@
-use Rattle.std.proofs.Common.{◌≡◌, ◌+◌, ◌<◌, ◌∙◌, ◌^◌, [], length, get_or, set, ap, refl, sym, arith}
+use Rattle.std.proofs.Common.{◌≡◌, ◌+◌, ◌<◌, ◌∙◌, ◌^◌, [], length, get_or, set, ap, refl, arith}
 use Rattle.std.proofs.lemmas.List.{length-set}
 use Rattle.lasso_parts.specs.Texts.{position_of}
 use Rattle.lasso_encode.proofs.Coded.{map_some_length}

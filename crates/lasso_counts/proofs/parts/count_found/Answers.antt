@@ -1,5 +1,5 @@
-use Rattle.std.proofs.Common.{◌≡◌, ◌<◌, ◌+◌, ◌++◌, ◌∷◌, [], List, Bor, IfSome, Some, None, false, is_some, map, take, length, set, refl, sym, ap, subst, arith}
-use Rattle.std.specs.Prelude.{All, IsSome, slice_get}
+use Rattle.std.proofs.Common.{◌≡◌, ◌+◌, List, Bor, IfSome, None, is_some, map, length, set, refl, sym, ap, subst, arith}
+use Rattle.std.specs.Prelude.{All, IsSome}
 use Rattle.std.proofs.lemmas.List.{length-map}
 use Rattle.std.proofs.lemmas.List.Elements.{All-push}
 use Rattle.std.proofs.lemmas.Option.{slice_get_past}

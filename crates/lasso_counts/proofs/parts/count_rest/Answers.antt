@@ -1,4 +1,4 @@
-use Rattle.std.proofs.Common.{◌+◌, List, Bor, IsSomeAnd, map, take, drop, sym, ap, subst, ◌∙◌}
+use Rattle.std.proofs.Common.{List, Bor, IsSomeAnd, map, take, drop, sym, subst}
 use Rattle.std.specs.Prelude.{slice_get}
 use Rattle.std.proofs.lemmas.List.{take-append-drop}
 use Rattle.lasso_parts.specs.Texts.{Text}

@@ -1,4 +1,4 @@
-use Rattle.std.proofs.Common.{ℕ, ◌≡◌, ◌+◌, ◌-◌, ◌<◌, ◌≤◌, List, [], Bor, IfSome, map, length, get_or, sym, ap, subst, arith, ◌∙◌, length-append, vec_len}
+use Rattle.std.proofs.Common.{ℕ, ◌≡◌, ◌+◌, ◌-◌, ◌<◌, List, [], Bor, IfSome, map, length, get_or, sym, ap, subst, arith, ◌∙◌, length-append, vec_len}
 use Rattle.std.specs.Prelude.{IsSomeAnd, slice_get}
 use Rattle.lasso_parts.specs.Texts.{Text}
 use Rattle.lasso_encode.specs.Codes.{AreCodes}
