@@ -1,0 +1,101 @@
+"""Small pieces of code and messages, each written by hand."""
+from tree import Unfit
+
+
+def change_messages(tree):
+    """What programs say of an entry that is no number, and of memory that ran out at no line."""
+    tree.once("crates/lasso_codes/src/error.rt", 'write!(f, "entry {number} is no code")', 'write!(f, "entry {number} is not a code")')
+    tree.once("crates/lasso_codes/specs/Errors.antt", 'codes " is no code")', 'codes " is not a code")')
+    tree.each("cases/lasso_codes/damaged.txt", "entry 1 is no code", "entry 1 is not a code")
+    tree.once("bench/streams_columns.py", "entry {number} is no code", "entry {number} is not a code")
+    tree.text["crates/lasso_codes/README.md"] = tree.text["crates/lasso_codes/README.md"].replace("`is no code`", "`is not a code`")
+
+
+def print_no_line(tree):
+    """Out of memory at no line is printed without a line."""
+    fault = "crates/lasso_lines/src/fault.rt"
+    tree.once(fault, 'RunFault::Refused(line, error) => write!(f, "line {line}: {error}"),\n',
+              'RunFault::Refused(line, error) if *line == 0 => write!(f, "{error}"),\n            RunFault::Refused(line, error) => write!(f, "line {line}: {error}"),\n')
+    specs = "crates/lasso_lines/specs/Fault.antt"
+    tree.once(specs, 'fault_text (Refused line error) = codes "line " ++ (decimal line ++ (codes ": " ++ error_text error))\n',
+              'fault_text (Refused line error) =\n    if nat_eq line 0 then error_text error else codes "line " ++ (decimal line ++ (codes ": " ++ error_text error))\n')
+    tree.once(specs, "-- what a fault prints\n", "-- what a fault prints; out of memory at no line has number 0, which is not printed\n")
+    faults = "crates/lasso_columns/src/faults.rt"
+    tree.once(faults, 'LineError::Refused(line, error) => write!(f, "line {line}: {error}"),\n',
+              'LineError::Refused(line, error) if *line == 0 => write!(f, "{error}"),\n            LineError::Refused(line, error) => write!(f, "line {line}: {error}"),\n')
+    specs = "crates/lasso_columns/specs/Faults.antt"
+    tree.once(specs, 'line_error_text (Refused line error) = codes "line " ++ (decimal line ++ (codes ": " ++ error_text error))\n',
+              'line_error_text (Refused line error) =\n    if nat_eq line 0 then error_text error else codes "line " ++ (decimal line ++ (codes ": " ++ error_text error))\n')
+
+
+def shorten_functions(tree):
+    """Functions without nested matches and values that are built twice."""
+    tree.once(
+        "crates/lasso_codes/src/reading.rt",
+        "    match distinct {\n        Some(distinct) => match lines {\n            Some(lines) => Some(Header {\n                binary,\n                distinct,\n                lines,\n            }),\n            None => None,\n        },\n        None => None,\n    }\n",
+        "    let distinct = distinct?;\n    let lines = lines?;\n    Some(Header {\n        binary,\n        distinct,\n        lines,\n    })\n",
+    )
+    options = "crates/lasso_codes/src/options.rt"
+    tree.once(options, "fn read_word<'a>(\n    verb: Verb,\n    reading: Reading<'a>,\n", "fn read_word<'a>(\n    verb: Verb,\n    mut reading: Reading<'a>,\n")
+    tree.once(
+        options,
+        "        Meaning::AsksHelp => Ok(None),\n"
+        "        Meaning::IsBinary => Ok(Some(Reading {\n            settings: Settings {\n                binary: true,\n                ..reading.settings\n            },\n            ..reading\n        })),\n"
+        "        Meaning::IsQuiet => Ok(Some(Reading {\n            settings: Settings {\n                quiet: true,\n                ..reading.settings\n            },\n            ..reading\n        })),\n"
+        "        Meaning::Wants(setting) => Ok(Some(Reading {\n            wanted: Some((setting, word)),\n            ..reading\n        })),\n"
+        "        Meaning::Has(setting, at) => with_value(reading, setting, word, at + 1),\n"
+        "        Meaning::Nothing => Err(ArgumentError::NotOption(word)),\n    }\n",
+        "        Meaning::AsksHelp => return Ok(None),\n"
+        "        Meaning::IsBinary => reading.settings.binary = true,\n"
+        "        Meaning::IsQuiet => reading.settings.quiet = true,\n"
+        "        Meaning::Wants(setting) => reading.wanted = Some((setting, word)),\n"
+        "        Meaning::Has(setting, at) => return with_value(reading, setting, word, at + 1),\n"
+        "        Meaning::Nothing => return Err(ArgumentError::NotOption(word)),\n    }\n    Ok(Some(reading))\n",
+    )
+
+
+def change_edits(tree):
+    """Wrong bodies of what was written anew."""
+    path = "crates/lasso_codes/wrong-bodies/quiet_changes_nothing.edit"
+    tree.once(path, "old: quiet: true,\nnew: quiet: false,\n", "old: Meaning::IsQuiet => reading.settings.quiet = true,\nnew: Meaning::IsQuiet => reading.settings.quiet = false,\n")
+
+
+def drop_unused(tree):
+    """What no caller uses."""
+    tree.once(
+        "crates/lasso_log/src/shared_memory/piece.rt",
+        "    /// How many bytes it takes.\n    pub fn len(&self) -> usize\n        ensures { result ≡ self.now.len }\n    {\n        self.len\n    }\n\n",
+        "",
+    )
+    tree.drop("crates/lasso_log/wrong-bodies/range_is_half_as_long.edit")
+
+
+def explain(tree):
+    """Comments that say what happens."""
+    for path in ("crates/lasso/src/interface.rt", "crates/lasso/src/interface/objects.rt"):
+        tree.once(path, "/// What gives the texts of keys.\n", "/// Resolves keys to texts.\n")
+        tree.once(path, "/// What finds the keys of texts too.\n", "/// Finds the keys of texts too.\n")
+        tree.once(path, "/// What interns texts too.\n", "/// Interns texts too.\n")
+    path = "crates/lasso/src/interface.rt"
+    tree.once(path, "/// What freezes to a reader.\n", "/// Freezes to a reader.\n")
+    tree.once(path, "/// What freezes to a resolver.\n", "/// Freezes to a resolver.\n")
+    tree.once(path, "/// What freezes to either.\n", "/// Freezes to a reader or to a resolver.\n")
+    tree.once(
+        "crates/lasso_log/src/log/charging.rt",
+        "        let _ = before;\n        let _ = given;\n",
+        "        // The contract alone reads `before` and `given`: the offer was worked out for these two states.\n        let _ = (before, given);\n",
+    )
+    tree.once(
+        "crates/lasso_lock/src/slot.rt",
+        "        let _ = tag;\n",
+        "        // The slot's tag is known to proofs alone.\n        let _ = tag;\n",
+    )
+
+
+def change(tree):
+    """All pieces."""
+    change_messages(tree)
+    shorten_functions(tree)
+    change_edits(tree)
+    drop_unused(tree)
+    explain(tree)
