@@ -1,4 +1,7 @@
 """Small pieces of code and messages, each written by hand."""
+import os
+
+from places import is_code
 from tree import Unfit
 
 
@@ -20,10 +23,12 @@ def print_no_line(tree):
     tree.once(specs, 'fault_text (Refused line error) = codes "line " ++ (decimal line ++ (codes ": " ++ error_text error))\n',
               'fault_text (Refused line error) =\n    if nat_eq line 0 then error_text error else codes "line " ++ (decimal line ++ (codes ": " ++ error_text error))\n')
     tree.once(specs, "-- what a fault prints\n", "-- what a fault prints; out of memory at no line has number 0, which is not printed\n")
+    tree.once(specs, "use Rattle.std.specs.Prelude.{ℕ, List, ◌++◌, codes, decimal}", "use Rattle.std.specs.Prelude.{ℕ, List, ◌++◌, codes, decimal, nat_eq, if◌then◌else◌}")
     faults = "crates/lasso_columns/src/faults.rt"
     tree.once(faults, 'LineError::Refused(line, error) => write!(f, "line {line}: {error}"),\n',
               'LineError::Refused(line, error) if *line == 0 => write!(f, "{error}"),\n            LineError::Refused(line, error) => write!(f, "line {line}: {error}"),\n')
     specs = "crates/lasso_columns/specs/Faults.antt"
+    tree.once(specs, "slice_get, codes, decimal}", "slice_get, codes, decimal, nat_eq, if◌then◌else◌}")
     tree.once(specs, 'line_error_text (Refused line error) = codes "line " ++ (decimal line ++ (codes ": " ++ error_text error))\n',
               'line_error_text (Refused line error) =\n    if nat_eq line 0 then error_text error else codes "line " ++ (decimal line ++ (codes ": " ++ error_text error))\n')
 
@@ -60,6 +65,12 @@ def change_edits(tree):
     tree.once(path, "old: quiet: true,\nnew: quiet: false,\n", "old: Meaning::IsQuiet => reading.settings.quiet = true,\nnew: Meaning::IsQuiet => reading.settings.quiet = false,\n")
 
 
+def shorten(tree):
+    """Shorter functions, and their wrong bodies."""
+    shorten_functions(tree)
+    change_edits(tree)
+
+
 def drop_unused(tree):
     """What no caller uses."""
     tree.once(
@@ -83,7 +94,7 @@ def explain(tree):
     tree.once(
         "crates/lasso_log/src/log/charging.rt",
         "        let _ = before;\n        let _ = given;\n",
-        "        // The contract alone reads `before` and `given`: the offer was worked out for these two states.\n        let _ = (before, given);\n",
+        "        // The contract alone reads `before` and `given`: the offer was worked out for these two states.\n        let _ = before;\n        let _ = given;\n",
     )
     tree.once(
         "crates/lasso_lock/src/slot.rt",
@@ -92,10 +103,36 @@ def explain(tree):
     )
 
 
+def share_failures(tree):
+    """The count of failed calls is written once, in `lasso_input`, and both programs use it."""
+    home, codes, lines = "crates/lasso_input", "crates/lasso_codes", "crates/lasso_lines"
+    if tree.text[f"{codes}/src/failures.rt"] != tree.text[f"{lines}/src/failures.rt"]:
+        raise Unfit("the two files failures.rt differ")
+    for name in ("none", "and_one"):
+        one, other = (tree.text[f"{crate}/proofs/failures/Failures/{name}/Proof.antt"] for crate in (codes, lines))
+        if one.replace("lasso_codes", "lasso_lines") != other:
+            raise Unfit(f"the two proofs of Failures::{name} differ")
+    for path in ["src/failures.rt"] + [p[len(codes) + 1:] for p in tree.below(f"{codes}/proofs/failures/")]:
+        tree.move(f"{codes}/{path}", f"{home}/{path}")
+        tree.drop(f"{lines}/{path}")
+    tree.everywhere(r"\bRattle\.lasso_codes\.(proofs|specs\.contracts)\.failures\.", r"Rattle.lasso_input.\1.failures.", is_code)
+    tree.move(f"{codes}/wrong-bodies/failure_is_not_counted.edit", f"{home}/wrong-bodies/failure_is_not_counted.edit")
+    tree.drop(f"{lines}/wrong-bodies/failure_is_not_counted.edit")
+    for crate, user in ((codes, "streams"), (lines, "standard")):
+        tree.once(f"{crate}/src/main.rt", "pub mod failures;\n", "")
+        tree.once(f"{crate}/src/{user}.rt", "use crate::failures::Failures;\n", "use lasso_input::failures::Failures;\n")
+    lib = f"{home}/src/lib.rt"
+    tree.once(lib, "#![tactic(auto)]\n\n", "#![tactic(auto)]\n\npub mod failures;\n")
+
+
+# Pieces that are taken only where they are named in WITH, as their proofs were not run.
+ASKED_FOR = {"shorten": shorten, "failures": share_failures, "line": print_no_line}
+
+
 def change(tree):
-    """All pieces."""
+    """All pieces that are proved or change no code, and those that WITH names."""
     change_messages(tree)
-    shorten_functions(tree)
-    change_edits(tree)
     drop_unused(tree)
     explain(tree)
+    for name in filter(None, os.environ.get("WITH", "").split(",")):
+        ASKED_FOR[name](tree)
