@@ -170,7 +170,9 @@ def change_changelog(tree):
     text = tree.text[path].rstrip("\n")
     if not text.splitlines()[-1].startswith("|"):
         raise Unfit("CHANGELOG.md no longer ends with its table")
-    tree.text[path] = text + "\n" + CHANGES
+    tree.text[path] = text.replace("`KeptSlot`", "`KeptCell`") + "\n" + CHANGES
+    path = "wrong-bodies/README.md"
+    tree.once(path, "    file: src/parts.rt\n    function: parts::add_counts\n", "    file: src/counts/parts.rt\n    function: counts::parts::add_counts\n")
 
 
 CHANGES = """\
@@ -179,6 +181,8 @@ CHANGES = """\
 | programs `lasso_save`, `lasso_load` | `lasso_saving save`, `lasso_saving load` |
 | `lasso_examples`: `keyed::keyed_by`; `calling`, `own_key` | `lasso::keyed::keyed_by`; `symbols`, `any`, `own_key` of `lasso_guide` |
 | `lasso::interface::{laws, holders, meanings, object_laws}` | they are in `test_lasso` |
+| `lasso::shared_arena`, `lasso::words`; `KeptSlot` | `lasso::shared_memory`, `lasso::word_lists`; `KeptCell` |
+| `len` of a `Range` of a shared bucket | it is gone, as no call used it |
 """
 
 GROUPS_SAID = """\
