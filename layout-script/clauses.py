@@ -13,6 +13,7 @@ import sys
 
 sys.path.insert(0, os.path.dirname(os.path.abspath(__file__)))
 import places
+import senses
 
 OPENING = re.compile(r"\{|;\s*$", re.MULTILINE)
 CLAUSE = re.compile(r"\s(requires|ensures)(?: (\w+))?\s*$")
@@ -21,6 +22,8 @@ FUNCTION = re.compile(r'^( *)((?:[\w"]+(?:\(\w+\))? )*)fn (\w+)', re.MULTILINE)
 GHOST = re.compile(r"^    ghost (?!use\b)(\w+)( by)?\s*(=|:)", re.MULTILINE)
 # Names that the layout gives anew, in clauses.
 NEW_WORDS = [(r"\bKeptSlot\b", "KeptCell"), (r"\bkept_slot\b", "kept_cell")]
+# What "slot" is called in a crate's new home.
+SLOTS = {"lasso_lock": "latch", "lasso_c": "seat", "lasso_guide": "place", "test_guide": "place", "lasso_log": "cell", "lasso_shared": "cell", "test_parts_log": "cell"}
 # Functions that went from one crate to another.
 MOVED = {("lasso", "interface/laws"): "test_lasso", ("lasso", "interface/holders"): "test_lasso", ("lasso", "interface/meanings"): "test_lasso",
          ("lasso", "interface/object_laws"): "test_lasso", ("test_lasso", "calling/any"): "lasso_guide", ("test_lasso", "calling/symbols"): "lasso_guide",
@@ -76,6 +79,8 @@ def contracts(root, is_new):
                     text = source.read()
                 for old, new in NEW_WORDS:
                     text = re.sub(old, new, text)
+                if home in SLOTS:
+                    text = senses.other_word(text, "slot", "latch" if module == "tests" and home == "test_parts_log" else SLOTS[home], ("slots", "OnceSlot", "Slots", "SlotRule", "slots_len", "slots_ptr"))
                 items = [(m.start(), end_of_block(text, m.end()), " ".join(f"{m.group(1)}{m.group(2)}".split())) for m in HEAD.finditer(text)]
                 for m in FUNCTION.finditer(text):
                     key = (home, owner_of(items, m.start()), m.group(3))

@@ -9,6 +9,7 @@ import documents
 import names
 import pieces
 import places
+import senses
 from tree import Tree, Unfit
 
 
@@ -30,6 +31,7 @@ def main(words):
     places.lay_out(tree)
     documents.change(tree)
     names.change(tree)
+    senses.change(tree)
     pieces.change(tree)
     documents.finish(tree)
     tree.write()

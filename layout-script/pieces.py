@@ -97,9 +97,9 @@ def explain(tree):
         "        // The contract alone reads `before` and `given`: the offer was worked out for these two states.\n        let _ = before;\n        let _ = given;\n",
     )
     tree.once(
-        "crates/lasso_lock/src/slot.rt",
+        "crates/lasso_lock/src/latch.rt",
         "        let _ = tag;\n",
-        "        // The slot's tag is known to proofs alone.\n        let _ = tag;\n",
+        "        // The latch's tag is known to proofs alone.\n        let _ = tag;\n",
     )
 
 
@@ -124,14 +124,106 @@ def share_failures(tree):
     lib = f"{home}/src/lib.rt"
     tree.once(lib, "#![tactic(auto)]\n\n", "#![tactic(auto)]\n\npub mod failures;\n")
 
+def name_refused_option(tree):
+    """The message of an option that only other verbs have is true of it."""
+    for path, times in (
+        ("crates/lasso_codes/src/arguments.rt", 1),
+        ("crates/lasso_codes/specs/Arguments.antt", 1),
+        ("crates/lasso_codes/README.md", 1),
+        ("install/man/lasso_codes.1", 1),
+        ("cases/lasso_codes/words.txt", None),
+    ):
+        tree.each(path, ": no such option", ": not an option of this verb", times)
+    tree.once("crates/lasso_codes/src/arguments.rt", "    /// The verb has no such option.\n", "    /// The word is not an option of the verb.\n")
+
+
+NUMBERS = """//! Parses decimal digits.
+ghost use Rattle.std.specs.Prelude.{◌≡◌};
+ghost use Rattle.lasso_input.specs.Numbers.{digits_value};
+
+"""
+
+NUMBERS_SPECS = """-- The value of decimal digits.
+use Rattle.std.specs.Prelude.{ℕ, ◌+◌, ◌-◌, ◌*◌, ◌^◌, Bool, ◌&&◌, List, [], ◌∷◌, length, nat_le, nat_lt, Option, Some, None, if◌then◌else◌}
+
+"""
+
+
+def cut_out(tree, path, start, end):
+    """Cuts a part out of a file, from one text up to another, and returns it."""
+    text = tree.text[path]
+    if text.count(start) != 1 or text.count(end) != 1:
+        raise Unfit(f"{path} has {text.count(start)} times {start!r} and {text.count(end)} times {end!r}")
+    begin, stop = text.index(start), text.index(end)
+    tree.text[path] = text[:begin] + text[stop:]
+    return text[begin:stop]
+
+
+def share_digits(tree):
+    """Digits are parsed in `lasso_input` alone, and both programs use that."""
+    home, codes, lines = "crates/lasso_input", "crates/lasso_codes", "crates/lasso_lines"
+    numbers = f"{codes}/src/numbers.rt"
+    at = tree.text[numbers].index("/// Parses 1 to 20 digits. `None` for other words")
+    tree.add(f"{home}/src/numbers.rt", NUMBERS + tree.text[numbers][at:])
+    tree.text[numbers] = tree.text[numbers][:at].rstrip("\n") + "\n"
+    tree.once(numbers, "Arguments.{digits_value, number_of, unit_of};\n", "Arguments.{number_of, unit_of};\n\nuse lasso_input::parse_digits;\n")
+    for path, old, new in (
+        (f"{codes}/src/entries.rt", "use lasso_input::find_newline;\n", "use lasso_input::{find_newline, parse_digits};\n"),
+        (f"{codes}/src/reading.rt", "use lasso_input::{Line, Stretch};\n", "use lasso_input::{Line, Stretch, parse_digits};\n"),
+    ):
+        tree.once(path, "use crate::numbers::parse_digits;\n", "")
+        tree.once(path, old, new)
+    tree.once(f"{home}/src/lib.rt", "mod newlines;\n", "mod newlines;\nmod numbers;\n")
+    tree.once(f"{home}/src/lib.rt", "pub use stretch::Stretch;\n", "pub use numbers::parse_digits;\npub use stretch::Stretch;\n")
+
+    specs = f"{codes}/specs/Arguments.antt"
+    tree.add(f"{home}/specs/Numbers.antt", NUMBERS_SPECS + cut_out(tree, specs, "-- an ASCII digit\n", "-- the factor that the last byte stands for").rstrip("\n") + "\n")
+    tree.once(f"{home}/specs/Lib.antt", "pub mod Texts\n", "pub mod Texts\npub mod Numbers\n")
+    tree.once(specs, "use Rattle.lasso_parts.specs.Texts.{Text}\n", "use Rattle.lasso_parts.specs.Texts.{Text}\nuse Rattle.lasso_input.specs.Numbers.{digits_value}\n")
+    for path, names in (
+        (f"{codes}/proofs/reading/header_in/Answers.antt", "digits_value"),
+        (f"{codes}/proofs/ReadBack.antt", "digits_value"),
+        (f"{codes}/proofs/Decimals.antt", "is_digit, digits_after, digits_value"),
+        (f"{codes}/specs/Reading.antt", "digits_value"),
+    ):
+        tree.once(path, f"use Rattle.lasso_codes.specs.Arguments.{{{names}}}\n", f"use Rattle.lasso_input.specs.Numbers.{{{names}}}\n")
+    proof = "proofs/numbers/parse_digits/Invariants.antt"
+    tree.move(f"{codes}/{proof}", f"{home}/{proof}")
+    tree.once(f"{home}/{proof}", "use Rattle.lasso_codes.specs.Arguments.{digits_after}\n", "use Rattle.lasso_input.specs.Numbers.{digits_after}\n")
+    tree.once(f"{home}/{proof}", "Rattle.lasso_codes.proofs.numbers.", "Rattle.lasso_input.proofs.numbers.")
+
+    # The program of lines: its own copy goes, with its definitions and lemmas.
+    code = f"{lines}/src/arguments.rt"
+    at = tree.text[code].index("// Parses 1 to 20 digits. `None` for any other word")
+    tree.text[code] = tree.text[code][:at].rstrip("\n") + "\n"
+    tree.once(code, "use crate::fault::RunFault;\n", "use crate::fault::RunFault;\nuse lasso_input::parse_digits;\n")
+    tree.once(code, "{settings_of, limited, worked, both, number_of};", "{settings_of, limited, worked, both};")
+    for name, times in (("limit", 2), ("workers", 1)):
+        tree.each(code, f"parse_number({name})", f"parse_digits({name}.as_bytes())", times)
+    specs = f"{lines}/specs/Arguments.antt"
+    cut_out(tree, specs, "-- an ASCII digit\n", "-- a limit and no workers\n")
+    tree.each(specs, "(number_of ", "(digits_value ", times=3)
+    tree.once(
+        specs,
+        "{ℕ, option_map, option_and_then, ◌+◌, ◌-◌, ◌*◌, ◌^◌, Bool, true, ◌&&◌, List, [], ◌∷◌, length, nat_le, nat_lt, Option, Some, None, codes, bytes_eq, if◌then◌else◌}\n",
+        "{ℕ, option_map, option_and_then, ◌-◌, ◌^◌, Bool, ◌&&◌, List, [], ◌∷◌, nat_le, Option, Some, None, codes, bytes_eq, if◌then◌else◌}\n"
+        "use Rattle.lasso_input.specs.Numbers.{digits_value}\n",
+    )
+    for name in ("Answers", "Invariants"):
+        tree.drop(f"{lines}/proofs/arguments/parse_number/{name}.antt")
+    tree.drop(f"{lines}/proofs/Numbers.antt")
+    tree.once(f"{lines}/proofs/Lib.antt", "pub mod Numbers\n", "")
+    tree.once("docs/DEFINITIONS.md", "lasso_input/Lines lasso_input/Texts", "lasso_input/Lines lasso_input/Texts lasso_input/Numbers")
+
 
 # Pieces that are taken only where they are named in WITH, as their proofs were not run.
-ASKED_FOR = {"shorten": shorten, "failures": share_failures, "line": print_no_line}
+ASKED_FOR = {"shorten": shorten, "failures": share_failures, "digits": share_digits, "line": print_no_line}
 
 
 def change(tree):
     """All pieces that are proved or change no code, and those that WITH names."""
     change_messages(tree)
+    name_refused_option(tree)
     drop_unused(tree)
     explain(tree)
     for name in filter(None, os.environ.get("WITH", "").split(",")):
