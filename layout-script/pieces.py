@@ -1,7 +1,7 @@
 """Small pieces of code and messages, each written by hand."""
 import os
 
-from places import is_code
+from places import is_code, is_edit
 from tree import Unfit
 
 
@@ -31,6 +31,30 @@ def print_no_line(tree):
     tree.once(specs, "slice_get, codes, decimal}", "slice_get, codes, decimal, nat_eq, if◌then◌else◌}")
     tree.once(specs, 'line_error_text (Refused line error) = codes "line " ++ (decimal line ++ (codes ": " ++ error_text error))\n',
               'line_error_text (Refused line error) =\n    if nat_eq line 0 then error_text error else codes "line " ++ (decimal line ++ (codes ": " ++ error_text error))\n')
+    say_no_line(tree)
+
+
+def say_no_line(tree):
+    """Pages, cases and the search for refusals, where out of memory at no line has no line."""
+    readme = "crates/lasso_codes/README.md"
+    tree.once(readme, "`line 0: ..`: out of memory elsewhere", "the error alone: out of memory elsewhere")
+    tree.once(readme, "at line 0 whole lines", "at no line whole lines")
+    tree.once("install/man/lasso_lines.1", "Out of memory at no line is reported as line 0.", "Out of memory at no line is reported without a line.")
+    tree.once("install/man/lasso_codes.1", "Out of memory outside of a line or a text is reported as line 0.", "Out of memory outside of a line or a text is reported alone.")
+    tree.each("cases/lasso_codes/memory.txt", 'says="line 0: " + MEMORY', "says=MEMORY")
+    tree.each("bench/refusals", "needed=('line 0' ", "needed=('' ", times=3)
+    tree.once("bench/refusals", 'LINES_ERROR="^line ([0-3]): $NO_MEMORY\\$"', 'LINES_ERROR="^(line ([1-3]): )?$NO_MEMORY\\$"')
+    tree.once(
+        "bench/refusals",
+        'CODES_ERROR="^((line|column) ([0-9]+)(: text ([0-9]+))?): $NO_MEMORY\\$"',
+        'CODES_ERROR="^((line|column) ([1-9][0-9]*)(: text ([0-9]+))?: )?$NO_MEMORY\\$"',
+    )
+    script = "bench/refusals.sh"
+    tree.once(script, "    local needed=('line 0')\n", "    local needed=('')\n")
+    tree.once(script, "no more. At number 0 no line was at hand.\n", "no more. Without a number no line was at hand.\n")
+    tree.once(script, "lines=$((BASH_REMATCH[1] > 0 && $1 == 1 ? BASH_REMATCH[1] - 1 : 0))", "lines=$((BASH_REMATCH[2] > 0 && $1 == 1 ? BASH_REMATCH[2] - 1 : 0))")
+    tree.once(script, 'grep -qx "$place: $NO_MEMORY"', 'grep -qx "${place:+$place: }$NO_MEMORY"')
+    tree.once(script, "place=${BASH_REMATCH[2]} number=${BASH_REMATCH[3]} text=", "place=${BASH_REMATCH[2]:-line} number=${BASH_REMATCH[3]:-0} text=")
 
 
 def shorten_functions(tree):
@@ -216,8 +240,18 @@ def share_digits(tree):
     tree.once("docs/DEFINITIONS.md", "lasso_input/Lines lasso_input/Texts", "lasso_input/Lines lasso_input/Texts lasso_input/Numbers")
 
 
+def lower_letters(tree):
+    """Messages of ours begin with a small letter; those of lasso 0.7.3 stay as they are there."""
+    crates = tuple(f"crates/{name}/" for name in ("lasso_parts", "lasso_columns", "test_parts_log", "test_columns"))
+    here = lambda path: path.startswith(crates) and (is_code(path) or is_edit(path))
+    tree.everywhere(r'"Text (?=at position|\{at\}|"|\d)', '"text ', here)
+    tree.everywhere(r'"Code (?=\{|"|\d)', '"code ', here)
+    tree.everywhere(r'"Item (?=\{at\}|"|\d)', '"item ', here)
+    tree.once("crates/lasso_parts/specs/JsonErrors.antt", "-- `Item at`, and", "-- `item at`, and")
+
+
 # Pieces that are taken only where they are named in WITH, as their proofs were not run.
-ASKED_FOR = {"shorten": shorten, "failures": share_failures, "digits": share_digits, "line": print_no_line}
+ASKED_FOR = {"shorten": shorten, "failures": share_failures, "digits": share_digits, "letters": lower_letters, "line": print_no_line}
 
 
 def change(tree):
