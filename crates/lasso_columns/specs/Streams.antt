@@ -2,7 +2,7 @@
 use Rattle.std.specs.Prelude.{ℕ, ◌≡◌, Bool, true, false, List, [], ◌∷◌, ◌++◌, flat_map, Option, Some, Result, Ok, Err, Vec, slice_get, ◌⊎◌}
 use Rattle.lasso_parts.specs.Texts.{Text}
 use Rattle.lasso_single.specs.Interner.{InternerView}
-use Rattle.lasso_input.specs.Lines.{lines_of}
+use Rattle.lasso_input.specs.Lines.{lines_of, NoFeed}
 use Rattle.lasso_columns.specs.Blocks.{IsBlockFor}
 use Rattle.lasso_columns.specs.Rows.{EncodesRows, StopsAtRow}
 use Rattle.lasso_columns.specs.declared.blocks.Block.{Block}
@@ -13,12 +13,17 @@ use Rattle.lasso_columns.specs.declared.stream.StreamError.TheVariants.{Line, Re
 abbrev pub lines_in : {A : Type 0} → List (Vec ℕ A) → List Text
 lines_in blocks = flat_map (λ block. lines_of block.items) blocks
 
--- these lines follow: those of the bytes that are left; or none, at the end of the input; or any, if a read
--- failed
+-- the lines of which none was read as a whole: a part of the first may have been read, without a line feed,
+-- and the bytes after that part are left
+abbrev pub AreUnread : Option (List ℕ) → List Text → Type 0
+AreUnread left lines = (begun : List ℕ) × (rest : List ℕ) × (left ≡ Some rest) × NoFeed begun × (lines ≡ lines_of (begun ++ rest))
+
+-- these lines follow: those of the bytes that are left; or none, at the end of the input; or, if a read failed,
+-- all lines that were not read as a whole
 abbrev pub Follow : {E : Type 0} → Result Bool E → Option (List ℕ) → List Text → Type 0
 Follow (Ok true) left lines = (rest : List ℕ) × (left ≡ Some rest) × (lines ≡ lines_of rest)
-Follow (Ok false) left lines = lines ≡ []
-Follow (Err error) left lines = Unit {0}
+Follow (Ok false) left lines = (left ≡ Some []) × (lines ≡ [])
+Follow (Err error) left lines = AreUnread left lines
 
 -- the first lines of known bytes were read as blocks, and whether more lines follow
 abbrev pub ReadsBlocks : {A E : Type 0} → Option (List ℕ) → Option (List ℕ) → List (Vec ℕ A) → Result Bool E → Type 0
@@ -30,13 +35,13 @@ abbrev pub ReadsLines : {E : Type 0} → Option (List ℕ) → Option (List ℕ)
 ReadsLines before after front block more =
     (bytes : List ℕ) → before ≡ Some bytes → (lines : List Text) × (lines_of (front ++ bytes) ≡ lines_of block ++ lines) × Follow more after lines
 
--- known bytes begin with these
-abbrev pub IsFront : Option (List ℕ) → List ℕ → Type 0
-IsFront known front = (bytes : List ℕ) → known ≡ Some bytes → (rest : List ℕ) × (bytes ≡ front ++ rest)
-
 -- the bytes are none, or end with a line feed
 abbrev pub EndsLine : List ℕ → Type 0
 EndsLine bytes = (bytes ≡ []) ⊎ ((front : List ℕ) × (bytes ≡ front ++ 10 ∷ []))
+
+-- the bytes after the last line feed were removed
+abbrev pub CutsLast : List ℕ → List ℕ → Type 0
+CutsLast before after = (begun : List ℕ) × (before ≡ after ++ begun) × NoFeed begun × EndsLine after
 
 -- what was made of the first blocks beside the list
 abbrev pub AreBlocksFor : {A : Type 0} → Option Text → List Text → List (Vec ℕ A) → List (Option Block) → Type 0
@@ -45,7 +50,7 @@ AreBlocksFor {A} null list blocks made =
     → IsBlockFor null list (lines_of bytes.items) block.base block.added block.entries.items block.is_complete
 
 -- why the lines of a stream were not all encoded: the first ones were, and the next one has this fault; or
--- they were, and a read failed
-abbrev pub StopsInStream : {A : Type 0} → Option Text → InternerView → List Text → List ℕ → InternerView → Vec ℕ A → StreamError → Type 0
-StopsInStream null old lines before new after (Line error) = StopsAtRow null old lines before new after error
-StopsInStream null old lines before new after (Read error) = (rest : List Text) × EncodesRows null old lines rest before new after.items
+-- those were that were read as a whole, and a read failed
+abbrev pub StopsInStream : {A : Type 0} → Option Text → InternerView → List Text → List ℕ → InternerView → Vec ℕ A → Option (List ℕ) → StreamError → Type 0
+StopsInStream null old lines before new after left (Line error) = StopsAtRow null old lines before new after error
+StopsInStream null old lines before new after left (Read error) = (rest : List Text) × EncodesRows null old lines rest before new after.items × AreUnread left rest

@@ -68,10 +68,11 @@ impl Error for StreamError {}
 /// blocks. This thread then interns those texts in the order of the blocks, and appends the entries. It encodes
 /// the blocks after a round or a block with mostly new texts, and a block whose worker ran out of memory.
 ///
-/// Stops at the first line that is refused or is not UTF-8 (`StreamError::Line`, with the line's number from the
-/// begin of the call, counted from 1), or at a read that failed or had no memory (`StreamError::Read`). The
-/// lines before it are interned and have their entries. A bad line is reported even if a read after it failed.
-/// What was read after the last encoded line is lost.
+/// After success nothing is left in the input. It stops at the first line that is refused or is not UTF-8
+/// (`StreamError::Line`, with the line's number from the begin of the call, counted from 1), or at a read that
+/// failed or had no memory (`StreamError::Read`). The lines before it are interned and have their entries: at
+/// `Read`, all lines that were read as a whole. A bad line is reported even if a read after it failed. What was
+/// read after the last encoded line is lost.
 ///
 /// ```rust
 /// let mut rodeo: SpurRodeo = Rodeo::default(rt.alloc())?;
@@ -90,8 +91,9 @@ pub fn encode_stream<R: AllocGlobal + Threads + Sync, I: BufRead>(
 ) -> Result<(), StreamError>
     ensures rows { OnOk result ((bytes : List ℕ) → I.remaining input.old ≡ Some bytes →
         EncodesRows (word_of null.entry) rodeo.old (lines_of bytes) [] entries.old.items rodeo.new entries.new.items) }
+    ensures end { OnOk result ((bytes : List ℕ) → I.remaining input.old ≡ Some bytes → I.remaining input.new ≡ Some []) }
     ensures stops { IfErr result (λ error. (bytes : List ℕ) → I.remaining input.old ≡ Some bytes →
-        StopsInStream (word_of null.entry) rodeo.old (lines_of bytes) entries.old.items rodeo.new entries.new error) }
+        StopsInStream (word_of null.entry) rodeo.old (lines_of bytes) entries.old.items rodeo.new entries.new (I.remaining input.new) error) }
 {
     let start = entries.len();
     let mut plan = Plan::new(rounds);
@@ -118,7 +120,10 @@ pub fn encode_stream<R: AllocGlobal + Threads + Sync, I: BufRead>(
         plan = plan.after(new_texts, entries.len().saturating_sub(lines));
         now = next;
     }
-    Err(StreamError::Read(io::Error::from(ErrorKind::TimedOut)))
+    match put_blocks(rt.alloc(), rodeo, &now.blocks, &[], null, entries, start) {
+        Ok(()) => Err(StreamError::Read(io::Error::from(ErrorKind::TimedOut))),
+        Err(error) => Err(StreamError::Line(error)),
+    }
 }
 
 // How the next blocks are read and encoded.
@@ -179,6 +184,7 @@ fn encode_and_read<R: AllocGlobal + Threads + Sync, I: BufRead>(
     requires { 0 < length chunk.old }
     ensures made { AreBlocksFor (word_of null.entry) rodeo.now.texts now.now.blocks.items result.0.items }
     ensures next { now.now.more ≡ Ok true → ReadsBlocks (I.remaining input.old) (I.remaining input.new) result.1.blocks.items result.1.more }
+    ensures kept { ¬ (now.now.more ≡ Ok true) → I.remaining input.new ≡ I.remaining input.old }
 {
     if !plan.is_round {
         return (
@@ -191,7 +197,8 @@ fn encode_and_read<R: AllocGlobal + Threads + Sync, I: BufRead>(
     { encode_round(rt, rodeo, now, null) };
     let mut read = || -> Blocks
         requires { 0 < length chunk.now }
-        ensures { now.entry.now.more ≡ Ok true → ReadsBlocks (I.remaining input.entry.now) (I.remaining input.exit.now) result.blocks.items result.more }
+        ensures next { now.entry.now.more ≡ Ok true → ReadsBlocks (I.remaining input.entry.now) (I.remaining input.exit.now) result.blocks.items result.more }
+        ensures kept { ¬ (now.entry.now.more ≡ Ok true) → I.remaining input.exit.now ≡ I.remaining input.entry.now }
     { read_next(rt.alloc(), input, chunk, now, plan) };
     join_mut(rt, &mut work, &mut read)
 }
@@ -220,7 +227,8 @@ fn read_next<I: BufRead>(
     plan: Plan,
 ) -> Blocks
     requires { 0 < length chunk.old }
-    ensures { now.now.more ≡ Ok true → ReadsBlocks (I.remaining input.old) (I.remaining input.new) result.blocks.items result.more }
+    ensures next { now.now.more ≡ Ok true → ReadsBlocks (I.remaining input.old) (I.remaining input.new) result.blocks.items result.more }
+    ensures kept { ¬ (now.now.more ≡ Ok true) → I.remaining input.new ≡ I.remaining input.old }
 {
     if let Ok(true) = now.more {
         let (count, size) = plan.next();

@@ -4,12 +4,12 @@ use Rattle.lasso_columns.specs.Blocks.{StopsInRound}
 use Rattle.lasso_columns.specs.Rows.{word_of, EncodesRows}
 use Rattle.lasso_columns.specs.Streams.{AreBlocksFor, lines_in}
 use Rattle.lasso_columns.proofs.EncodedRows.{rows_begin}
-use Rattle.lasso_columns.proofs.Streamed.{ok_is, stream_breaks, stream_ends, stream_next, stream_stops}
+use Rattle.lasso_columns.proofs.Streamed.{err_goes, ok_is, stream_breaks, stream_ends, stream_next, stream_stops, stream_used}
 use Rattle.lasso_columns.proofs.stream.encode_stream.Goals as goal
 
 pub returns-in-Err-clause-stops : goal.returns-in-Err-clause-stops
 returns-in-Err-clause-stops g c = λ bytes known.
-    (lines_of bytes, rows_begin (word_of c.args.null) c.args.rodeo.now (lines_of bytes) (lines_of bytes) c.args.entries.now.items refl)
+    (lines_of bytes, rows_begin (word_of c.args.null) c.args.rodeo.now (lines_of bytes) (lines_of bytes) c.args.entries.now.items refl, ([], bytes, known, tt, refl))
 
 pub put_blocks-outcome-requires : goal.put_blocks-outcome-requires
 put_blocks-outcome-requires g c =
@@ -41,6 +41,14 @@ returns-then-not-goes_on-clause-rows g c = λ bytes known.
     let end : at.now.more ≡ Ok false = ok_is at.now.more c.in-Ok-more.goes_on false c.in-Ok-more.is c.if-not-goes_on.true in
     stream_ends null c.args.rodeo.now bytes c.args.entries.now.items at.rodeo new at.entries.items at.now.blocks.items at.now.more (g.I.Read.remaining at.input) (at.invariant.stream bytes known) after rows end
 
+pub returns-then-not-goes_on-clause-end : goal.returns-then-not-goes_on-clause-end
+returns-then-not-goes_on-clause-end g c = λ bytes known.
+    let null = word_of c.args.null in
+    let at = c.loop in
+    let new = c.put_blocks-outcome.new.rodeo in
+    let end : at.now.more ≡ Ok false = ok_is at.now.more c.in-Ok-more.goes_on false c.in-Ok-more.is c.if-not-goes_on.true in
+    stream_used null c.args.rodeo.now bytes c.args.entries.now.items at.rodeo new at.entries.items at.now.blocks.items at.now.more (g.I.Read.remaining at.input) (at.invariant.stream bytes known) (g.I.Read.remaining c.encode_and_read-made.new.input) end c.encode_and_read-made.ensures.kept
+
 pub returns-in-Err-more-clause-stops : goal.returns-in-Err-more-clause-stops
 returns-in-Err-more-clause-stops g c = λ bytes known.
     let null = word_of c.args.null in
@@ -48,7 +56,8 @@ returns-in-Err-more-clause-stops g c = λ bytes known.
     let new = c.put_blocks-outcome.new.rodeo in
     let after = c.put_blocks-outcome.new.entries.items in
     let rows = subst (λ bs. EncodesRows null at.rodeo (lines_in bs) [] at.entries.items new after) c.deref.ensures.value c.in_default.ensures.rows in
-    stream_breaks null c.args.rodeo.now bytes c.args.entries.now.items at.rodeo new at.entries.items at.now.blocks.items at.now.more (g.I.Read.remaining at.input) (at.invariant.stream bytes known) after rows
+    let kept = c.encode_and_read-made.ensures.kept (err_goes at.now.more c.in-Err-more.error c.in-Err-more.is) in
+    stream_breaks null c.args.rodeo.now bytes c.args.entries.now.items at.rodeo new at.entries.items at.now.blocks.items at.now.more (g.I.Read.remaining at.input) (at.invariant.stream bytes known) after (g.I.Read.remaining c.encode_and_read-made.new.input) rows kept
 
 pub loop-preserved : goal.loop-preserved
 loop-preserved g c =
