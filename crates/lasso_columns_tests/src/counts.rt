@@ -3,7 +3,7 @@ ghost use Rattle.std.specs.Prelude.{◌≡◌, ◌+◌, ◌-◌, ◌^◌, ◌<�
 
 use crate::checks::{ends_so, resolves};
 use lasso::{Capacity, LassoError, LassoErrorKind, LassoResult, MemoryLimits, Rodeo, SpurRodeo};
-use lasso_counts::{CountError, Ranked, by_frequency, count_in_parts, count_text};
+use lasso_counts::{CountError, Ranked, by_frequency, count_codes, count_in_parts, count_text};
 use std::alloc::{AllocError, Global};
 use std::str::from_utf8;
 use std::test::Fail;
@@ -51,6 +51,19 @@ fn texts_are_counted(alloc: Global) -> LassoResult<bool> {
 #[test]
 fn each_text_is_counted(rt: HostRuntime) -> Result<(), Fail> {
     ends_so(&rt, Ok(texts_are_counted(rt.alloc())?), "the counts")
+}
+
+fn codes_are_counted(alloc: Global) -> Result<bool, AllocError> {
+    let mut counts = Vec::new(alloc);
+    counts.resize(3, 0)?;
+    count_codes(&[2, 0, 2, 3, 4_294_967_295, 2], &mut counts);
+    Ok(counts.as_slice() == [1, 0, 3].as_slice())
+}
+
+// A code past the counts is counted nowhere, nor is that of a null.
+#[test]
+fn each_code_is_counted(rt: HostRuntime) -> Result<(), Fail> {
+    ends_so(&rt, Ok(codes_are_counted(rt.alloc())?), "the counts")
 }
 
 static RANKED: [(u64, &str); 4] = [(2, "b"), (1, "ab"), (1, "z"), (1, "é")];

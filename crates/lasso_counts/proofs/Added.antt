@@ -182,6 +182,45 @@ at_index [] i d small = absurd (omega (arith, small))
 at_index (x ∷ xs) zero d small = refl
 at_index (x ∷ xs) (suc i) d small = at_index xs i d (omega (arith, small))
 
+-- ---- codes that are counted
+
+-- the code at an index is the position of the text there
+code_here : (list texts : List Text) (codes : List ℕ) (i code : ℕ) (d : Text) → AreCodes list texts codes → i < length codes → code ≡ get_or codes i 0 → position_of list (get_or texts i d) ≡ Some code
+code_here list texts codes i code d are small is =
+    let long = map_some_length (position_of list) texts codes are in
+    let at : slice_get texts i ≡ Some (get_or texts i d) = at_index texts i d (omega (arith, small, long)) in
+    let at' : slice_get codes i ≡ Some code = at_index codes i 0 small ∙ ap (λ n. Some n) (sym is) in
+    map_some_at (position_of list) texts codes i (get_or texts i d) code are at at'
+
+-- the first i codes and one more
+pub codes_more : (list texts : List Text) (codes old now new : List ℕ) (i code value : ℕ) → AreCodes list texts codes → AddsCounts (take i texts) list old list now → i < length codes → code ≡ get_or codes i 0 → code < length now → value ≡ get_or now code 0 → new ≡ set now code (value + 1) → AddsCounts (take (i + 1) texts) list old list new
+codes_more list texts codes old now new i code value are so_far small is inside value_is grown =
+    let text = get_or texts i [] in
+    let here : position_of list text ≡ Some code = code_here list texts codes i code [] are small is in
+    let at : slice_get texts i ≡ Some text = at_index texts i [] (omega (arith, small, map_some_length (position_of list) texts codes are)) in
+    let counted_is : new ≡ counted now (position_of list text) = grown ∙ ap (λ v. set now code (v + 1)) value_is ∙ ap (λ o. counted now o) (sym here) in
+    let kept : list ≡ with_last list text = ap (λ o. cond (is_some o) list (list ++ text ∷ [])) (sym here) in
+    let pushed = adds_push (take i texts) list list list old now new text so_far counted_is kept in
+    subst (λ (ts : List Text). AddsCounts ts list old list new) (sym (take_more_at texts i text at)) pushed
+
+-- a code of a text has a count
+pub code_inside : (list texts : List Text) (codes old now : List ℕ) (i code : ℕ) → AreCodes list texts codes → AddsCounts (take i texts) list old list now → i < length codes → code ≡ get_or codes i 0 → code < length now
+code_inside list texts codes old now i code are so_far small is =
+    inside list now (get_or texts i []) code so_far.lengths (code_here list texts codes i code [] are small is)
+
+-- one count has grown by one
+pub one_more : (now : List ℕ) (code value : ℕ) → code < length now → value ≡ get_or now code 0 → sum (set now code (value + 1)) ≡ sum now + 1
+one_more now code value small value_is = let change = sum_by-set (λ x. x) now code (value + 1) 0 small in omega (arith, change, value_is)
+
+pub one_fits : (now : List ℕ) (code value : ℕ) → code < length now → value ≡ get_or now code 0 → value ≤ sum now
+one_fits now code value small value_is = let one : get_or now code 0 ≤ sum now = get_or-le-sum_by (λ x. x) now code 0 small in omega (arith, one, value_is)
+
+-- all codes were counted
+pub codes_all : (list texts : List Text) (codes old new : List ℕ) (i : ℕ) → AreCodes list texts codes → length codes ≤ i → AddsCounts (take i texts) list old list new → AddsCounts texts list old list new
+codes_all list texts codes old new i are past adds =
+    let all : take i texts ≡ texts = take_all i texts (omega (arith, past, map_some_length (position_of list) texts codes are)) in
+    subst (λ (ts : List Text). AddsCounts ts list old list new) all adds
+
 -- the sum with one of them more, which stays within that of all
 pub total_more : (old now amounts : List ℕ) (i place value amount : ℕ) → value ≡ get_or now place 0 → amount ≡ get_or amounts i 0 → place < length now → i < length amounts → sum now ≡ sum old + sum (take i amounts) → sum (set now place (value + amount)) ≡ sum old + sum (take (i + 1) amounts)
 total_more old now amounts i place value amount value_is amount_is small inside total =

@@ -10,11 +10,13 @@
 //! ```
 #![tactic(auto)]
 
+mod codes;
 mod counting;
 mod error;
 mod parts;
 mod ranking;
 
+pub use codes::count_codes;
 pub use counting::{count_next, count_text, count_texts};
 pub use error::CountError;
 pub use parts::count_in_parts;
