@@ -24,11 +24,12 @@ use Rattle.lasso_input.specs.Lines.{lines_of}
 use Rattle.lasso_columns.specs.Parts.{new_texts}
 use Rattle.lasso_columns.specs.declared.faults.LineError.{LineError}
 use Rattle.lasso_columns.specs.declared.faults.LineError.TheVariants.{Refused}
-use Rattle.lasso_codes.specs.Columns.{is_null, texts_of, dictionary_of, entry_of, entry_at, column_of, column_bytes}
+use Rattle.lasso_columns.specs.Rows.{is_null, texts_of, AreEntries, IsEntryAs}
+use Rattle.lasso_codes.specs.Columns.{dictionary_of, entry_of, entry_at, column_of, column_bytes}
 use Rattle.lasso_codes.specs.Encode.{IsNoNull, IsNumberedAs, IsNumbered, AreNumbered, AreCodable, EncodingError, EncodeEnd}
 use Rattle.lasso_codes.specs.Errors.{IsReadError, IsWriteEnd}
 use Rattle.lasso_codes.specs.Limits.{Admits}
-use Rattle.lasso_codes.specs.Stages.{IsEntryAs, AreEntries, Encoding}
+use Rattle.lasso_codes.specs.Stages.{Encoding}
 use Rattle.lasso_codes.specs.Streams.{Begins, WritesAll}
 use Rattle.lasso_codes.specs.declared.error.RunError.{RunError}
 use Rattle.lasso_codes.specs.declared.error.RunError.TheVariants.{Line, TooManyLines, ReadFailed, WriteFailed, ReaderGone, Column}

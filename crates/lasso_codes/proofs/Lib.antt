@@ -9,8 +9,7 @@ pub mod Taken
 pub mod DistinctLines
 pub mod CountedLines
 pub mod EncodedLines
-pub mod WholeLines
-pub mod WholeCounts
+pub mod EncodedStream
 pub mod Words
 pub mod Decimals
 pub mod Items

@@ -24,8 +24,9 @@ use Rattle.lasso_input.specs.Lines.{NoFeed, is_line_feed, lines_of}
 use Rattle.lasso_columns.specs.Parts.{new_texts}
 use Rattle.lasso_encode.proofs.Coded.{position_stays}
 use Rattle.lasso_input.proofs.FirstLines.{no_feed_both}
+use Rattle.lasso_columns.specs.Rows.{is_null, texts_of}
 use Rattle.lasso_codes.specs.Arguments.{digits_value}
-use Rattle.lasso_codes.specs.Columns.{is_null, texts_of, dictionary_of, entry_of, entry_bytes, header, header_front, column_of, column_bytes}
+use Rattle.lasso_codes.specs.Columns.{dictionary_of, entry_of, entry_bytes, header, header_front, column_of, column_bytes}
 use Rattle.lasso_codes.specs.Distinct.{with_feed}
 use Rattle.lasso_codes.specs.Decode.{DecodingGivesLines, text_or_past, null_line, line_at, decoded}
 use Rattle.lasso_codes.specs.Reading.{header_with, header_at, header_in, header_of, head_of, on_header_line, on_text, texts_from, number_entry, code_in, entry_in, cut_number, cut_entry, on_entry_line, on_item, items_from, on_head, on_texts}

@@ -155,10 +155,6 @@ IsWithin (Wants setting) word = Unit {0}
 IsWithin (Has setting at) word = at < length word
 IsWithin Nothing word = Unit {0}
 
--- the bytes of a borrowed word
-abbrev pub word_of : Option (Bor Text) → Option Text
-word_of word = option_map (λ w. w.now) word
-
 -- the setting whose value is the next word, with its name
 abbrev pub wanted_of : Reading → Option (Setting × Text)
 wanted_of reading = option_map (λ wanted. (wanted.0, wanted.1.now)) reading.wanted

@@ -1,5 +1,5 @@
 -- What `encode` writes, and how it ends.
-use Rattle.std.specs.Prelude.{ℕ, ◌≡◌, ◌^◌, ◌<◌, ◌⊎◌, Bool, true, false, List, [], length, map, All, take, Option, Some, Result, Ok, MatchResult, IfSome, slice_get}
+use Rattle.std.specs.Prelude.{ℕ, ◌≡◌, ◌+◌, ◌^◌, ◌<◌, ◌⊎◌, Bool, true, false, List, [], length, map, All, take, Option, Some, Result, Ok, MatchResult, IfSome, Vec, slice_get}
 use Rattle.std.specs.Str.{IsUtf8}
 use Rattle.lasso_parts.specs.Texts.{Text, position_of}
 use Rattle.lasso_parts.specs.declared.util.LassoErrorKind.TheVariants.{FailedAllocation}
@@ -10,8 +10,9 @@ use Rattle.lasso_encode.specs.Encoding.{spur_at}
 use Rattle.lasso_input.specs.Lines.{lines_of}
 use Rattle.lasso_columns.specs.declared.faults.LineError.{LineError}
 use Rattle.lasso_columns.specs.declared.faults.LineError.TheVariants.{Refused, NotText}
-use Rattle.lasso_codes.specs.Columns.{is_null, texts_of, dictionary_of, entry_of, entry_at, column_bytes}
-use Rattle.lasso_codes.specs.Errors.{AreTooMany}
+use Rattle.lasso_columns.specs.Rows.{is_null, texts_of, EncodesRows, StopsAtRow}
+use Rattle.lasso_codes.specs.Columns.{dictionary_of, entry_of, entry_at, column_bytes}
+use Rattle.lasso_codes.specs.Errors.{AreTooMany, IsReadError}
 use Rattle.lasso_codes.specs.Limits.{Admits, IsNextError}
 use Rattle.lasso_codes.specs.Streams.{Begins}
 use Rattle.lasso_codes.specs.declared.error.RunError.{RunError}
@@ -54,6 +55,13 @@ EncodingError limit null lines ReadFailed = Unit {0}
 EncodingError limit null lines WriteFailed = ⊥
 EncodingError limit null lines ReaderGone = ⊥
 EncodingError limit null lines (Column column error) = ⊥
+
+-- why the lines of a stream were not all encoded: the first ones were, and the next one has this fault; or, after
+-- them, a read failed or there was no memory for what is read
+abbrev pub StopsEncoding : {A : Type 0} → Option Text → InternerView → List Text → List ℕ → InternerView → Vec ℕ A → RunError → Type 0
+StopsEncoding null old lines before new after error =
+    ((fault : LineError) × (error ≡ Line fault) × StopsAtRow null old lines before new after fault)
+    ⊎ (((left : List ℕ) × EncodesRows null old lines (lines_of left) before new after.items) × IsReadError (length after.items + 1) error)
 
 -- how a run ends with an error after it has written the part. Nothing was written unless all lines were
 -- encoded

@@ -6,7 +6,6 @@ pub mod Distinct
 pub mod Counts
 pub mod Columns
 pub mod Encode
-pub mod Whole
 pub mod Arguments
 pub mod Reading
 pub mod Decode

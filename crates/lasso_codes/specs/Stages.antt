@@ -7,7 +7,8 @@ use Rattle.lasso_single.specs.Interner.{InternerView, made_with}
 use Rattle.lasso_encode.specs.Encoding.{spur_at}
 use Rattle.lasso_input.specs.Lines.{lines_of}
 use Rattle.lasso_counts.specs.Counts.{AreCounts}
-use Rattle.lasso_codes.specs.Columns.{is_null, texts_of, entry_at}
+use Rattle.lasso_columns.specs.Rows.{is_null, texts_of}
+use Rattle.lasso_codes.specs.Columns.{entry_at}
 use Rattle.lasso_codes.specs.Decode.{fed_lines}
 use Rattle.lasso_codes.specs.Distinct.{distinct_report, with_feed}
 use Rattle.lasso_codes.specs.Reading.{ReadItems, texts_from}
@@ -33,18 +34,6 @@ pub record OnTheWay (input : List ℕ) (limit : ℕ) (rest : List ℕ) (number :
   pub list : extend spur_at (made_with 4096 limit) done (Ok tt) now
   pub part_is : part ≡ distinct_report done
   pub fed : (input ≡ flat_map with_feed done ++ rest) ⊎ (rest ≡ [])
-
--- the number of a line: that of a null, or the position of the line, which is never that of a null
-abbrev pub IsEntryAs : Bool → List Text → Text → ℕ → Type 0
-IsEntryAs true list line number = number ≡ 4294967295
-IsEntryAs false list line number = (position_of list line ≡ Some number) × (number < 4294967295)
-
--- the numbers are those of the lines, in order
-abbrev pub AreEntries : Option Text → List Text → List Text → List ℕ → Type 0
-AreEntries null list [] [] = Unit {0}
-AreEntries null list [] (n ∷ ns) = ⊥
-AreEntries null list (l ∷ ls) [] = ⊥
-AreEntries null list (l ∷ ls) (n ∷ ns) = IsEntryAs (is_null null l) list l n × AreEntries null list ls ns
 
 -- these lines were read, and have these numbers
 pub record Encoding (input rest : List ℕ) (number : ℕ) (null : Option Text) (old now : InternerView) (numbers : List ℕ) : Type 0 where

@@ -1,6 +1,7 @@
 //! The program's arguments: a verb and its options.
 ghost use Rattle.std.specs.Prelude.{◌≡◌, Some, Ok, Err, MatchResult, map, string_bytes};
-ghost use Rattle.lasso_codes.specs.Arguments.{argument_text, command_of, verb_of, word_of};
+ghost use Rattle.lasso_columns.specs.Rows.{word_of};
+ghost use Rattle.lasso_codes.specs.Arguments.{argument_text, command_of, verb_of};
 
 use crate::options::options_of;
 use std::fmt;

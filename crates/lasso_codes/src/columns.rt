@@ -14,11 +14,8 @@ use crate::streams::Output;
 use itoa::Buffer;
 use lasso::index::Texts;
 use lasso::{LassoError, LassoErrorKind, SpurRodeo};
-use lasso_columns::LineError;
+use lasso_columns::{LineError, NULL};
 use std::io::Write;
-
-/// The number of a null. It is never a code.
-pub const NULL: u32 = u32::MAX;
 
 /// The start of the header of a column whose entries are lines.
 pub const TEXT_HEADER: &[u8] = b"lasso-codes 1 text ";

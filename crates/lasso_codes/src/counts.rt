@@ -20,10 +20,9 @@ use crate::interner::new_rodeo;
 use crate::lines::taken;
 use crate::output::{end_flushed, write_bytes, write_line, write_number};
 use crate::streams::{Input, Output};
-use crate::whole::{read_whole, text_lines};
 use lasso::{MemoryLimits, SpurRodeo};
 use lasso_columns::LineError;
-use lasso_counts::{Ranked, by_frequency, count_in_parts, count_next};
+use lasso_counts::{Ranked, by_frequency, count_codes, count_next};
 use lasso_input::{Line, Stretch};
 use lasso_single::batch::Batch;
 use std::alloc::Global;
@@ -32,8 +31,8 @@ use std::io::{Read, Write};
 use std::thread::Threads;
 
 /// Counts the lines, and writes each distinct line after its count, the most frequent first. Lines with equal
-/// counts are in the order of their bytes. At most `top` lines are written. With several workers, the whole
-/// input is read first, and each worker counts a part of the lines.
+/// counts are in the order of their bytes. At most `top` lines are written. Several workers encode blocks of the
+/// input, as `encode_stream` says, and then the codes are counted.
 ///
 /// # Errors
 /// A line that is refused or is not UTF-8, a failed read, or out of memory: nothing is written. After a
@@ -93,7 +92,7 @@ fn count_all<H: AllocGlobal + Threads + Sync, R: Read + Drop>(
     ensures counted { OnOk result ((bytes : List ℕ) → input.old.left ≡ Some bytes →
         All IsUtf8 (lines_of bytes) × AreCounts (lines_of bytes) rodeo.new.texts counts.new.items) }
     ensures interned { OnOk result ((bytes : List ℕ) → input.old.left ≡ Some bytes → extend spur_at rodeo.old (lines_of bytes) (Ok tt) rodeo.new) }
-    ensures lengths { vec_len counts.new ≡ length rodeo.new.texts }
+    ensures lengths { OnOk result (vec_len counts.new ≡ length rodeo.new.texts) }
     ensures error { IfErr result (λ error. (bytes : List ℕ) → input.old.left ≡ Some bytes →
         (limit : ℕ) → rodeo.old ≡ made_with 4096 limit → CountingError limit (lines_of bytes) error) }
     ensures faults { IfErr result IsInputError }
@@ -102,7 +101,7 @@ fn count_all<H: AllocGlobal + Threads + Sync, R: Read + Drop>(
     if workers < 2 {
         return count_lines(rt.alloc(), input, rodeo, counts);
     }
-    count_whole(rt, input, rodeo, counts, workers)
+    count_stream(rt, input, rodeo, counts, workers)
 }
 
 // Counts all lines, one after another.
@@ -203,8 +202,8 @@ fn count_line(
     }
 }
 
-// Reads the whole input, and counts its lines with several workers.
-fn count_whole<H: AllocGlobal + Threads + Sync, R: Read + Drop>(
+// Encodes all lines with several workers, and counts their codes.
+fn count_stream<H: AllocGlobal + Threads + Sync, R: Read + Drop>(
     rt: &H,
     input: &mut Input<R>,
     rodeo: &mut SpurRodeo,
@@ -216,22 +215,19 @@ fn count_whole<H: AllocGlobal + Threads + Sync, R: Read + Drop>(
     ensures counted { OnOk result ((bytes : List ℕ) → input.old.left ≡ Some bytes →
         All IsUtf8 (lines_of bytes) × AreCounts (lines_of bytes) rodeo.new.texts counts.new.items) }
     ensures interned { OnOk result ((bytes : List ℕ) → input.old.left ≡ Some bytes → extend spur_at rodeo.old (lines_of bytes) (Ok tt) rodeo.new) }
-    ensures lengths { vec_len counts.new ≡ length rodeo.new.texts }
+    ensures lengths { OnOk result (vec_len counts.new ≡ length rodeo.new.texts) }
     ensures error { IfErr result (λ error. (bytes : List ℕ) → input.old.left ≡ Some bytes →
         (limit : ℕ) → rodeo.old ≡ made_with 4096 limit → CountingError limit (lines_of bytes) error) }
     ensures faults { IfErr result IsInputError }
     ensures reads { input.new.failures ≡ input.old.failures + failed_reads result }
 {
-    let whole = read_whole(rt.alloc(), input)?;
-    let lines = text_lines(rt.alloc(), &whole)?;
-    match count_in_parts(rt, rodeo, &lines.texts, counts, workers) {
-        Ok(()) if lines.is_complete => Ok(()),
-        Ok(()) => Err(RunError::Line(LineError::NotText(lines.texts.len() + 1))),
-        Err(refused) => Err(RunError::Line(LineError::Refused(
-            refused.position + 1,
-            refused.error,
-        ))),
+    let mut codes = Vec::new(rt.alloc());
+    input.encode_stream(rt, rodeo, &mut codes, None, workers)?;
+    if counts.resize(rodeo.len(), 0).is_err() {
+        return Err(RunError::no_memory(0));
     }
+    count_codes(&codes, counts);
+    Ok(())
 }
 
 // Writes each count and its text as a line.

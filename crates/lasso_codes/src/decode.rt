@@ -1,6 +1,6 @@
 //! Decodes columns into their lines.
 ghost use Rattle.std.specs.Prelude.{◌≡◌, ◌+◌, ◌-◌, ◌≤◌, ◌++◌, [], ℕ, List, Option, Some, Err, IfOk, IfErr, drop, length};
-ghost use Rattle.lasso_codes.specs.Arguments.{word_of};
+ghost use Rattle.lasso_columns.specs.Rows.{word_of};
 ghost use Rattle.lasso_codes.specs.Decode.{line_at, DecodeEnd, DecodingError, WritesEntry, WritesLines};
 ghost use Rattle.lasso_codes.specs.Errors.{failed_reads, failed_writes, gone_readers, FailsWriting, IsWriteEnd, IsOutputError};
 ghost use Rattle.lasso_codes.specs.Reading.{items_from, ReadItems};

@@ -1,32 +1,28 @@
 //! Encodes lines as a column.
-ghost use Rattle.std.specs.Prelude.{◌≡◌, ◌+◌, ◌<◌, ◌≤◌, ◌-◌, ◌^◌, ◌++◌, ◌∷◌, [], ℕ, List, false, Some, Ok, Err, OnOk, IfOk, IfErr, MatchResult, All, IsUtf8, drop, length, map};
+ghost use Rattle.std.specs.Prelude.{◌≡◌, ◌+◌, ◌<◌, ◌≤◌, ◌-◌, ◌^◌, ◌++◌, ◌∷◌, [], ℕ, List, false, Some, Ok, Err, OnOk, IfOk, IfErr, MatchResult, All, IsUtf8, drop, length};
 ghost use Rattle.lasso_single.specs.Filling.{extend};
 ghost use Rattle.lasso_single.specs.Interner.{InternerView, made_with};
 ghost use Rattle.lasso_encode.specs.Encoding.{spur_at, IsAdmitted, IsRefused};
 ghost use Rattle.lasso_columns.specs.Faults.{IsFaultOf, LineMayLackMemory};
+ghost use Rattle.lasso_columns.specs.Rows.{is_null, texts_of, word_of};
 ghost use Rattle.lasso_input.specs.Lines.{lines_of};
-ghost use Rattle.lasso_columns.specs.declared.faults.LineError.TheVariants.{Refused};
 ghost use Rattle.lasso_parts.specs.declared.util.LassoErrorKind.TheVariants.{FailedAllocation};
-ghost use Rattle.lasso_codes.specs.Arguments.{word_of};
-ghost use Rattle.lasso_codes.specs.Columns.{is_null, texts_of};
 ghost use Rattle.lasso_codes.specs.Encode.{AreNumbered, EncodeEnd, EncodingError, IsNoNull, IsNumbered};
 ghost use Rattle.lasso_codes.specs.Errors.{failed_reads, failed_writes, gone_readers, FailsWriting, IsWriteEnd, IsDataError, IsInputError};
 ghost use Rattle.lasso_codes.specs.Limits.{LacksMemory};
 ghost use Rattle.lasso_codes.specs.Stages.{Encoding};
 ghost use Rattle.lasso_codes.specs.Streams.{Writes};
-ghost use Rattle.lasso_codes.specs.Whole.{spread};
 
 use crate::arguments::Settings;
-use crate::columns::{NULL, append, write_column};
+use crate::columns::{append, write_column};
 use crate::error::RunError;
 use crate::input::next_line;
 use crate::interner::new_rodeo;
 use crate::lines::taken;
 use crate::output::end_flushed;
 use crate::streams::{Input, Output};
-use crate::whole::{read_whole, text_lines};
 use lasso::{LassoResult, MemoryLimits, SpurRodeo};
-use lasso_columns::{LineError, encode_in_parts};
+use lasso_columns::{LineError, NULL, is_null};
 use lasso_encode::intern_code_next;
 use lasso_input::{Line, Stretch};
 use lasso_single::batch::Batch;
@@ -34,8 +30,8 @@ use std::alloc::Global;
 use std::io::{Read, Write};
 use std::thread::Threads;
 
-/// Encodes the lines, and writes their column. A line that equals `null` is a null. With several workers, the
-/// whole input is read first, and each worker encodes a part of the lines.
+/// Encodes the lines, and writes their column. A line that equals `null` is a null. Several workers encode
+/// blocks of the input, as `encode_stream` says.
 ///
 /// # Errors
 /// A line that is refused or is not UTF-8, a failed read, or out of memory: nothing is written. After a
@@ -103,7 +99,7 @@ fn number_lines<H: AllocGlobal + Threads + Sync, R: Read + Drop>(
     if workers < 2 {
         return encode_lines(rt.alloc(), input, rodeo, numbers, null);
     }
-    encode_whole(rt, input, rodeo, numbers, null, workers)
+    input.encode_stream(rt, rodeo, numbers, null, workers)
 }
 
 // Encodes all lines, one after another.
@@ -178,91 +174,6 @@ fn encode_stretch(
     Err(RunError::TooManyLines)
 }
 
-// Reads the whole input, and encodes its lines with several workers.
-fn encode_whole<H: AllocGlobal + Threads + Sync, R: Read + Drop>(
-    rt: &H,
-    input: &mut Input<R>,
-    rodeo: &mut SpurRodeo,
-    numbers: &mut Vec<u32>,
-    null: Option<&[u8]>,
-    workers: usize,
-) -> Result<(), RunError>
-    requires no_texts { rodeo.old.texts ≡ [] }
-    requires no_numbers { numbers.old.items ≡ [] }
-    ensures numbered { OnOk result ((bytes : List ℕ) → input.old.left ≡ Some bytes →
-        All IsUtf8 (lines_of bytes) × AreNumbered (word_of null.entry) (lines_of bytes) rodeo.new.texts numbers.new.items) }
-    ensures interned { OnOk result ((bytes : List ℕ) → input.old.left ≡ Some bytes →
-        extend spur_at rodeo.old (texts_of (word_of null.entry) (lines_of bytes)) (Ok tt) rodeo.new) }
-    ensures error { IfErr result (λ error. (bytes : List ℕ) → input.old.left ≡ Some bytes →
-        (limit : ℕ) → rodeo.old ≡ made_with 4096 limit → EncodingError limit (word_of null.entry) (lines_of bytes) error) }
-    ensures faults { IfErr result IsInputError }
-    ensures reads { input.new.failures ≡ input.old.failures + failed_reads result }
-{
-    let whole = read_whole(rt.alloc(), input)?;
-    let lines = text_lines(rt.alloc(), &whole)?;
-    let texts = texts_of(rt.alloc(), &lines.texts, null)?;
-    let mut codes = Vec::new(rt.alloc());
-    let outcome = encode_in_parts(rt, rodeo, &texts, &mut codes, workers);
-    number_texts(&lines.texts, null, &codes, numbers)?;
-    let next = numbers.len() + 1;
-    match outcome {
-        Ok(()) if lines.is_complete => Ok(()),
-        Ok(()) => Err(RunError::Line(LineError::NotText(next))),
-        Err(error) => Err(RunError::Line(LineError::Refused(next, error))),
-    }
-}
-
-// The lines that are not null.
-fn texts_of<'a>(
-    alloc: Global,
-    lines: &[&'a str],
-    null: Option<&[u8]>,
-) -> Result<Vec<&'a str>, RunError>
-    ensures texts { IfOk result (λ texts. map (λ t. t.now) texts.items ≡ texts_of (word_of null.entry) (map (λ t. t.now) lines.now)) }
-    ensures error { IfErr result (λ error. error ≡ RunError.Line (Refused 0 FailedAllocation)) }
-{
-    let mut texts = Vec::new(alloc);
-    for line in lines {
-        if is_null(null, line.as_bytes()) {
-            continue;
-        }
-        if texts.push(*line).is_err() {
-            return Err(RunError::no_memory(0));
-        }
-    }
-    Ok(texts)
-}
-
-// Appends the entry of each line: `NULL`, or the next of the codes. Stops at the first line for which there
-// is no code.
-fn number_texts(
-    lines: &[&str],
-    null: Option<&[u8]>,
-    codes: &[u32],
-    numbers: &mut Vec<u32>,
-) -> Result<(), RunError>
-    ensures numbers { OnOk result (numbers.new.items ≡ numbers.old.items ++ spread (word_of null.entry) (map (λ t. t.now) lines.now) codes.now) }
-    ensures error { IfErr result (λ error. error ≡ RunError.Line (Refused 0 FailedAllocation)) }
-{
-    let mut used = 0;
-    for line in lines {
-        if is_null(null, line.as_bytes()) {
-            if numbers.push(NULL).is_err() {
-                return Err(RunError::no_memory(0));
-            }
-            continue;
-        }
-        let Some(code) = codes.get(used) else {
-            return Ok(());
-        };
-        if numbers.push(*code).is_err() {
-            return Err(RunError::no_memory(0));
-        }
-        used += 1;
-    }
-    Ok(())
-}
-
 // Appends the entry of the line with this number, the next text of `batch`.
 fn encode_line(
     rodeo: &mut SpurRodeo,
@@ -319,14 +230,4 @@ fn number_of(
         return Ok(NULL);
     }
     intern_code_next(rodeo, text, batch)
-}
-
-// Whether the line is a null.
-fn is_null(null: Option<&[u8]>, line: &[u8]) -> bool
-    ensures { result ≡ is_null (word_of null.entry) line.now }
-{
-    match null {
-        Some(word) => word == line,
-        None => false,
-    }
 }

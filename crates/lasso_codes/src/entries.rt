@@ -1,17 +1,17 @@
 //! Reads the entries of a column.
 ghost use Rattle.std.specs.Prelude.{◌≡◌, ◌+◌, ◌≤◌, ◌++◌, ℕ, List, true, Some, Ok, Err, IfOk, IfErr, IfSome, MatchResult, drop, length};
-ghost use Rattle.lasso_codes.specs.Arguments.{word_of};
+ghost use Rattle.lasso_columns.specs.Rows.{word_of};
 ghost use Rattle.lasso_codes.specs.Decode.{line_at};
 ghost use Rattle.lasso_codes.specs.Reading.{cut_entry, cut_number, entry_in, number_entry, TakesEntry};
 ghost use Rattle.lasso_codes.specs.Errors.{failed_reads, IsReadError};
 
-use crate::columns::NULL;
 use crate::error::{ColumnError, RunError};
 use crate::input::{Cut, next_whole_line};
 use crate::numbers::parse_digits;
 use crate::streams::Input;
 use lasso::SpurRodeo;
 use lasso::index::Texts;
+use lasso_columns::NULL;
 use lasso_input::find_newline;
 use std::io::Read;
 

@@ -24,8 +24,7 @@ pub mod program;
 pub mod progress;
 pub mod reading;
 pub mod streams;
-pub mod whole;
-
+pub 
 use arguments::{ArgumentError, Request, command_of};
 use error::RunError;
 use program::{BUFFER_SIZE, run_request};

@@ -12,7 +12,7 @@ ghost use Rattle.lasso_codes.specs.Stages.{EntriesAhead};
 ghost use Rattle.lasso_codes.specs.Reading.{items_from, ReadItems};
 ghost use Rattle.lasso_codes.specs.Streams.{Writes};
 
-use crate::columns::{NULL, append, write_column};
+use crate::columns::{append, write_column};
 use crate::entries::{Entry, first_entry, next_entry};
 use crate::error::{ColumnError, RunError};
 use crate::interner::new_rodeo;
@@ -20,7 +20,7 @@ use crate::output::end_flushed;
 use crate::reading::{Header, next_header, read_texts};
 use crate::streams::{Input, Output};
 use lasso::{MemoryLimits, SpurRodeo};
-use lasso_columns::merge as merge_texts;
+use lasso_columns::{NULL, merge as merge_texts};
 use std::alloc::Global;
 use std::io::{Read, Write};
 

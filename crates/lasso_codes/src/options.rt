@@ -1,7 +1,8 @@
 //! The options of a verb.
 ghost use Rattle.std.specs.Prelude.{◌≡◌, ◌+◌, ◌≤◌, ◌∷◌, List, None, Some, Ok, Err, IfSome, IsSome, MatchOption, MatchResult, drop, length, map, string_bytes};
 ghost use Rattle.lasso_parts.specs.Texts.{Text};
-ghost use Rattle.lasso_codes.specs.Arguments.{IsWithin, argument_text, is_binary, meaning_of, no_value, not_number, number_of, options_of, setting_of, takes_binary, takes_null, takes_workers, unset, value_of, wanted_of, word_of, workers_of};
+ghost use Rattle.lasso_columns.specs.Rows.{word_of};
+ghost use Rattle.lasso_codes.specs.Arguments.{IsWithin, argument_text, is_binary, meaning_of, no_value, not_number, number_of, options_of, setting_of, takes_binary, takes_null, takes_workers, unset, value_of, wanted_of, workers_of};
 
 use crate::arguments::{ArgumentError, Command, Request, Settings, Verb};
 use crate::numbers::parse_number;

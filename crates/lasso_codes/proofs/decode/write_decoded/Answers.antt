@@ -1,6 +1,6 @@
 use Rattle.std.proofs.Common.{◌≡◌, ◌+◌, Ok, Err, arith}
 use Rattle.std.proofs.lemmas.Result.{err_from_is_err_and}
-use Rattle.lasso_codes.specs.Arguments.{word_of}
+use Rattle.lasso_columns.specs.Rows.{word_of}
 use Rattle.lasso_codes.specs.Decode.{line_at, fed_lines, DecodingError, DecodeEnd}
 use Rattle.lasso_codes.specs.Reading.{items_from}
 use Rattle.lasso_codes.specs.declared.error.RunError.TheVariants.{TooManyLines}

@@ -1,5 +1,5 @@
 use Rattle.std.proofs.Common.{ℕ, ◌≡◌, List, Some}
-use Rattle.lasso_codes.specs.Arguments.{word_of}
+use Rattle.lasso_columns.specs.Rows.{word_of}
 use Rattle.lasso_codes.specs.Streams.{Writes}
 use Rattle.lasso_codes.proofs.DecodedLines.{ColumnsAhead}
 use Rattle.lasso_codes.proofs.decode.write_decoded.Given as goal

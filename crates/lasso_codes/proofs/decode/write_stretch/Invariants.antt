@@ -1,6 +1,6 @@
 use Rattle.std.proofs.Common.{ℕ, ◌+◌, ◌-◌, ◌≤◌, List, ◌++◌, Option, length, drop, ◌≡◌}
 use Rattle.lasso_parts.specs.Texts.{Text}
-use Rattle.lasso_codes.specs.Arguments.{word_of}
+use Rattle.lasso_columns.specs.Rows.{word_of}
 use Rattle.lasso_codes.specs.Decode.{line_at}
 use Rattle.lasso_codes.specs.Stages.{LinesAhead}
 use Rattle.lasso_codes.specs.Reading.{ReadItems, items_from}

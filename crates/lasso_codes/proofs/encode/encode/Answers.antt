@@ -1,5 +1,5 @@
 use Rattle.std.proofs.Common.{ℕ, ◌≡◌, List, Err, Some, subst}
-use Rattle.lasso_codes.specs.Arguments.{word_of}
+use Rattle.lasso_columns.specs.Rows.{word_of}
 use Rattle.lasso_codes.specs.Encode.{EncodeEnd}
 use Rattle.lasso_codes.specs.Streams.{Writes}
 use Rattle.lasso_codes.specs.declared.error.RunError.{RunError}

@@ -1,7 +1,7 @@
 use Rattle.std.proofs.Common.{refl, sym, subst, inl, inr}
 use Rattle.std.proofs.lemmas.Result.{err_from_is_err_and}
 use Rattle.lasso_columns.specs.Faults.{IsFaultOf}
-use Rattle.lasso_codes.specs.Arguments.{word_of}
+use Rattle.lasso_columns.specs.Rows.{word_of}
 use Rattle.lasso_codes.specs.Encode.{IsNoNull}
 use Rattle.lasso_codes.proofs.encode.encode_line.Goals as goal
 

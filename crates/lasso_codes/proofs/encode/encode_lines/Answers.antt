@@ -3,7 +3,7 @@ use Rattle.std.proofs.lemmas.Result.{err_from_is_err_and}
 use Rattle.lasso_single.specs.Interner.{InternerView}
 use Rattle.lasso_columns.specs.Faults.{IsFaultOf}
 use Rattle.lasso_input.specs.Lines.{lines_of}
-use Rattle.lasso_codes.specs.Arguments.{word_of}
+use Rattle.lasso_columns.specs.Rows.{word_of}
 use Rattle.lasso_codes.specs.Encode.{IsNoNull}
 use Rattle.lasso_codes.specs.Stages.{Encoding}
 use Rattle.lasso_codes.proofs.Feeds.{no_line, one_line}

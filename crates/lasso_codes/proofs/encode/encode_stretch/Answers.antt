@@ -2,7 +2,7 @@ use Rattle.std.proofs.Common.{◌∙◌, ◌++◌, refl, sym, subst, arith}
 use Rattle.lasso_single.specs.Interner.{made_with}
 use Rattle.lasso_input.proofs.FirstLines.{lines_fed}
 use Rattle.lasso_input.proofs.Remaining.{IsEndOf, end_after, whole_is_end}
-use Rattle.lasso_codes.specs.Arguments.{word_of}
+use Rattle.lasso_columns.specs.Rows.{word_of}
 use Rattle.lasso_codes.specs.Stages.{Encoding}
 use Rattle.lasso_codes.proofs.EncodedLines.{encoding_push, encoding_many, encoding_line_fails}
 use Rattle.lasso_codes.proofs.encode.encode_stretch.Goals as goal

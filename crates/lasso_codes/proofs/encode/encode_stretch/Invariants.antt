@@ -1,7 +1,7 @@
 use Rattle.std.proofs.Common.{ℕ, List, ◌++◌}
 use Rattle.lasso_single.specs.Interner.{InternerView}
 use Rattle.lasso_input.proofs.Remaining.{IsEndOf}
-use Rattle.lasso_codes.specs.Arguments.{word_of}
+use Rattle.lasso_columns.specs.Rows.{word_of}
 use Rattle.lasso_codes.specs.Stages.{Encoding}
 use Rattle.lasso_codes.proofs.encode.encode_stretch.Given as goal
 

@@ -4,8 +4,7 @@ use Rattle.lasso_parts.specs.declared.util.LassoError.{LassoError}
 use Rattle.lasso_parts.specs.declared.util.LassoErrorKind.TheVariants.{FailedAllocation}
 use Rattle.lasso_single.specs.Interner.{InternerView}
 use Rattle.lasso_encode.specs.Encoding.{InternsCode, IsAdmitted, IsRefused}
-use Rattle.lasso_codes.specs.Arguments.{word_of}
-use Rattle.lasso_codes.specs.Columns.{is_null}
+use Rattle.lasso_columns.specs.Rows.{is_null, word_of}
 use Rattle.lasso_codes.specs.Encode.{IsNumbered, IsNumberedAs}
 use Rattle.lasso_codes.proofs.Lacking.{lacks_memory}
 use Rattle.lasso_codes.proofs.encode.number_of.Goals as goal

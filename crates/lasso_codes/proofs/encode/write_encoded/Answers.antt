@@ -5,8 +5,7 @@ use Rattle.lasso_single.specs.Interner.{InternerView, made_with}
 use Rattle.lasso_single.proofs.Filled.{accepted}
 use Rattle.lasso_encode.specs.Encoding.{spur_at}
 use Rattle.lasso_input.specs.Lines.{lines_of}
-use Rattle.lasso_codes.specs.Arguments.{word_of}
-use Rattle.lasso_codes.specs.Columns.{texts_of}
+use Rattle.lasso_columns.specs.Rows.{texts_of, word_of}
 use Rattle.lasso_codes.specs.Encode.{AreNumbered, EncodeEnd}
 use Rattle.lasso_codes.proofs.Failing.{written_no_read}
 use Rattle.lasso_codes.proofs.Written.{writes_none, writes_as}

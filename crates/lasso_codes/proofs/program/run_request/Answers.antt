@@ -1,5 +1,5 @@
 use Rattle.std.proofs.Common.{ℕ, ◌≡◌, ◌∙◌, List, Some, Err, ap, sym, subst}
-use Rattle.lasso_codes.specs.Arguments.{word_of}
+use Rattle.lasso_columns.specs.Rows.{word_of}
 use Rattle.lasso_codes.specs.Decode.{DecodeEnd}
 use Rattle.lasso_codes.specs.Distinct.{DistinctEnd}
 use Rattle.lasso_codes.specs.Errors.{FailsWriting}
