@@ -113,14 +113,14 @@ deb: all
 check: crate toolchain
 	@cd crates/$(CRATE) && rt check && if grep -rqF '#[test]' src; then rt test; fi
 	@if [ -d "cases/$(CRATE)" ]; then (cd crates/$(CRATE) && { rt run < /dev/null > /dev/null || [ -e out/$(CRATE).stamp ]; }) && cases/run $(CRATE); fi
-	@if [ "$(CRATE)" = lasso_lines ]; then cases/gate; fi
+	@if [ -d "cases/$(CRATE)/modules" ]; then cases/modules $(CRATE); fi
 
 #: make test                         the gate: make docs; then rt ci, which proves all that its kit has not kept, and runs every test; then
-#:                                   the cases over the programs that it built, and the tests of the workers' gate
+#:                                   the cases over the programs that it built, and tests of modules of the programs
 test: toolchain docs
 	RT_JOBS=$${RT_JOBS-$$(.ci/jobs)} rt ci
 	cases/run
-	cases/gate
+	cases/modules
 
 #: make docs                         checks the documents: links, names of files and clauses, lengths of lines, parts made from the
 #:                                   sources; that manual pages and completions have the options of the programs; that cases find what

@@ -6,9 +6,11 @@
    FAIL_READ, FAIL_WRITE        the call of this number fails, and a further one ends the program by SIGABRT
    FAIL_WITH                    how: by EIO (unless given) or one of `errors`, or by NOTHING: a write that takes no byte
    EINTR_READ, EINTR_WRITE      the call of this number is interrupted
+   EINTR_TIMES                  and further ones, so that this number of calls in a row are
    FAIL_SAY                     writes to standard error are made, but report EIO
    CLOCK_STEP, CLOCK_GOOD       the clock moves by this number of milliseconds each time it is read, and fails after this number of times
    REFUSE                       once the input has ended, a request for more than this number of bytes of memory is refused
+   REFUSE_AFTER                 instead such requests are refused after this number of them, wherever the input is
    THREADS                      NONE: no thread starts; FIRST: a new thread ends before its maker goes on; LAST: it starts when it is joined
    TRACE                        a descriptor, to which each call writes a word: r3 or w3 with its bytes, r- or w- if it failed, r! or w! if
                                 it was interrupted; c of the clock, if CLOCK_STEP is set; t of a thread, t- if it was refused */
@@ -86,6 +88,13 @@ static ssize_t failed(struct stream *stream)
     return is_word("FAIL_WITH", "NOTHING") ? 0 : -1;
 }
 
+/* Whether this call is interrupted. */
+static int is_interrupted(const struct stream *stream)
+{
+    unsigned long first = number(stream->eintr_name), times = number("EINTR_TIMES");
+    return first && stream->calls >= first && stream->calls < first + (times ? times : 1);
+}
+
 /* Counts a call. Whether it is to be made; if not, `count` is what it returns, and if so, the most bytes that it may move. */
 static int is_made(struct stream *stream, size_t size, ssize_t *count)
 {
@@ -97,7 +106,7 @@ static int is_made(struct stream *stream, size_t size, ssize_t *count)
         *count = failed(stream);
         return 0;
     }
-    if (stream->calls == number(stream->eintr_name)) {
+    if (is_interrupted(stream)) {
         trace(stream->call == 'r' ? "r!" : "w!");
         errno = EINTR;
         *count = -1;
@@ -162,10 +171,14 @@ int clock_gettime(clockid_t clock, struct timespec *time)
 void *__libc_malloc(size_t size);
 void *__libc_realloc(void *block, size_t size);
 
+/* Whether requests for this number of bytes are refused by now. */
 static int is_refused(size_t size)
 {
-    unsigned long most = has_ended ? number("REFUSE") : 0;
+    static unsigned long requests;
+    unsigned long most = number("REFUSE");
     if (!most || size <= most)
+        return 0;
+    if (getenv("REFUSE_AFTER") ? __atomic_fetch_add(&requests, 1, __ATOMIC_SEQ_CST) < number("REFUSE_AFTER") : !has_ended)
         return 0;
     errno = ENOMEM;
     return 1;

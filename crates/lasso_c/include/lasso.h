@@ -5,11 +5,11 @@
  * lives from call to call: intern texts one by one or in batches, look them up, save them by lasso_dictionary,
  * and free it by lasso_free.
  *
- * Texts cross as Arrow lays out arrays of strings: a buffer of UTF-8 bytes without end marks, and a buffer of
+ * Texts are passed in Arrow's layout of arrays of strings: a buffer of UTF-8 bytes without end marks, and a buffer of
  * offsets, which count bytes from the start of the first buffer. Text k is the bytes from offset k up to offset
- * k + 1, so n texts have n + 1 offsets. The first offset may be above 0, as in an array that was cut. Without
- * offsets there are no texts. Each offset is at least the one before it, at most the number of bytes, and never
- * negative. Offsets have 32 bits, or 64 in calls whose names end with _large.
+ * k + 1, so n texts have n + 1 offsets. The first offset may be above 0, as in a slice of an array. Without offsets
+ * there are no texts. Each offset is at least the one before it, at most the number of bytes, and never negative.
+ * Offsets have 32 bits, or 64 in calls whose names end with _large.
  *
  * For every call:
  * - A length counts elements, not bytes: bytes of a uint8_t array, numbers of an int32_t, int64_t or uint32_t
@@ -19,12 +19,12 @@
  *   functions of this header replace NULL. A caller without the header, as ctypes, never passes NULL.)
  * - An array has at least as many elements as its length says, and at most 2^63 - 1 bytes.
  * - Outputs, *report included, must not overlap other arguments.
- * - A refused call, whose status is not LASSO_DONE, writes only *report and leaves its interner as it was. Only
- *   the calls whose names begin with lasso_intern_batch keep the texts before the refused one, and write their
- *   codes. A call that is done writes to the front of each output what is said below, and leaves the rest of it
- *   as it was.
- * - Calls may run in several threads at once. Threads may share what all of them only read, as two that decode
- *   from one dictionary. What a call writes, nothing else reads or writes meanwhile.
+ * - A refused call, whose status is not LASSO_DONE, writes only *report and leaves its interner as it was. Only the
+ *   calls whose names begin with lasso_intern_batch keep the texts before the refused one, and write their codes. A
+ *   call that returns LASSO_DONE writes what is said below to the front of each output, and leaves the rest of it as
+ *   it was.
+ * - Calls may run in several threads at once. Threads may share what all of them only read, as a dictionary from
+ *   which two decode. While a call runs, nothing else reads or writes what it writes.
  * - No call is made in a signal handler, or in the forked child of a process with threads.
  *
  * lasso_encode and lasso_encode_nulls take memory from malloc and realloc, and free it before they return.
@@ -33,8 +33,8 @@
  * free have to be one allocator, whose blocks are aligned to each power of two up to 16 that divides their size,
  * as to 8 for 24 bytes.
  *
- * A column with nulls has a bitmap too, as Arrow has it: bit i % 8 of byte i / 8, counted from the least, is 1 if
- * row i is present and 0 if it is a null. The calls with _nulls in their names take or write one. A null has a
+ * A column with nulls also has Arrow's bitmap: bit i % 8 of byte i / 8, counted from the least significant one, is 1
+ * if row i is present and 0 if it is a null. The calls with _nulls in their names take or write one. A null has a
  * code that the caller chooses, mostly LASSO_NULL, and no text is interned for it.
  *
  * Texts are hashed with a fixed seed, so whoever chooses the texts can make them collide. Each search then takes
@@ -48,10 +48,10 @@
  * "make c" builds it, and prints how to link a program without installing it. The header is for C from C99 on and
  * for C++.
  *
- * What a call writes and returns is proved, and what it leaves of its interner. Not proved are that
- * LASSO_NO_MEMORY comes only if malloc or realloc returned none; of lasso_capacity more than that it is at least
- * lasso_len; how long a lent text lasts, past the next call; that an interner hashes by the seed or keys that it
- * was made with; what the caller owes; and what is said here of threads and of memory.
+ * What a call writes, returns and leaves in its interner is proved. Not proved: that LASSO_NO_MEMORY comes only if
+ * malloc or realloc returned none; more of lasso_capacity than that it is at least lasso_len; how long a lent text
+ * lasts past the next call; that an interner hashes by the seed or keys that it was made with; what the caller has to
+ * keep to; and what is said here of threads and of memory.
  */
 #ifndef LASSO_H
 #define LASSO_H
@@ -90,8 +90,8 @@ enum lasso_status {
  * LASSO_CODES_TOO_SHORT to
  * LASSO_BYTES_TOO_SHORT:   texts and bytes are the sizes that the layout needs; at is 0.
  * LASSO_OFFSETS_FALL to
- * LASSO_TOO_MANY_BYTES:    at is the number of the first text or code that is wrong, from 0, and 0 if the first offset
- *                          is past the bytes; texts and bytes are 0.
+ * LASSO_TOO_MANY_BYTES:    at is the number of the first wrong text or code, from 0, and 0 if the first offset is past
+ *                          the bytes; texts and bytes are 0.
  * LASSO_BITMAP_TOO_SHORT:  at is the number of the first row without a bit, from 0; texts and bytes are 0.
  * LASSO_NO_MEMORY,
  * LASSO_NO_INTERNER:       all three are 0.
@@ -117,13 +117,13 @@ struct lasso_report {
  *                     dictionary_offsets_length counts offsets: distinct texts and one more.
  * report              written: one struct.
  *
- * Outputs may be longer. They always have room with dictionary_bytes_length = bytes_length, and with
+ * Outputs may be longer. Always enough are dictionary_bytes_length = bytes_length and
  * dictionary_offsets_length = offsets_length, but at least 1.
  *
  * Returns the first that applies: LASSO_OFFSET_PAST_BYTES at 0 if the first offset is past the bytes;
  * LASSO_OFFSETS_FALL, LASSO_OFFSET_PAST_BYTES or LASSO_NOT_UTF8 of the first wrong text (the first of these if
  * several apply to it); LASSO_CODES_TOO_SHORT, LASSO_OFFSETS_TOO_SHORT, LASSO_BYTES_TOO_SHORT; else LASSO_DONE. A
- * negative offset is past the bytes, and never falls. LASSO_NO_MEMORY may come in place of each of them.
+ * negative offset counts as past the bytes, and never as falling. LASSO_NO_MEMORY may come in place of each of them.
  */
 uint32_t lasso_encode(const uint8_t *bytes, size_t bytes_length,
                       const int32_t *offsets, size_t offsets_length,
@@ -139,10 +139,10 @@ uint32_t lasso_encode(const uint8_t *bytes, size_t bytes_length,
  * Encodes a column with nulls: as lasso_encode, but a null has the code null, and the dictionary has no text for
  * it. If null is LASSO_NULL, no text has its code; if it is another number, a text may have it too.
  *
- * present             read: the bitmap. present_length counts bytes, at least one for every eight rows; the last
- *                     byte may have fewer. With 0 each row is present. Bits past the last row may be any.
+ * present             read: the bitmap. present_length counts bytes, at least one for every eight rows; the last byte
+ *                     may have fewer. With 0 each row is present. Bits past the last row may have any value.
  *
- * The bytes between the offsets of a null may be any; its offsets are checked as all others.
+ * The bytes between the offsets of a null may have any value; its offsets are checked as all others.
  *
  * Returns LASSO_BITMAP_TOO_SHORT if a row has no bit, else as lasso_encode. LASSO_NO_MEMORY may come in place of
  * each.
@@ -205,10 +205,10 @@ uint32_t lasso_decode_nulls(const uint8_t *dictionary_bytes, size_t dictionary_b
                             struct lasso_report *report);
 
 /*
- * A handle: memory of the caller's that holds an interner or none. Begin with LASSO_NONE, which is all zero. Only
- * the calls below may write to it. One call at a time may use it, even to read, in any thread; between calls of two
- * threads there has to be a lock, or a thread's start or join. It may be moved as memcpy moves it, if the copy that
- * is left is never passed to a call again.
+ * A handle: memory of the caller that holds an interner or none. Begin with LASSO_NONE, which is all zero. Only the
+ * calls below may write to it. One call at a time may use it, even to read, in any thread; a lock, or a thread's
+ * start or join, has to order the calls of two threads. memcpy may move it if the old copy is never passed to a call
+ * again.
  */
 struct lasso {
     void *at;
@@ -229,9 +229,9 @@ struct lasso {
 uint32_t lasso_new(struct lasso *lasso, size_t limit);
 
 /*
- * lasso_new for a caller that knows how much is to come: the first bucket has bytes bytes, but at least one, and
- * the list of texts does not grow before it has texts texts. lasso_new has 4,096 bytes and 50 texts. No call makes
- * room for more texts later, but for the growth that interning them needs.
+ * lasso_new for a caller that knows how much is to come: the first bucket has bytes bytes, but at least one, and the
+ * list of texts does not grow before it has texts texts. lasso_new has 4,096 bytes and 50 texts. Later the list grows
+ * only as texts are interned: no call makes room for more ahead.
  *
  * Returns LASSO_DONE, or LASSO_NO_MEMORY, and the handle holds what it held.
  */
@@ -252,10 +252,10 @@ uint32_t lasso_new_sized_keyed(struct lasso *lasso, size_t texts, size_t bytes, 
                                uint64_t key0, uint64_t key1);
 
 /*
- * Makes an interner with the same texts and the same codes in another handle, clone, which is independent of the
- * first. The texts' bytes are copied into one bucket of just their size (4,096 bytes if they have none). The limit
- * is that of *lasso, or the size of that bucket if it is greater; the seed or the keys are the same. An interner
- * that clone holds is freed once the new one is made.
+ * Makes an independent interner with the same texts and the same codes in another handle, clone. The texts' bytes are
+ * copied into one bucket of just their size (4,096 bytes if they have none). The limit is that of *lasso, or the size
+ * of that bucket if it is greater; the seed or the keys are the same. An interner that clone holds is freed once the
+ * new one is made.
  *
  * lasso, clone        two different handles. *lasso is only read.
  *
@@ -336,8 +336,8 @@ uint32_t lasso_get_batch(struct lasso *lasso,
                          struct lasso_report *report);
 
 /*
- * Writes the text of a code, cut to text_length bytes, without an end mark. *whole is how many bytes the whole text
- * has.
+ * Writes the text of a code, cut to text_length bytes, without an end mark. *whole is the number of bytes of the
+ * whole text.
  *
  * Returns LASSO_NO_INTERNER, LASSO_NO_SUCH_CODE, else LASSO_DONE, also if the text is cut.
  */
@@ -392,8 +392,8 @@ struct lasso_text {
 uint32_t lasso_text(struct lasso *lasso, uint32_t code, struct lasso_text *text);
 
 /*
- * Lends the texts from a code on, in the order of their codes, as many as there are and have room. Returns how many
- * these are; 0 without an interner, and if no text has that code or a later one.
+ * Lends the texts from a code on, in the order of their codes: all of them, or as many as have room. Returns their
+ * number; 0 without an interner, and if no text has that code or a later one.
  *
  * texts               the caller's, written: a struct for each text. texts_length counts structs. Each is LASSO_NO_TEXT
  *                     before, or a text that still lasts.
@@ -401,8 +401,8 @@ uint32_t lasso_text(struct lasso *lasso, uint32_t code, struct lasso_text *text)
 size_t lasso_texts(struct lasso *lasso, size_t from, struct lasso_text *texts, size_t texts_length);
 
 /*
- * The calls below are those without _large, for arrays of large strings, whose offsets have 64 bits. They have the same
- * statuses and reports, and write the same; LASSO_TOO_MANY_BYTES means more than 2^63 - 1 bytes.
+ * The calls below do what those without _large do, for arrays of large strings, whose offsets have 64 bits. Statuses,
+ * reports and outputs are the same; LASSO_TOO_MANY_BYTES means more than 2^63 - 1 bytes.
  */
 uint32_t lasso_intern_batch_large(struct lasso *lasso,
                                   const uint8_t *bytes, size_t bytes_length,
@@ -461,8 +461,8 @@ uint32_t lasso_clear(struct lasso *lasso);
 void lasso_free(struct lasso *lasso);
 
 /*
- * Writes what a status means, in ASCII without an end mark, cut to text_length bytes. Returns how many bytes the whole
- * text has. Any number may be passed: one that is no status gives "not a status".
+ * Writes what a status means, in ASCII without an end mark, cut to text_length bytes. Returns the number of bytes of
+ * the whole text. A number that is no status gives "not a status".
  *
  * status              a status, or any other number.
  * text                written: as much of the meaning as fits. text_length counts bytes.

@@ -18,9 +18,9 @@ pub struct Sizes {
 /// the outputs need.
 #[derive(Clone, Copy)]
 pub enum CallError {
-    /// The text's end lies before its beginning.
+    /// The text's end is before its beginning.
     OffsetsFall(usize),
-    /// The text's end, or the first text's beginning, lies past the bytes or past the greatest offset.
+    /// The text's end, or the first text's beginning, is past the bytes or past the greatest offset.
     OffsetPastBytes(usize),
     /// The text's bytes are not UTF-8.
     NotUtf8(usize),
@@ -77,7 +77,7 @@ impl From<LassoError> for CallError {
 #[repr(C)]
 #[derive(Clone, Copy)]
 pub struct LassoReport {
-    /// How many texts were written, or have to fit where an output is too short; else 0.
+    /// How many texts were written, or have to fit if an output is too short; else 0.
     pub texts: usize,
     /// How many bytes they have.
     pub bytes: usize,

@@ -4,7 +4,7 @@
 pub const DONE: u32 = 0;
 /// An offset is below the one before it.
 pub const OFFSETS_FALL: u32 = 1;
-/// An offset lies past the bytes.
+/// An offset is past the bytes.
 pub const OFFSET_PAST_BYTES: u32 = 2;
 /// A text is not UTF-8.
 pub const NOT_UTF8: u32 = 3;

@@ -2,6 +2,10 @@
 //! as a column; and it decodes and merges columns.
 #![tactic(auto)]
 
+ghost use Rattle.std.specs.Prelude.{◌≡◌};
+ghost use Rattle.std.specs.Process.{exit_status};
+ghost use Rattle.lasso_codes.specs.Errors.{status_of};
+
 pub mod arguments;
 pub mod columns;
 pub mod counts;
@@ -87,13 +91,17 @@ fn run_program<R: AllocGlobal + Input + Print + Eprint + Clock + Threads + Sync>
 }
 
 // Prints why the arguments are refused.
-fn refuse<R: Eprint>(rt: &R, error: &ArgumentError<'_>) -> ExitCode {
+fn refuse<R: Eprint>(rt: &R, error: &ArgumentError<'_>) -> ExitCode
+    ensures { exit_status result ≡ 3 }
+{
     let _ = eprintln!(rt; "{error}");
     ExitCode::from(BAD_ARGUMENTS)
 }
 
 // Prints why the run ended, unless the reader of the output is gone.
-fn end<R: Eprint>(rt: &R, error: &RunError) -> ExitCode {
+fn end<R: Eprint>(rt: &R, error: &RunError) -> ExitCode
+    ensures { exit_status result ≡ status_of error.now }
+{
     if *error != RunError::ReaderGone {
         let _ = eprintln!(rt; "{error}");
     }

@@ -129,7 +129,7 @@ fn new_rodeo(alloc: Global) -> LassoResult<SpurRodeo>
     Ok(rodeo)
 }
 
-/// Encodes the lines of each block beside the interner, by a thread for each where one can be started. A block
+/// Encodes the lines of each block beside the interner, by a thread for each if one can be started. A block
 /// whose worker runs out of memory or of codes is `None`.
 ///
 /// # Errors

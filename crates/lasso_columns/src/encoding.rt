@@ -21,7 +21,7 @@ use std::hash::BuildHasher;
 ///
 /// Stops at the first line that is refused or is not UTF-8. The error has the line's number, counted from 1.
 /// The lines before it are interned and have their codes, and no later line is read. Out of memory
-/// (`FailedAllocation`) occurs only where it may occur in `encode`.
+/// (`FailedAllocation`) occurs only if it may occur in `encode`.
 ///
 /// ```rust
 /// let mut rodeo: SpurRodeo = Rodeo::default(rt.alloc())?;

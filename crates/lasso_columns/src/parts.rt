@@ -20,8 +20,8 @@ const LONGEST_SAMPLE: usize = 65_536;
 const CODES_A_THREAD: usize = 65_536;
 
 /// Does what `encode` does, with up to `workers` threads, and returns what `encode` returns: the same codes
-/// and the same list, whatever the number of threads. Each thread encodes a part of the texts with an
-/// interner of its own. Then the caller interns the distinct texts of each part, in the order of the parts,
+/// and the same list, whatever the number of threads. Each thread encodes a part of the texts with its
+/// own interner. Then the caller interns the distinct texts of each part, in the order of the parts,
 /// and the codes are rewritten.
 ///
 /// It pays when most texts repeat within their part. A part whose first texts are mostly new gives up, and
@@ -30,7 +30,7 @@ const CODES_A_THREAD: usize = 65_536;
 /// For an interner that other threads use meanwhile, there is `encode_shared`.
 ///
 /// Stops at the first text that is refused, as `encode` does: the texts before it are interned and have
-/// their codes. Out of memory (`FailedAllocation`) occurs only where it may occur in `encode`.
+/// their codes. Out of memory (`FailedAllocation`) occurs only if it may occur in `encode`.
 ///
 /// ```rust
 /// let mut rodeo: SpurRodeo = Rodeo::default(rt.alloc())?;

@@ -25,7 +25,7 @@ impl RandomSource for GivenKeys {
     }
 }
 
-/// Makes hashers of SipHash-1-3 with these keys. Equal keys give equal hashes in every run; where the keys need not
+/// Makes hashers of SipHash-1-3 with these keys. Equal keys give equal hashes in every run; if the keys need not
 /// be known, `RandomState::new(&rt)` takes them from the system.
 ///
 /// ```rust

@@ -37,7 +37,7 @@ pub enum Instruction {
 pub enum CompileError {
     /// A name of which no variable is in scope.
     NotInScope,
-    /// A scope is closed where only the outermost is open.
+    /// A scope is closed, but only the outermost is open.
     NothingToClose,
     /// The interner refused a name.
     Refused(LassoError),

@@ -1,4 +1,4 @@
-//! Readers and writers of bytes. Their contracts say what happens to the bytes, where these are known, and
+//! Readers and writers of bytes. Their contracts say what happens to the bytes, if these are known, and
 //! count the failed calls.
 ghost use Rattle.std.specs.Prelude.{◌≡◌, ℕ, ◌+◌, ◌<◌, ◌≤◌, ◌↔◌, ◌++◌, ◌∷◌, List, [], false, IsTrue, Option, Some, length, drop, take, is_ok, IfOk, OnOk, MatchResult, vec_capacity};
 ghost use Rattle.lasso_lines.specs.Stream.{Begins, Grows, OnlyGrows, Stays, Loses, ComeFirst, Ended, written, failed_calls};

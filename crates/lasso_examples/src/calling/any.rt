@@ -5,8 +5,8 @@ use lasso::{Interner, Key, LassoResult, Rodeo, Spur, SpurRodeo};
 use std::sync::Wait;
 use std::test::Fail;
 
-/// Whether the texts are equal, by their keys: where the interner has a list of its own, the keys are equal
-/// exactly where the texts are.
+/// Whether the texts are equal, by their keys: if the interner has its own list, the keys are equal exactly
+/// if the texts are.
 pub fn have_one_key<K: Key, R: Wait, I: Interner<K>>(
     rt: &R,
     interner: &mut I,
