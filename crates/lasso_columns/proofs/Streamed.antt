@@ -9,8 +9,10 @@ use Rattle.lasso_single.specs.Interner.{InternerView}
 use Rattle.lasso_input.specs.Lines.{lines_of}
 use Rattle.lasso_columns.specs.Blocks.{StopsInRound}
 use Rattle.lasso_columns.specs.Rows.{EncodesRows, StopsAtRow, IsRowFault}
-use Rattle.lasso_columns.specs.Streams.{AreUnread, Follow, ReadsBlocks, lines_in}
+use Rattle.lasso_columns.specs.Streams.{AreUnread, EndsRound, Follow, ReadsBlocks, StopsInStream, lines_in}
 use Rattle.lasso_columns.specs.declared.faults.LineError.{LineError}
+use Rattle.lasso_columns.specs.declared.stream.StreamError.{StreamError}
+use Rattle.lasso_columns.specs.declared.stream.StreamError.TheVariants.{Line, Read}
 use Rattle.lasso_columns.proofs.EncodedRows.{rows_begin, rows_join, rows_left, rows_wider}
 use Rattle.lasso_columns.proofs.PutBlocks.{block_more}
 use Rattle.lasso_columns.proofs.StreamLines.{follow_unread}
@@ -70,3 +72,8 @@ module _ {A E : Type 0} (null : Option Text) (old : InternerView) (bytes before 
     stream_stops after start error stops is =
         let rows = rows_join null old mid new (lines_of bytes) (lines_in blocks ++ so_far.0) ((stops.0 ∷ stops.1) ++ so_far.0) before middle after.items so_far.1 (rows_wider null mid new (lines_in blocks) (stops.0 ∷ stops.1) so_far.0 middle after.items stops.2) in
         (stops.0, stops.1 ++ so_far.0, rows, subst (λ n. IsRowFault null new after stops.0 (length after.items - n + 1) error) is stops.3)
+
+    -- the round was the last of the call
+    pub stream_last : {B : Type 0} (after : Vec ℕ B) (start : ℕ) (error : StreamError) → EndsRound null mid (lines_in blocks) middle new after start error → start ≡ length before → StopsInStream null old (lines_of bytes) before new after left error
+    stream_last after start (Line error) ends is = stream_stops after start error ends is
+    stream_last after start (Read error) ends is = stream_breaks after.items left ends refl

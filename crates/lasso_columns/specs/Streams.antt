@@ -3,7 +3,7 @@ use Rattle.std.specs.Prelude.{ℕ, ◌≡◌, Bool, true, false, List, [], ◌�
 use Rattle.lasso_parts.specs.Texts.{Text}
 use Rattle.lasso_single.specs.Interner.{InternerView}
 use Rattle.lasso_input.specs.Lines.{lines_of, NoFeed}
-use Rattle.lasso_columns.specs.Blocks.{IsBlockFor}
+use Rattle.lasso_columns.specs.Blocks.{IsBlockFor, StopsInRound}
 use Rattle.lasso_columns.specs.Rows.{EncodesRows, StopsAtRow}
 use Rattle.lasso_columns.specs.declared.blocks.Block.{Block}
 use Rattle.lasso_columns.specs.declared.stream.StreamError.{StreamError}
@@ -54,3 +54,8 @@ AreBlocksFor {A} null list blocks made =
 abbrev pub StopsInStream : {A : Type 0} → Option Text → InternerView → List Text → List ℕ → InternerView → Vec ℕ A → Option (List ℕ) → StreamError → Type 0
 StopsInStream null old lines before new after left (Line error) = StopsAtRow null old lines before new after error
 StopsInStream null old lines before new after left (Read error) = (rest : List Text) × EncodesRows null old lines rest before new after.items × AreUnread left rest
+
+-- how the last round of a call ends: a line of its blocks has this fault, or all of their lines were encoded
+abbrev pub EndsRound : {A : Type 0} → Option Text → InternerView → List Text → List ℕ → InternerView → Vec ℕ A → ℕ → StreamError → Type 0
+EndsRound null old lines before new after start (Line error) = StopsInRound null old lines before new after start error
+EndsRound null old lines before new after start (Read error) = EncodesRows null old lines [] before new after.items

@@ -1,7 +1,7 @@
 //! Encodes the lines of a stream by rounds over blocks of it.
 ghost use Rattle.std.specs.Prelude.{◌≡◌, ◌<◌, ℕ, List, [], Some, Ok, true, OnOk, IfErr, length};
 ghost use Rattle.lasso_columns.specs.Rows.{word_of, EncodesRows};
-ghost use Rattle.lasso_columns.specs.Streams.{AreBlocksFor, ReadsBlocks, StopsInStream};
+ghost use Rattle.lasso_columns.specs.Streams.{AreBlocksFor, EndsRound, ReadsBlocks, StopsInStream, lines_in};
 ghost use Rattle.lasso_input.specs.Lines.{lines_of};
 
 use crate::blocks::{Block, encode_blocks};
@@ -120,9 +120,25 @@ pub fn encode_stream<R: AllocGlobal + Threads + Sync, I: BufRead>(
         plan = plan.after(new_texts, entries.len().saturating_sub(lines));
         now = next;
     }
-    match put_blocks(rt.alloc(), rodeo, &now.blocks, &[], null, entries, start) {
-        Ok(()) => Err(StreamError::Read(io::Error::from(ErrorKind::TimedOut))),
-        Err(error) => Err(StreamError::Line(error)),
+    let last = put_last(rt.alloc(), rodeo, &now.blocks, null, entries, start);
+    Err(last)
+}
+
+// Puts the blocks on this thread, after as many rounds as a call takes. Returns the error of a line, or else
+// that no more is read.
+fn put_last(
+    alloc: Global,
+    rodeo: &mut SpurRodeo,
+    blocks: &[Vec<u8>],
+    null: Option<&[u8]>,
+    entries: &mut Vec<u32>,
+    start: usize,
+) -> StreamError
+    ensures { EndsRound (word_of null.entry) rodeo.old (lines_in blocks.now) entries.old.items rodeo.new entries.new start result }
+{
+    match put_blocks(alloc, rodeo, blocks, &[], null, entries, start) {
+        Ok(()) => StreamError::Read(io::Error::from(ErrorKind::TimedOut)),
+        Err(error) => StreamError::Line(error),
     }
 }
 

@@ -2,9 +2,9 @@ use Rattle.std.proofs.Common.{◌≡◌, [], true, false, Ok, refl, sym, subst}
 use Rattle.lasso_input.specs.Lines.{lines_of}
 use Rattle.lasso_columns.specs.Blocks.{StopsInRound}
 use Rattle.lasso_columns.specs.Rows.{word_of, EncodesRows}
-use Rattle.lasso_columns.specs.Streams.{AreBlocksFor, lines_in}
+use Rattle.lasso_columns.specs.Streams.{AreBlocksFor, EndsRound, lines_in}
 use Rattle.lasso_columns.proofs.EncodedRows.{rows_begin}
-use Rattle.lasso_columns.proofs.Streamed.{err_goes, ok_is, stream_breaks, stream_ends, stream_next, stream_stops, stream_used}
+use Rattle.lasso_columns.proofs.Streamed.{err_goes, ok_is, stream_breaks, stream_ends, stream_last, stream_next, stream_stops, stream_used}
 use Rattle.lasso_columns.proofs.stream.encode_stream.Goals as goal
 
 pub returns-in-Err-clause-stops : goal.returns-in-Err-clause-stops
@@ -58,6 +58,16 @@ returns-in-Err-more-clause-stops g c = λ bytes known.
     let rows = subst (λ bs. EncodesRows null at.rodeo (lines_in bs) [] at.entries.items new after) c.deref.ensures.value c.in_default.ensures.rows in
     let kept = c.encode_and_read-made.ensures.kept (err_goes at.now.more c.in-Err-more.error c.in-Err-more.is) in
     stream_breaks null c.args.rodeo.now bytes c.args.entries.now.items at.rodeo new at.entries.items at.now.blocks.items at.now.more (g.I.Read.remaining at.input) (at.invariant.stream bytes known) after (g.I.Read.remaining c.encode_and_read-made.new.input) rows kept
+
+pub returns-clause-stops : goal.returns-clause-stops
+returns-clause-stops g c = λ bytes known.
+    let null = word_of c.args.null in
+    let at = c.loop in
+    let new = c.put_last-last.new.rodeo in
+    let after = c.put_last-last.new.entries in
+    let ends =
+    subst (λ bs. EndsRound null at.rodeo (lines_in bs) at.entries.items new after c.len-start.result c.put_last-last.result) c.deref.ensures.value c.put_last-last.ensures in
+    stream_last null c.args.rodeo.now bytes c.args.entries.now.items at.rodeo new at.entries.items at.now.blocks.items at.now.more (g.I.Read.remaining at.input) (at.invariant.stream bytes known) after c.len-start.result c.put_last-last.result ends at.invariant.start
 
 pub loop-preserved : goal.loop-preserved
 loop-preserved g c =
