@@ -4,11 +4,12 @@
 -- of all lines, and the entries are theirs. Else the next line is at fault, or it was not read as a whole: what
 -- follows are the lines of the bytes that are left. Without a null each entry is a code, so the counts of the
 -- codes are those of the lines.
-use Rattle.std.proofs.Common.{ℕ, zero, suc, ◌≡◌, ◌+◌, ◌-◌, ◌<◌, ◌≤◌, ◌⊎◌, inl, inr, Bool, true, false, not, List, [], ◌∷◌, ◌++◌, length, map, take, Option, Some, None, Result, Ok, Err, OnOk, IfErr, refl, sym, ap, subst, ◌∙◌, arith, length-append}
+use Rattle.std.proofs.Common.{ℕ, zero, suc, ◌≡◌, ◌+◌, ◌-◌, ◌<◌, ◌≤◌, ◌⊎◌, inl, inr, Bool, true, false, not, List, [], ◌∷◌, ◌++◌, length, map, take, Option, Some, None, Result, Ok, Err, OnOk, IfErr, refl, sym, ap, subst, ◌∙◌, arith, append-nil, length-append, sum}
 use Rattle.std.specs.Prelude.{All, Vec, IfSome, IsSomeAnd, slice_get, replicate}
 use Rattle.std.specs.List.{filter}
 use Rattle.std.specs.Str.{IsUtf8}
-use Rattle.std.proofs.Math.Seq.{take-append_seam}
+use Rattle.std.proofs.Math.Seq.{take-append_seam, take-nil}
+use Rattle.std.proofs.lemmas.List.{length-replicate}
 use Rattle.lasso_parts.specs.Texts.{Text, position_of}
 use Rattle.lasso_parts.specs.declared.util.LassoError.{LassoError}
 use Rattle.lasso_parts.specs.declared.util.LassoErrorKind.TheVariants.{FailedAllocation}
@@ -19,6 +20,7 @@ use Rattle.lasso_encode.specs.Codes.{AreCodes}
 use Rattle.lasso_encode.specs.Encoding.{spur_at}
 use Rattle.lasso_columns.specs.Faults.{IsFaultOf}
 use Rattle.lasso_columns.specs.Rows.{is_null, texts_of, AreEntries, EncodesRows, IsRefusedRow, IsRowFault, StopsAtRow}
+use Rattle.lasso_columns.specs.Streams.{AreUnread}
 use Rattle.lasso_columns.specs.declared.faults.LineError.{LineError}
 use Rattle.lasso_columns.specs.declared.faults.LineError.TheVariants.{Refused, NotText}
 use Rattle.lasso_counts.specs.Adding.{AddsCounts}
@@ -140,6 +142,16 @@ pub read_stops : {A : Type 0} (null : Option Text) (old now : InternerView) (lin
 read_stops null old now lines rest before after left number error rows is at failed =
     inr ((left, subst (λ (ls : List Text). EncodesRows null old lines ls before now after.items) is rows), subst (λ n. IsReadError n error) at failed)
 
+-- a stream of the library stopped so
+pub unread_stops : {A : Type 0} (null : Option Text) (old now : InternerView) (lines : List Text) (before : List ℕ) (after : Vec ℕ A) (left : Option (List ℕ)) (number : ℕ) (error : RunError) → (rest : List Text) × EncodesRows null old lines rest before now after.items × AreUnread left rest → number ≡ length after.items + 1 → IsReadError number error → StopsEncoding null old lines before now after error
+unread_stops null old now lines before after left number error stops at failed =
+    let unread : AreUnread left stops.0 = stops.2 in
+    read_stops null old now lines stops.0 before after (unread.0 ++ unread.1) number error stops.1 unread.4 at failed
+
+-- a line of a stream was refused or is not UTF-8
+pub line_stops : {A : Type 0} (null : Option Text) (old now : InternerView) (lines : List Text) (before : List ℕ) (after : Vec ℕ A) (fault : LineError) → StopsAtRow null old lines before now after fault → StopsEncoding null old lines before now after (Line fault)
+line_stops null old now lines before after fault stops = inl (fault, refl, stops)
+
 -- ---- counts
 
 texts_none : (lines : List Text) → texts_of None lines ≡ lines
@@ -155,21 +167,30 @@ entries_codes list (l ∷ ls) (n ∷ ns) are =
     let others : map (position_of list) ls ≡ map Some ns = entries_codes list ls ns are.1 in
     cc
 
+-- counts that were resized from none are zeros
+pub zeros_made : (n len : ℕ) (was zeros : List ℕ) (texts : List Text) → was ≡ [] → len ≡ length was → n ≡ length texts → zeros ≡ take n was ++ replicate (n - len) 0 → zeros ≡ replicate (length texts) 0
+zeros_made n len was zeros texts none is many made =
+    let empty : len ≡ 0 = is ∙ ap length none in
+    let all : n - len ≡ n = omega (arith, empty) in
+    made ∙ ap (λ (xs : List ℕ). take n xs ++ replicate (n - len) 0) none
+    ∙ ap (λ (xs : List ℕ). xs ++ replicate (n - len) 0) (take-nil n) ∙ ap (λ (m : ℕ). replicate m 0) (all ∙ many)
+
+none_counted : (texts : List Text) (zeros : List ℕ) → zeros ≡ replicate (length texts) 0 → AddsCounts [] [] [] texts zeros
+none_counted texts zeros zero = padded [] texts [] texts (length texts) zeros refl refl (omega arith) zero
+
+pub zeros_sum : (texts : List Text) (zeros : List ℕ) → zeros ≡ replicate (length texts) 0 → sum zeros ≡ 0
+zeros_sum texts zeros zero = let none = none_counted texts zeros zero in omega (arith, none.total)
+
 -- all lines were encoded, and their codes counted
-pub rows_counted : (lines : List Text) (old now : InternerView) (before codes was zeros counts : List ℕ) → before ≡ [] → old.texts ≡ [] → was ≡ [] → EncodesRows None old lines [] before now codes → zeros ≡ was ++ replicate (length now.texts) 0 → ((texts : List Text) → AreCodes now.texts texts codes → AddsCounts texts now.texts zeros now.texts counts) → All IsUtf8 lines × AreCounts lines now.texts counts
-rows_counted lines old now before codes was zeros counts none empty fresh rows zero tally =
-    let all : lines ≡ rows.done = rows.split ∙ nil_last rows.done in
-    let are = entries_codes now.texts rows.done codes (entries_are_all None old now lines [] before codes none rows) in
-    let zero' : zeros ≡ [] ++ replicate (length now.texts) 0 = zero ∙ ap (λ (cs : List ℕ). cs ++ replicate (length now.texts) 0) fresh in
-    let none_yet = padded [] now.texts [] now.texts (length now.texts) zeros refl refl (omega arith) zero' in
-    let adds : AddsCounts rows.done [] [] now.texts counts = adds_join [] rows.done [] now.texts now.texts [] zeros counts none_yet (tally rows.done are) in
+pub rows_counted : (lines : List Text) (old now : InternerView) (before codes given zeros counts : List ℕ) → before ≡ [] → old.texts ≡ [] → given ≡ codes → EncodesRows None old lines [] before now codes → zeros ≡ replicate (length now.texts) 0 → ((list texts : List Text) → length zeros ≡ length list → AreCodes list texts given → AddsCounts texts list zeros list counts) → All IsUtf8 lines × AreCounts lines now.texts counts
+rows_counted lines old now before codes given zeros counts none empty same rows zero tally =
+    let all : lines ≡ rows.done = rows.split ∙ append-nil rows.done in
+    let are = subst (λ (cs : List ℕ). AreCodes now.texts rows.done cs) (sym same) (entries_codes now.texts rows.done codes (entries_are_all None old now lines [] before codes none rows)) in
+    let many : length zeros ≡ length now.texts = ap length zero ∙ length-replicate (length now.texts) 0 in
+    let adds : AddsCounts rows.done [] [] now.texts counts = adds_join [] rows.done [] now.texts now.texts [] zeros counts (none_counted now.texts zeros zero) (tally now.texts rows.done many are) in
     let list = subst (λ (ts : List Text). extend spur_at old ts accepted now) (texts_none rows.done) rows.list in
     let counted = all_are old now rows.done [] counts empty refl list (subst (λ (ts : List Text). AddsCounts rows.done ts [] now.texts counts) (sym empty) adds) in
     (subst (λ (ls : List Text). All IsUtf8 ls) (sym all) rows.texts, subst (λ (ls : List Text). AreCounts ls now.texts counts) (sym all) counted)
-  where
-    nil_last : (ls : List Text) → ls ++ [] ≡ ls
-    nil_last [] = refl
-    nil_last (l ∷ ls) = ap (λ (ts : List Text). l ∷ ts) (nil_last ls)
 
 pub rows_listed : (input : List ℕ) (old now : InternerView) (before codes : List ℕ) → before ≡ [] → EncodesRows None old (lines_of input) [] before now codes → extend spur_at old (lines_of input) accepted now
 rows_listed input old now before codes none rows =

@@ -223,9 +223,9 @@ fn count_stream<H: AllocGlobal + Threads + Sync, R: Read + Drop>(
 {
     let mut codes = Vec::new(rt.alloc());
     input.encode_stream(rt, rodeo, &mut codes, None, workers)?;
-    if counts.resize(rodeo.len(), 0).is_err() {
+    let Ok(()) = counts.resize(rodeo.len(), 0) else {
         return Err(RunError::no_memory(0));
-    }
+    };
     count_codes(&codes, counts);
     Ok(())
 }

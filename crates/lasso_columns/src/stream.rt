@@ -120,7 +120,7 @@ pub fn encode_stream<R: AllocGlobal + Threads + Sync, I: BufRead>(
         plan = plan.after(new_texts, entries.len().saturating_sub(lines));
         now = next;
     }
-    let last = put_last(rt.alloc(), rodeo, &now.blocks, null, entries, start);
+    let last = put_last(rt.alloc(), rodeo, &now, null, entries, start);
     Err(last)
 }
 
@@ -129,14 +129,14 @@ pub fn encode_stream<R: AllocGlobal + Threads + Sync, I: BufRead>(
 fn put_last(
     alloc: Global,
     rodeo: &mut SpurRodeo,
-    blocks: &[Vec<u8>],
+    now: &Blocks,
     null: Option<&[u8]>,
     entries: &mut Vec<u32>,
     start: usize,
 ) -> StreamError
-    ensures { EndsRound (word_of null.entry) rodeo.old (lines_in blocks.now) entries.old.items rodeo.new entries.new start result }
+    ensures { EndsRound (word_of null.entry) rodeo.old (lines_in now.now.blocks.items) entries.old.items rodeo.new entries.new start result }
 {
-    match put_blocks(alloc, rodeo, blocks, &[], null, entries, start) {
+    match put_blocks(alloc, rodeo, &now.blocks, &[], null, entries, start) {
         Ok(()) => StreamError::Read(io::Error::from(ErrorKind::TimedOut)),
         Err(error) => StreamError::Line(error),
     }

@@ -2,7 +2,7 @@ use Rattle.std.proofs.Common.{◌≡◌, [], true, false, Ok, refl, sym, subst}
 use Rattle.lasso_input.specs.Lines.{lines_of}
 use Rattle.lasso_columns.specs.Blocks.{StopsInRound}
 use Rattle.lasso_columns.specs.Rows.{word_of, EncodesRows}
-use Rattle.lasso_columns.specs.Streams.{AreBlocksFor, EndsRound, lines_in}
+use Rattle.lasso_columns.specs.Streams.{AreBlocksFor, lines_in}
 use Rattle.lasso_columns.proofs.EncodedRows.{rows_begin}
 use Rattle.lasso_columns.proofs.Streamed.{err_goes, ok_is, stream_breaks, stream_ends, stream_last, stream_next, stream_stops, stream_used}
 use Rattle.lasso_columns.proofs.stream.encode_stream.Goals as goal
@@ -65,9 +65,7 @@ returns-clause-stops g c = λ bytes known.
     let at = c.loop in
     let new = c.put_last-last.new.rodeo in
     let after = c.put_last-last.new.entries in
-    let ends =
-    subst (λ bs. EndsRound null at.rodeo (lines_in bs) at.entries.items new after c.len-start.result c.put_last-last.result) c.deref.ensures.value c.put_last-last.ensures in
-    stream_last null c.args.rodeo.now bytes c.args.entries.now.items at.rodeo new at.entries.items at.now.blocks.items at.now.more (g.I.Read.remaining at.input) (at.invariant.stream bytes known) after c.len-start.result c.put_last-last.result ends at.invariant.start
+    stream_last null c.args.rodeo.now bytes c.args.entries.now.items at.rodeo new at.entries.items at.now.blocks.items at.now.more (g.I.Read.remaining at.input) (at.invariant.stream bytes known) after c.len-start.result c.put_last-last.result c.put_last-last.ensures at.invariant.start
 
 pub loop-preserved : goal.loop-preserved
 loop-preserved g c =
