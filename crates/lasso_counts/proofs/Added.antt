@@ -5,7 +5,8 @@
 -- which changes the count of none. Then the counts of a part are added one after another: the counts of the
 -- first n texts of the part's list have grown, and the others have not.
 use Rattle.std.proofs.Common.{ℕ, zero, suc, ◌≡◌, ◌+◌, ◌-◌, ◌<◌, ◌≤◌, List, [], ◌∷◌, ◌++◌, length, take, drop, get_or, set, sum, map, Bor, Bool, true, false, cond, Option, Some, None, Result, Ok, Err, is_some, is_err, refl, sym, ap, subst, ◌∙◌, arith, append_assoc, add-zero, length-append}
-use Rattle.std.specs.Prelude.{option_and_then, slice_get, replicate}
+use Rattle.std.specs.Prelude.{option_and_then, slice_get, replicate, nat_lt, if◌then◌else◌}
+use Rattle.std.proofs.lemmas.Bool.Decides.{nat_tests}
 use Rattle.std.proofs.lemmas.Option.{slice_get_within}
 use Rattle.std.specs.Str.{bytes_eq}
 use Rattle.std.proofs.lemmas.List.{append-nil, length_push, length-set, get_or_append_left, take_more, take_all, length-take}
@@ -24,7 +25,7 @@ use Rattle.lasso_encode.specs.Codes.{AreCodes}
 use Rattle.lasso_encode.specs.Encoding.{spur_at}
 use Rattle.lasso_columns.specs.Parts.{new_texts}
 use Rattle.lasso_counts.specs.declared.error.CountError.{CountError}
-use Rattle.lasso_counts.specs.Counts.{AreCounts, count_of, count_at, counted}
+use Rattle.lasso_counts.specs.Counts.{AreCounts, count_of, count_at, counted, raised}
 use Rattle.lasso_counts.specs.Adding.{AddsAmounts, AddsCounts, counted_of}
 use Rattle.lasso_counts.proofs.Rest.{Grown}
 use Rattle.lasso_counts.proofs.Counted.{tells, tell_new, tell_old, position_absent, same_text, inside, last_one, counted_lengths, counted_total, place_of}
@@ -208,12 +209,33 @@ pub code_inside : (list texts : List Text) (codes old now : List ℕ) (i code : 
 code_inside list texts codes old now i code are so_far small is =
     inside list now (get_or texts i []) code so_far.lengths (code_here list texts codes i code [] are small is)
 
--- one count has grown by one
-pub one_more : (now : List ℕ) (code value : ℕ) → code < length now → value ≡ get_or now code 0 → sum (set now code (value + 1)) ≡ sum now + 1
-one_more now code value small value_is = let change = sum_by-set (λ x. x) now code (value + 1) 0 small in omega (arith, change, value_is)
+below : (a b : ℕ) → nat_lt a b ≡ true → a < b
+below a b e = grind (arith, nat_tests)
 
-pub one_fits : (now : List ℕ) (code value : ℕ) → code < length now → value ≡ get_or now code 0 → value ≤ sum now
-one_fits now code value small value_is = let one : get_or now code 0 ≤ sum now = get_or-le-sum_by (λ x. x) now code 0 small in omega (arith, one, value_is)
+not_below : (a b : ℕ) → nat_lt a b ≡ false → a < b → ⊥
+not_below a b e small = grind (arith, nat_tests)
+
+is_by : (c : Bool) (now : List ℕ) (code : ℕ) → ¬ (c ≡ false) → (if c then set now code (get_or now code 0 + 1) else now) ≡ set now code (get_or now code 0 + 1)
+is_by true now code some = refl
+is_by false now code some = absurd (some refl)
+
+-- the count of a code has grown by one
+pub raised_is : (now : List ℕ) (code : ℕ) → code < length now → raised now code ≡ set now code (get_or now code 0 + 1)
+raised_is now code small = is_by (nat_lt code (length now)) now code (λ e. not_below code (length now) e small)
+
+long_by : (c : Bool) (now : List ℕ) (code : ℕ) → length (if c then set now code (get_or now code 0 + 1) else now) ≡ length now
+long_by true now code = length-set now code (get_or now code 0 + 1)
+long_by false now code = refl
+
+pub raised_long : (now : List ℕ) (code : ℕ) → length (raised now code) ≡ length now
+raised_long now code = long_by (nat_lt code (length now)) now code
+
+sum_by_test : (c : Bool) (now : List ℕ) (code : ℕ) → (c ≡ true → code < length now) → sum (if c then set now code (get_or now code 0 + 1) else now) ≤ sum now + 1
+sum_by_test true now code inside = let change = sum_by-set (λ x. x) now code (get_or now code 0 + 1) 0 (inside refl) in omega (arith, change)
+sum_by_test false now code inside = omega arith
+
+pub raised_sum : (now : List ℕ) (code : ℕ) → sum (raised now code) ≤ sum now + 1
+raised_sum now code = sum_by_test (nat_lt code (length now)) now code (λ e. below code (length now) e)
 
 -- all codes were counted
 pub codes_all : (list texts : List Text) (codes old new : List ℕ) (i : ℕ) → AreCodes list texts codes → length codes ≤ i → AddsCounts (take i texts) list old list new → AddsCounts texts list old list new

@@ -39,6 +39,10 @@ abbrev pub counted : List ℕ → Option ℕ → List ℕ
 counted counts None = counts ++ 1 ∷ []
 counted counts (Some n) = slice_set counts n (slice_index counts n + 1)
 
+-- the counts with one more at a position, or as they are if it has none
+abbrev pub raised : List ℕ → ℕ → List ℕ
+raised counts n = if nat_lt n (length counts) then slice_set counts n (slice_index counts n + 1) else counts
+
 -- a ranked text in contracts: its count and its bytes
 abbrev pub pair_of : Reverse ℕ × Bor Text → ℕ × Text
 pair_of ranked = (ranked.0.0, ranked.1.now)

@@ -1,8 +1,9 @@
 //! Counts texts by their codes.
-ghost use Rattle.std.specs.Prelude.{◌≡◌, ◌+◌, ◌-◌, ◌^◌, ◌<◌, ◌≤◌, List, get_or, length, set, sum};
+ghost use Rattle.std.specs.Prelude.{◌≡◌, ◌+◌, ◌-◌, ◌^◌, ◌<◌, List, length, sum};
 ghost use Rattle.lasso_parts.specs.Texts.{Text};
 ghost use Rattle.lasso_encode.specs.Codes.{AreCodes};
 ghost use Rattle.lasso_counts.specs.Adding.{AddsCounts};
+ghost use Rattle.lasso_counts.specs.Counts.{raised};
 
 /// Adds one to the count of each code. A code without a count is passed over.
 ///
@@ -27,10 +28,8 @@ pub fn count_codes(codes: &[u32], counts: &mut Vec<u64>)
 // Adds one to the count of the code, if it has one.
 #[inline]
 fn count_code(counts: &mut Vec<u64>, code: usize)
-    requires fits { sum counts.old.items < 2 ^ 64 - 1 }
-    ensures items { code < length counts.old.items → counts.new.items ≡ set counts.old.items code (get_or counts.old.items code 0 + 1) }
-    ensures len { length counts.new.items ≡ length counts.old.items }
-    ensures total { sum counts.new.items ≤ sum counts.old.items + 1 }
+    requires { sum counts.old.items < 2 ^ 64 - 1 }
+    ensures { counts.new.items ≡ raised counts.old.items code }
 {
     if code < counts.len() {
         counts[code] += 1;
