@@ -13,7 +13,7 @@ use Rattle.lasso_columns.specs.declared.faults.LineError.TheVariants.{Refused}
 use Rattle.lasso_codes.specs.Decode.{text_or_past, null_line, line_at, decoded, Reads, AdmitsEach, fed_lines, DecodingError, WritesEntry, WritesLines, IsWhole, IsBegun, lines_before, DecodeEnd}
 use Rattle.lasso_codes.specs.Distinct.{with_feed}
 use Rattle.lasso_codes.specs.Errors.{IsReadError, IsWriteEnd}
-use Rattle.lasso_codes.specs.Limits.{Admits}
+use Rattle.lasso_codes.specs.Limits.{line_texts, Admits}
 use Rattle.lasso_codes.specs.Stages.{IsAhead, LinesAhead}
 use Rattle.lasso_codes.specs.Reading.{ReadItems, cut_entry, items_from, head_of, texts_at, on_head, HasNoHeader, IsTextError, TextsError, IsEntryError, IsColumnError}
 use Rattle.lasso_codes.specs.Streams.{Begins, WritesAll}
@@ -148,7 +148,7 @@ pub record ColumnsAhead (input : List ℕ) (limit : ℕ) (null : Option Text) (r
 
 module _ (input : List ℕ) (limit : ℕ) (null : Option Text) (rest : List ℕ) (column : ℕ) (part : List ℕ) (way : ColumnsAhead input limit null rest column part) where
   -- one column more
-  pub columns_push : (read : ReadItems Text) (left more : List ℕ) → Admits limit (texts_at rest) → decoded null rest ≡ read → read.1 ≡ Ok left → more ≡ fed_lines read.0 → ColumnsAhead input limit null left (column + 1) (part ++ more)
+  pub columns_push : (read : ReadItems Text) (left more : List ℕ) → Admits limit (line_texts (texts_at rest)) → decoded null rest ≡ read → read.1 ≡ Ok left → more ≡ fed_lines read.0 → ColumnsAhead input limit null left (column + 1) (part ++ more)
   columns_push read left more texts is ended written = record {
     count = suc way.count;
     lines = way.lines ++ (decoded null rest).0;
@@ -204,7 +204,7 @@ module _ (input : List ℕ) (limit : ℕ) (null : Option Text) (rest : List ℕ)
     text_fails (IsNull number) is = absurd is
     text_fails reason is =
         let read : decoded null rest ≡ ([], Err reason) = column_unread (line_at null) rest left header head reason is.0 in
-        let admitted = subst (λ (ts : List Text). Admits limit ts) (sym (before_error rest left header head reason)) is.1 in
+        let admitted = subst (λ (ts : List Text). Admits limit (line_texts ts)) (sym (before_error rest left header head reason)) is.1 in
         ((ap (λ (r : ReadItems Text). r.1) read, admitted), ap (λ (r : ReadItems Text). r.0) read)
 
     pub columns_texts_fail : (error : RunError) → TextsError limit header.distinct column left error → DecodeEnd input limit null part (Err error)
@@ -214,7 +214,7 @@ module _ (input : List ℕ) (limit : ℕ) (null : Option Text) (rest : List ℕ)
         subst (λ f. DecodeEnd input limit null part (Err f)) (sym is.1) (way.count, way.lines, rest, way.reads, way.admits, sym way.counted, told.0, no_lines is.0 told.1)
 
   -- not all lines of the column are written
-  some_lines : (read : ReadItems Text) (more : List ℕ) (m : ℕ) → Admits limit (texts_at rest) → decoded null rest ≡ read → more ≡ fed_lines (take m read.0) → IsWhole input limit null (part ++ more)
+  some_lines : (read : ReadItems Text) (more : List ℕ) (m : ℕ) → Admits limit (line_texts (texts_at rest)) → decoded null rest ≡ read → more ≡ fed_lines (take m read.0) → IsWhole input limit null (part ++ more)
   some_lines read more m texts is written = (
     way.count,
     way.lines,
@@ -238,7 +238,7 @@ module _ (input : List ℕ) (limit : ℕ) (null : Option Text) (rest : List ℕ)
   entry_lines (TextRefused number error) is = absurd is
   entry_lines error is = refl
 
-  pub columns_lines_fail : (read : ReadItems Text) (more : List ℕ) (error : RunError) → Admits limit (texts_at rest) → decoded null rest ≡ read → DecodingError read column more error → DecodeEnd input limit null (part ++ more) (Err error)
+  pub columns_lines_fail : (read : ReadItems Text) (more : List ℕ) (error : RunError) → Admits limit (line_texts (texts_at rest)) → decoded null rest ≡ read → DecodingError read column more error → DecodeEnd input limit null (part ++ more) (Err error)
   columns_lines_fail read more (Line error) texts is told = (told.0, some_lines read more told.1.0 texts is told.1.1)
   columns_lines_fail read more TooManyLines texts is told = absurd told
   columns_lines_fail read more ReadFailed texts is told = some_lines read more told.0 texts is told.1

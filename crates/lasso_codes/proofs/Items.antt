@@ -22,7 +22,7 @@ use Rattle.lasso_codes.specs.declared.error.ColumnError.TheVariants.{NoHeader, N
 use Rattle.lasso_codes.specs.declared.error.RunError.{RunError}
 use Rattle.lasso_codes.specs.declared.error.RunError.TheVariants.{Column}
 use Rattle.lasso_codes.specs.Errors.{IsReadError}
-use Rattle.lasso_codes.specs.Limits.{Admits}
+use Rattle.lasso_codes.specs.Limits.{line_texts, Admits}
 use Rattle.lasso_codes.specs.declared.reading.Header.{Header}
 use Rattle.lasso_codes.proofs.Feeds.{no_cut}
 
@@ -89,9 +89,9 @@ module _ (bytes left : List ℕ) (header : Header) (head : head_of bytes ≡ Som
   texts_read list rest is = ap head_list head ∙ ap read_list is
 
   -- its texts were taken by a new interner with the limit
-  pub admitted_at : (limit : ℕ) (made now : InternerView) (rest : List ℕ) → texts_from header.distinct [] left ≡ Ok (now.texts, rest) → made ≡ made_with 4096 limit → extend spur_at made now.texts (Ok tt) now → Admits limit (texts_at bytes)
-  admitted_at limit made now rest is new list =
-      subst (λ (ts : List Text). Admits limit ts) (sym (texts_read now.texts rest is)) (now, subst (λ (i : InternerView). extend spur_at i now.texts (Ok tt) now) new list)
+  pub admitted_at : (limit : ℕ) (made now : InternerView) (list : List Text) (rest : List ℕ) → texts_from header.distinct [] left ≡ Ok (list, rest) → now.texts ≡ line_texts list → made ≡ made_with 4096 limit → extend spur_at made now.texts (Ok tt) now → Admits limit (line_texts (texts_at bytes))
+  admitted_at limit made now list rest is texts_are new interned =
+      subst (λ (ts : List Text). Admits limit ts) (texts_are ∙ ap line_texts (sym (texts_read list rest is))) (now, subst (λ (i : InternerView). extend spur_at i now.texts (Ok tt) now) new interned)
 
   -- the texts before the error
   pub before_error : (error : ColumnError) → head_before (head_of bytes) error ≡ texts_before header.distinct left error
@@ -122,7 +122,7 @@ head_entry None error is = refl
 head_entry (Some head) error is = entry_before head.0.distinct head.1 error is
 
 -- the error of an entry is that of the column
-pub entry_error : {X : Type 0} (make : List Text → Makes X) (limit : ℕ) (bytes : List ℕ) (error : ColumnError) → IsEntryError error → Admits limit (texts_at bytes) → (read_column make bytes).1 ≡ Err error → IsColumnError make limit bytes error
+pub entry_error : {X : Type 0} (make : List Text → Makes X) (limit : ℕ) (bytes : List ℕ) (error : ColumnError) → IsEntryError error → Admits limit (line_texts (texts_at bytes)) → (read_column make bytes).1 ≡ Err error → IsColumnError make limit bytes error
 entry_error make limit bytes NoHeader is texts e = absurd is
 entry_error make limit bytes (TextRefused number error) is texts e = absurd is
-entry_error make limit bytes error is texts e = (e, subst (λ (ts : List Text). Admits limit ts) (sym (head_entry (head_of bytes) error is)) texts)
+entry_error make limit bytes error is texts e = (e, subst (λ (ts : List Text). Admits limit (line_texts ts)) (sym (head_entry (head_of bytes) error is)) texts)

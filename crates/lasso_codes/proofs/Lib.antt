@@ -5,6 +5,9 @@ pub mod Written
 pub mod Flat
 pub mod Blocks
 pub mod FewTexts
+pub mod LineTexts
+pub mod LineCounts
+pub mod LineCodes
 pub mod Taken
 pub mod DistinctLines
 pub mod CountedLines

@@ -8,7 +8,6 @@ use Rattle.std.proofs.Common.{ℕ, zero, suc, ◌≡◌, ◌+◌, ◌^◌, ◌<�
 use Rattle.std.specs.Prelude.{All, flat_map, decimal, slice_get, position}
 use Rattle.std.specs.Int.{w32, to_le_bytes}
 use Rattle.std.specs.List.{onto_first, position_or_len}
-use Rattle.std.specs.Str.{IsUtf8, is_utf8}
 use Rattle.std.proofs.Math.Seq.{take-append_seam}
 use Rattle.std.proofs.lemmas.Bool.Decides.{nat_tests}
 use Rattle.std.proofs.lemmas.List.{append-nil, length-map}
@@ -17,7 +16,6 @@ use Rattle.std.proofs.lemmas.Option.{slice_get_within}
 use Rattle.std.proofs.Math.Bool.{not-not}
 use Rattle.std.proofs.lemmas.Slice.Eq.{bytes_eq-Decides}
 use Rattle.std.proofs.lemmas.Nat.{from_le_bytes-to_le_bytes_4}
-use Rattle.std.proofs.lemmas.Str.{is_utf8-from_IsUtf8}
 use Rattle.lasso_parts.proofs.TextLemmas.{position_here, position_last}
 use Rattle.lasso_parts.specs.Texts.{Text, position_of}
 use Rattle.lasso_input.specs.Lines.{NoFeed, is_line_feed, lines_of}
@@ -105,18 +103,18 @@ head_back binary d n rest small small' =
 
 -- ---- the dictionary
 
--- each of the texts is UTF-8 without a line feed, and is absent from the list and from the texts before it
+-- each of the texts is without a line feed, and is absent from the list and from the texts before it
 abbrev pub AreFresh : List Text → List Text → Type 0
 AreFresh list [] = Unit {0}
-AreFresh list (t ∷ ts) = (is_utf8 t ≡ true) × NoFeed t × (position_of list t ≡ None) × AreFresh (list ++ t ∷ []) ts
+AreFresh list (t ∷ ts) = NoFeed t × (position_of list t ≡ None) × AreFresh (list ++ t ∷ []) ts
 
 texts_back : (list texts : List Text) (rest : List ℕ) → AreFresh list texts → texts_from (length texts) list (flat_map with_feed texts ++ rest) ≡ Ok (list ++ texts, rest)
 texts_back list [] rest fresh = ap (λ (ts : List Text). Ok (ts, rest)) (sym (append-nil list))
 texts_back list (t ∷ ts) rest fresh =
     let others = flat_map with_feed ts ++ rest in
     let split : flat_map with_feed (t ∷ ts) ++ rest ≡ t ++ 10 ∷ others = simp append_assoc in
-    ap (texts_from (suc (length ts)) list) split ∙ ap (λ cut. on_text cut list (texts_from (length ts))) (cut_fed t others fresh.1)
-    ∙ rw (fresh.0, fresh.2) (texts_back (list ++ t ∷ []) ts rest fresh.3 ∙ ap (λ (l : List Text). Ok (l, rest)) (append_assoc list (t ∷ []) ts))
+    ap (texts_from (suc (length ts)) list) split ∙ ap (λ cut. on_text cut list (texts_from (length ts))) (cut_fed t others fresh.0)
+    ∙ rw fresh.1 (texts_back (list ++ t ∷ []) ts rest fresh.2 ∙ ap (λ (l : List Text). Ok (l, rest)) (append_assoc list (t ∷ []) ts))
 
 -- ---- entries
 
@@ -187,12 +185,12 @@ column_back binary null list entries lines rest fresh are few few' =
 -- ---- the column of lines
 
 fresh_one : (list : List Text) (t : Text) (ts : List Text) → ArePlain (t ∷ ts) → (o : Option ℕ) → position_of list t ≡ o → AreFresh list (new_texts list ts) → AreFresh (list ++ t ∷ []) (new_texts (list ++ t ∷ []) ts) → AreFresh list (cond (is_some o) (new_texts list ts) (t ∷ new_texts (list ++ t ∷ []) ts))
-fresh_one list t ts plain None e same more = (plain.0, plain.1, e, more)
+fresh_one list t ts plain None e same more = (plain.0, e, more)
 fresh_one list t ts plain (Some n) e same more = same
 
 pub fresh_new : (list texts : List Text) → ArePlain texts → AreFresh list (new_texts list texts)
 fresh_new list [] plain = tt
-fresh_new list (t ∷ ts) plain = fresh_one list t ts plain (position_of list t) refl (fresh_new list ts plain.2) (fresh_new (list ++ t ∷ []) ts plain.2)
+fresh_new list (t ∷ ts) plain = fresh_one list t ts plain (position_of list t) refl (fresh_new list ts plain.1) (fresh_new (list ++ t ∷ []) ts plain.1)
 
 abbrev AreFree : List (List ℕ) → Type 0
 AreFree [] = Unit {0}
@@ -210,17 +208,17 @@ lines_free : (bytes : List ℕ) → AreFree (lines_of bytes)
 lines_free [] = tt
 lines_free (b ∷ bytes) = free_one b (lines_of bytes) (is_line_feed b) refl (lines_free bytes)
 
-plain_lines : (lines : List Text) → AreFree lines → All IsUtf8 lines → ArePlain lines
-plain_lines [] free all = tt
-plain_lines (l ∷ ls) free all = (is_utf8-from_IsUtf8 l (all 0 l (omega arith)), free.0, plain_lines ls free.1 (λ k d small. all (suc k) d (omega (arith, small))))
+plain_lines : (lines : List Text) → AreFree lines → ArePlain lines
+plain_lines [] free = tt
+plain_lines (l ∷ ls) free = (free.0, plain_lines ls free.1)
 
-plain_one : (keep : Bool) (l : Text) (ls : List Text) → is_utf8 l ≡ true → NoFeed l → ArePlain ls → ArePlain (cond keep (l ∷ ls) ls)
-plain_one true l ls text free plain = (text, free, plain)
-plain_one false l ls text free plain = plain
+plain_one : (keep : Bool) (l : Text) (ls : List Text) → NoFeed l → ArePlain ls → ArePlain (cond keep (l ∷ ls) ls)
+plain_one true l ls free plain = (free, plain)
+plain_one false l ls free plain = plain
 
 plain_texts : (null : Option Text) (lines : List Text) → ArePlain lines → ArePlain (texts_of null lines)
 plain_texts null [] plain = tt
-plain_texts null (l ∷ ls) plain = plain_one (not (is_null null l)) l (texts_of null ls) plain.0 plain.1 (plain_texts null ls plain.2)
+plain_texts null (l ∷ ls) plain = plain_one (not (is_null null l)) l (texts_of null ls) plain.0 (plain_texts null ls plain.1)
 
 -- each of the lines that is not null is in the list
 abbrev StandsAs : Bool → List Text → Text → Type 0
@@ -288,16 +286,16 @@ lines_read null list (l ∷ ls) few stand =
     (one.0, one.1, lines_read null list ls few stand.1)
 
 -- the column of lines is read as these lines
-column_lines : (binary : Bool) (null : Option Text) (input rest : List ℕ) → All IsUtf8 (lines_of input) → length (lines_of input) < 2 ^ 64 → length (dictionary_of null (lines_of input)) < 2 ^ 32 → decoded null (column_bytes binary null (lines_of input) ++ rest) ≡ (lines_of input, Ok rest)
-column_lines binary null input rest texts many few =
+column_lines : (binary : Bool) (null : Option Text) (input rest : List ℕ) → length (lines_of input) < 2 ^ 64 → length (dictionary_of null (lines_of input)) < 2 ^ 32 → decoded null (column_bytes binary null (lines_of input) ++ rest) ≡ (lines_of input, Ok rest)
+column_lines binary null input rest many few =
     let lines = lines_of input in
     let list = dictionary_of null lines in
-    let plain : ArePlain lines = plain_lines lines (lines_free input) texts in
+    let plain : ArePlain lines = plain_lines lines (lines_free input) in
     let fresh : AreFresh [] list = fresh_new [] (texts_of null lines) (plain_texts null lines plain) in
     let stand : AllStand null list lines = all_stand null list lines (found_new [] (texts_of null lines)) in
     column_back binary null list (map (entry_of null list) lines) lines rest fresh (lines_read null list lines few stand) (omega (arith, few)) (omega (arith, many, length-map lines (entry_of null list)))
 
 -- decoding what was encoded gives the lines
 pub decoding_gives_lines_lem : DecodingGivesLines
-decoding_gives_lines_lem input limit null binary part rest end =
-    ap (λ bs. decoded null (bs ++ rest)) end.1 ∙ column_lines binary null input rest end.0 end.2.1 end.2.0
+decoding_gives_lines_lem input only limit null binary part rest end =
+    ap (λ bs. decoded null (bs ++ rest)) end.1 ∙ column_lines binary null input rest end.2.1 end.2.0

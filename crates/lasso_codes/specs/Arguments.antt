@@ -11,7 +11,7 @@ use Rattle.lasso_codes.specs.declared.options.Setting.{Setting}
 use Rattle.lasso_codes.specs.declared.options.Setting.TheVariants.{Limit, Top, Null, Workers}
 use Rattle.lasso_codes.specs.declared.options.Reading.{Reading}
 use Rattle.lasso_codes.specs.declared.options.Meaning.{Meaning}
-use Rattle.lasso_codes.specs.declared.options.Meaning.TheVariants.{AsksHelp, IsBinary, IsQuiet, Wants, Has, Nothing}
+use Rattle.lasso_codes.specs.declared.options.Meaning.TheVariants.{AsksHelp, IsBinary, IsQuiet, IsUtf8Only, Wants, Has, Nothing}
 use Rattle.lasso_codes.specs.declared.arguments.ArgumentError.{ArgumentError}
 use Rattle.lasso_codes.specs.declared.arguments.ArgumentError.TheVariants.{NoVerb, NotVerb, NotOption, NoNumber, NoWord, NotNumber, NoWorkers, PastWorkers, NotText}
 
@@ -107,6 +107,13 @@ takes_binary Distinct = false
 takes_binary Encode = true
 takes_binary Merge = true
 
+abbrev pub takes_utf8 : Verb → Bool
+takes_utf8 Counts = true
+takes_utf8 Decode = false
+takes_utf8 Distinct = true
+takes_utf8 Encode = true
+takes_utf8 Merge = false
+
 abbrev pub takes_workers : Verb → Bool
 takes_workers Counts = true
 takes_workers Decode = false
@@ -139,18 +146,24 @@ at_equals verb word (Some at) = has (setting_of verb (take at word)) at
 abbrev pub is_binary : Verb → Text → Bool
 is_binary verb word = bytes_eq word (codes "--binary") && takes_binary verb
 
+-- the word is `--utf8`, and the verb has that option
+abbrev pub is_utf8_only : Verb → Text → Bool
+is_utf8_only verb word = bytes_eq word (codes "--utf8") && takes_utf8 verb
+
 -- the meaning of the word as an option of the verb; an equals sign is byte 61
 abbrev pub meaning_of : Verb → Text → Meaning
 meaning_of verb word =
     if bytes_eq word (codes "--help") then AsksHelp
     else (if bytes_eq word (codes "--quiet") then IsQuiet
-    else (if is_binary verb word then IsBinary else at_equals verb word (position (λ b. b == 61) word)))
+    else (if is_binary verb word then IsBinary
+    else (if is_utf8_only verb word then IsUtf8Only else at_equals verb word (position (λ b. b == 61) word))))
 
 -- the equals sign is within the word
 abbrev pub IsWithin : Meaning → Text → Type 0
 IsWithin AsksHelp word = Unit {0}
 IsWithin IsBinary word = Unit {0}
 IsWithin IsQuiet word = Unit {0}
+IsWithin IsUtf8Only word = Unit {0}
 IsWithin (Wants setting) word = Unit {0}
 IsWithin (Has setting at) word = at < length word
 IsWithin Nothing word = Unit {0}
@@ -199,13 +212,14 @@ abbrev pub on_value : Result (Settings × Option Text) (List ℕ) → (Settings 
 on_value (Ok value) go = go value.0 value.1
 on_value (Err message) go = Err message
 
-abbrev pub on_meaning : Meaning → Asked → Asked → Asked → (Setting → Asked) → (Setting → ℕ → Asked) → Asked → Asked
-on_meaning AsksHelp help binary quiet wants has nothing = help
-on_meaning IsBinary help binary quiet wants has nothing = binary
-on_meaning IsQuiet help binary quiet wants has nothing = quiet
-on_meaning (Wants setting) help binary quiet wants has nothing = wants setting
-on_meaning (Has setting at) help binary quiet wants has nothing = has setting at
-on_meaning Nothing help binary quiet wants has nothing = nothing
+abbrev pub on_meaning : Meaning → Asked → Asked → Asked → Asked → (Setting → Asked) → (Setting → ℕ → Asked) → Asked → Asked
+on_meaning AsksHelp help binary quiet only wants has nothing = help
+on_meaning IsBinary help binary quiet only wants has nothing = binary
+on_meaning IsQuiet help binary quiet only wants has nothing = quiet
+on_meaning IsUtf8Only help binary quiet only wants has nothing = only
+on_meaning (Wants setting) help binary quiet only wants has nothing = wants setting
+on_meaning (Has setting at) help binary quiet only wants has nothing = has setting at
+on_meaning Nothing help binary quiet only wants has nothing = nothing
 
 -- the command that the rest of the words gives. So far, the settings and the null are these, and `wanted` is
 -- the setting whose value is the next word
@@ -218,6 +232,7 @@ options_of verb settings null None (word ∷ words) =
     on_meaning (meaning_of verb word) (Ok (VerbHelp verb, None))
     (options_of verb (record settings { binary = true }) null None words)
     (options_of verb (record settings { quiet = true }) null None words)
+    (options_of verb (record settings { only_utf8 = true }) null None words)
     (λ setting. options_of verb settings null (Some (setting, word)) words)
     (λ setting at. on_value (value_of settings null setting (drop (at + 1) word) word) (λ after given. options_of verb after given None words))
     (Err (not_option word))
@@ -233,7 +248,7 @@ verb_of word =
 
 -- the default settings: no limit, all lines, codes as text, one worker, and a progress line
 abbrev pub unset : Settings
-unset = record { limit = 2 ^ 64 - 1; top = 2 ^ 64 - 1; binary = false; workers = 1; quiet = false }
+unset = record { limit = 2 ^ 64 - 1; top = 2 ^ 64 - 1; binary = false; only_utf8 = false; workers = 1; quiet = false }
 
 abbrev pub on_verb : Option Verb → Text → List Text → Asked
 on_verb None word words = Err (not_verb word)

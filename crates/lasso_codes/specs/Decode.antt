@@ -7,7 +7,7 @@ use Rattle.lasso_columns.specs.declared.faults.LineError.TheVariants.{Refused}
 use Rattle.lasso_codes.specs.Distinct.{with_feed}
 use Rattle.lasso_codes.specs.Encode.{EncodeEnd}
 use Rattle.lasso_codes.specs.Errors.{AreTooMany}
-use Rattle.lasso_codes.specs.Limits.{Admits}
+use Rattle.lasso_codes.specs.Limits.{line_texts, Admits}
 use Rattle.lasso_codes.specs.Reading.{Makes, ReadItems, texts_at, read_column, IsEntryError, IsColumnError}
 use Rattle.lasso_codes.specs.Streams.{Begins, WritesAll}
 use Rattle.lasso_codes.specs.declared.entries.Entry.TheVariants.{Missing, Bad, Null, Code}
@@ -49,7 +49,7 @@ Reads null (suc n) bytes lines rest =
 -- the first n columns of the bytes have dictionaries that a new interner with this limit takes, each one alone
 abbrev pub AdmitsEach : ℕ → Option Text → ℕ → List ℕ → Type 0
 AdmitsEach limit null zero bytes = Unit {0}
-AdmitsEach limit null (suc n) bytes = AdmitsEach limit null n bytes × ((lines : List Text) × (mid : List ℕ) × Reads null n bytes lines mid × Admits limit (texts_at mid))
+AdmitsEach limit null (suc n) bytes = AdmitsEach limit null n bytes × ((lines : List Text) × (mid : List ℕ) × Reads null n bytes lines mid × Admits limit (line_texts (texts_at mid)))
 
 -- ---- what is written of a column
 
@@ -84,7 +84,7 @@ WritesLines read column after part result =
 abbrev pub IsWhole : List ℕ → ℕ → Option Text → List ℕ → Type 0
 IsWhole input limit null part =
     (n : ℕ) × (lines : List Text) × (rest : List ℕ) × Reads null n input lines rest × AdmitsEach limit null n input
-    × ((m : ℕ) × (0 < m → Admits limit (texts_at rest)) × (part ≡ fed_lines (lines ++ take m (decoded null rest).0)))
+    × ((m : ℕ) × (0 < m → Admits limit (line_texts (texts_at rest))) × (part ≡ fed_lines (lines ++ take m (decoded null rest).0)))
 
 -- a beginning of these lines was written
 abbrev pub IsBegun : List ℕ → Option Text → List ℕ → Type 0
@@ -119,5 +119,5 @@ DecodeEnd input limit null part result =
 -- decoding what `encode` wrote for an input gives the lines of the input, whatever follows the column
 abbrev pub DecodingGivesLines : Type 0
 DecodingGivesLines =
-    (input : List ℕ) (limit : ℕ) (null : Option Text) (binary : Bool) (part rest : List ℕ)
-    → EncodeEnd input limit null binary part (Ok tt) → decoded null (part ++ rest) ≡ (lines_of input, Ok rest)
+    (input : List ℕ) (only : Bool) (limit : ℕ) (null : Option Text) (binary : Bool) (part rest : List ℕ)
+    → EncodeEnd input only limit null binary part (Ok tt) → decoded null (part ++ rest) ≡ (lines_of input, Ok rest)

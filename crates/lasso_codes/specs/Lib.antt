@@ -1,3 +1,4 @@
+pub mod Tables
 pub mod Views
 pub mod Errors
 pub mod Streams

@@ -1,5 +1,6 @@
 -- What `merge` writes, and how it ends.
-use Rattle.std.specs.Prelude.{ℕ, zero, suc, ◌≡◌, ◌+◌, ◌^◌, ◌<◌, ◌⊎◌, Bool, List, [], ◌∷◌, ◌++◌, length, map, take, Option, Some, None, Result, Ok, Err, MatchResult, IsSomeAnd, slice_get}
+use Rattle.std.specs.Prelude.{ℕ, zero, suc, ◌≡◌, ◌+◌, ◌^◌, ◌<◌, ◌⊎◌, Bool, List, [], ◌∷◌, ◌++◌, length, map, take, All, Option, Some, None, Result, Ok, Err, MatchResult, IsSomeAnd, slice_get}
+use Rattle.hex.specs.Hex.{IsBytes}
 use Rattle.lasso_parts.specs.Texts.{Text, IsDistinct, position_of}
 use Rattle.lasso_parts.specs.declared.util.LassoError.{LassoError}
 use Rattle.lasso_parts.specs.declared.util.LassoErrorKind.TheVariants.{FailedAllocation}
@@ -7,11 +8,12 @@ use Rattle.lasso_single.specs.Filling.{extend}
 use Rattle.lasso_single.specs.Interner.{InternerView, made_with}
 use Rattle.lasso_encode.specs.Encoding.{spur_at, IsRefused}
 use Rattle.lasso_columns.specs.Parts.{new_texts}
+use Rattle.lasso_input.specs.Texts.{text_of}
 use Rattle.lasso_columns.specs.declared.faults.LineError.TheVariants.{Refused}
 use Rattle.lasso_codes.specs.Columns.{column_of, entry_at}
 use Rattle.lasso_codes.specs.Decode.{decoded, Reads}
 use Rattle.lasso_codes.specs.Errors.{AreTooMany}
-use Rattle.lasso_codes.specs.Limits.{Admits}
+use Rattle.lasso_codes.specs.Limits.{line_texts, Admits}
 use Rattle.lasso_codes.specs.Reading.{Makes, ReadItems, texts_at, read_column, IsEntryError, IsColumnError}
 use Rattle.lasso_codes.specs.Streams.{Begins}
 use Rattle.lasso_codes.specs.declared.entries.Entry.TheVariants.{Missing, Bad, Null, Code}
@@ -58,12 +60,12 @@ Merges (suc n) bytes texts entries rest =
 abbrev pub AdmitsColumns : ℕ → ℕ → List ℕ → Type 0
 AdmitsColumns limit zero bytes = Unit {0}
 AdmitsColumns limit (suc n) bytes =
-    AdmitsColumns limit n bytes × ((texts : List Text) × (entries : List (Option ℕ)) × (mid : List ℕ) × Merges n bytes texts entries mid × Admits limit (texts_at mid))
+    AdmitsColumns limit n bytes × ((texts : List Text) × (entries : List (Option ℕ)) × (mid : List ℕ) × Merges n bytes texts entries mid × Admits limit (line_texts (texts_at mid)))
 
 -- the bytes begin with n columns, as `Merges` says. A new interner with this limit takes the dictionary of each,
 -- and one takes the texts of all
 abbrev pub MergesWithin : ℕ → ℕ → List ℕ → List Text → List (Option ℕ) → List ℕ → Type 0
-MergesWithin limit n bytes texts entries rest = Merges n bytes texts entries rest × AdmitsColumns limit n bytes × Admits limit texts
+MergesWithin limit n bytes texts entries rest = Merges n bytes texts entries rest × AdmitsColumns limit n bytes × Admits limit (line_texts texts)
 
 -- why the entries of the column with this number were not added
 abbrev pub EntriesError : ReadItems (Option ℕ) → ℕ → RunError → Type 0
@@ -91,14 +93,14 @@ AddsEntries read column left before after result =
 -- columns before
 abbrev pub IsNotMerged : ℕ → List Text → List Text → LassoError → Type 0
 IsNotMerged limit before texts error =
-    (n : ℕ) × (now : InternerView) × extend spur_at (made_with 4096 limit) (before ++ take n texts) (Ok tt) now × IsSomeAnd (slice_get texts n) (λ text. IsRefused now text error)
+    (n : ℕ) × (now : InternerView) × extend spur_at (made_with 4096 limit) (line_texts (before ++ take n texts)) (Ok tt) now × IsSomeAnd (slice_get texts n) (λ text. IsRefused now (text_of text) error)
 
 -- why the first column of the bytes was not merged. `before` are the texts of the columns before it. Before an
 -- entry that is at fault, a new interner with this limit takes those and the texts of the column
 abbrev pub IsMergeError : ℕ → List Text → List ℕ → ColumnError → Type 0
-IsMergeError limit before bytes (NotMerged error) = Admits limit (texts_at bytes) × IsNotMerged limit before (texts_at bytes) error
+IsMergeError limit before bytes (NotMerged error) = Admits limit (line_texts (texts_at bytes)) × IsNotMerged limit before (texts_at bytes) error
 IsMergeError limit before bytes error =
-    IsColumnError (recoded (distinct_of (before ++ texts_at bytes))) limit bytes error × (IsEntryError error → Admits limit (before ++ texts_at bytes))
+    IsColumnError (recoded (distinct_of (before ++ texts_at bytes))) limit bytes error × (IsEntryError error → Admits limit (line_texts (before ++ texts_at bytes)))
 
 -- nothing was written, or a beginning of the merged column
 abbrev pub IsMergeBegun : List ℕ → Bool → List ℕ → Type 0
@@ -108,7 +110,7 @@ IsMergeBegun input binary part =
 -- the list is the dictionary of the merged column, and the numbers are those of its entries
 abbrev pub AreMerged : List ℕ → ℕ → List Text → List ℕ → Type 0
 AreMerged input limit list numbers =
-    (n : ℕ) × (texts : List Text) × MergesWithin limit n input texts (map entry_at numbers) [] × (list ≡ distinct_of texts) × (length list < 2 ^ 32)
+    (n : ℕ) × (texts : List Text) × MergesWithin limit n input texts (map entry_at numbers) [] × (list ≡ line_texts (distinct_of texts)) × All IsBytes texts × (length list < 2 ^ 32)
 
 -- why columns were not merged
 abbrev pub MergingError : List ℕ → ℕ → RunError → Type 0

@@ -1,18 +1,18 @@
 -- How a column is read from bytes: a header line, the texts of its dictionary, and its entries.
-use Rattle.std.specs.Prelude.{ℕ, zero, suc, ◌≡◌, ◌+◌, ◌-◌, ◌<◌, ◌==◌, ◌⊎◌, Bool, true, false, List, [], ◌∷◌, ◌++◌, length, take, drop, is_some, Option, Some, None, Result, Ok, Err, option_map, position, bytes_eq, if◌then◌else◌}
+use Rattle.std.specs.Prelude.{ℕ, zero, suc, ◌≡◌, ◌+◌, ◌-◌, ◌<◌, ◌==◌, ◌⊎◌, Bool, true, false, List, [], ◌∷◌, ◌++◌, length, take, drop, is_some, All, Option, Some, None, Result, Ok, Err, option_map, position, bytes_eq, if◌then◌else◌}
 use Rattle.std.specs.Int.{w32, from_le_bytes}
-use Rattle.std.specs.Str.{IsUtf8, is_utf8}
+use Rattle.lasso_input.specs.Texts.{text_of}
+use Rattle.hex.specs.Hex.{IsBytes}
 use Rattle.lasso_parts.specs.Texts.{Text, position_of}
 use Rattle.lasso_parts.specs.declared.util.LassoError.{LassoError}
-use Rattle.lasso_parts.specs.declared.util.LassoErrorKind.TheVariants.{FailedAllocation}
 use Rattle.lasso_single.specs.Filling.{extend}
 use Rattle.lasso_single.specs.Intern.{InternsIn}
 use Rattle.lasso_single.specs.Interner.{InternerView, made_with}
-use Rattle.lasso_encode.specs.Encoding.{spur_at, IsAdmitted, IsRefused}
+use Rattle.lasso_encode.specs.Encoding.{spur_at, IsRefused}
 use Rattle.lasso_codes.specs.Arguments.{digits_value}
 use Rattle.lasso_codes.specs.Columns.{header_front}
 use Rattle.lasso_codes.specs.Errors.{IsReadError}
-use Rattle.lasso_codes.specs.Limits.{Admits}
+use Rattle.lasso_codes.specs.Limits.{line_texts, Admits, IsTextLackingMemory}
 use Rattle.lasso_codes.specs.Streams.{cut_line}
 use Rattle.lasso_codes.specs.declared.error.ColumnError.{ColumnError}
 use Rattle.lasso_codes.specs.declared.error.ColumnError.TheVariants.{NoHeader, NoText, NotUtf8, Doubled, TextRefused, NoEntry, NotEntry, PastTexts, IsNull, NotMerged}
@@ -78,12 +78,11 @@ HeaderError before column error = IsReadError 0 error ⊎ ((error ≡ Column col
 abbrev pub ReadTexts : Type 0
 ReadTexts = Result (List Text × List ℕ) ColumnError
 
--- a text has to be new, and UTF-8
+-- a text has to be new. It is a line of any bytes
 abbrev pub on_text : Option (Text × List ℕ) → List Text → (List Text → List ℕ → ReadTexts) → ReadTexts
 on_text None list go = Err (NoText (length list + 1))
 on_text (Some cut) list go =
-    if is_utf8 cut.0 then (if is_some (position_of list cut.0) then Err (Doubled (length list + 1)) else go (list ++ cut.0 ∷ []) cut.1)
-    else Err (NotUtf8 (length list + 1))
+    if is_some (position_of list cut.0) then Err (Doubled (length list + 1)) else go (list ++ cut.0 ∷ []) cut.1
 
 -- reads n more texts after these
 abbrev pub texts_from : ℕ → List Text → List ℕ → ReadTexts
@@ -108,34 +107,36 @@ texts_before distinct bytes (NotUtf8 number) = first_texts (number - 1) bytes
 texts_before distinct bytes (Doubled number) = first_texts (number - 1) bytes
 texts_before distinct bytes error = first_texts distinct bytes
 
--- the text is new, and was interned
+-- the line is new, and its text was interned
 abbrev pub AddsText : InternerView → Text → InternerView → Type 0
-AddsText old text new = IsUtf8 text × (position_of old.texts text ≡ None) × ((key : ℕ) × InternsIn {K = ℕ} spur_at old text (Ok key) new)
+AddsText old line new = IsBytes line × (position_of old.texts (text_of line) ≡ None) × ((key : ℕ) × InternsIn {K = ℕ} spur_at old (text_of line) (Ok key) new)
 
--- why the text with this number was not added. Only a text that would be taken is out of memory
+-- why the line with this number was not added. When memory may run out is as `IsTextLackingMemory` has it
 abbrev pub AddError : InternerView → Text → ℕ → ColumnError → Type 0
-AddError old text number NoHeader = ⊥
-AddError old text number (NoText at) = ⊥
-AddError old text number (NotUtf8 at) = (at ≡ number) × ¬ (IsUtf8 text)
-AddError old text number (Doubled at) = (at ≡ number) × IsUtf8 text × (is_some (position_of old.texts text) ≡ true)
-AddError old text number (TextRefused at error) = (at ≡ number) × IsUtf8 text × IsRefused old text error × (error ≡ FailedAllocation → IsAdmitted old text)
-AddError old text number (NoEntry at) = ⊥
-AddError old text number (NotEntry at) = ⊥
-AddError old text number (PastTexts at) = ⊥
-AddError old text number (IsNull at) = ⊥
-AddError old text number (NotMerged error) = ⊥
+AddError old line number NoHeader = ⊥
+AddError old line number (NoText at) = ⊥
+AddError old line number (NotUtf8 at) = ⊥
+AddError old line number (Doubled at) = (at ≡ number) × IsBytes line × (is_some (position_of old.texts (text_of line)) ≡ true)
+AddError old line number (TextRefused at error) = (at ≡ number) × IsRefused old (text_of line) error × IsTextLackingMemory old line error
+AddError old line number (NoEntry at) = ⊥
+AddError old line number (NotEntry at) = ⊥
+AddError old line number (PastTexts at) = ⊥
+AddError old line number (IsNull at) = ⊥
+AddError old line number (NotMerged error) = ⊥
 
--- the text with this number is refused by an interner with this limit that holds the texts before it. Only a
--- text that would be taken is out of memory
+-- the text of the line with this number is refused by an interner with this limit that holds the texts of those
+-- before it. When memory may run out is as `IsTextLackingMemory` has it
 abbrev pub IsTextRefused : ℕ → ℕ → List ℕ → ℕ → LassoError → Type 0
 IsTextRefused limit distinct bytes number error =
     (n : ℕ) × (number ≡ n + 1) × (n < distinct) × ((list : List Text) × (rest : List ℕ) × (texts_from n [] bytes ≡ Ok (list, rest))
-    × ((line : Text) × (left : List ℕ) × (cut_line rest ≡ Some (line, left)) × IsUtf8 line
-    × ((now : InternerView) × extend spur_at (made_with 4096 limit) list (Ok tt) now × IsRefused now line error × (error ≡ FailedAllocation → IsAdmitted now line))))
+    × ((line : Text) × (left : List ℕ) × (cut_line rest ≡ Some (line, left))
+    × ((now : InternerView) × extend spur_at (made_with 4096 limit) (line_texts list) (Ok tt) now × IsRefused now (text_of line) error × IsTextLackingMemory now line error)))
 
--- this number of texts was read, and the bytes after them are left
+-- this number of lines was read, these are their texts, and the bytes after them are left
 abbrev pub TakesTexts : Option (List ℕ) → Option (List ℕ) → ℕ → List Text → Type 0
-TakesTexts before after distinct list = (bytes : List ℕ) → before ≡ Some bytes → (rest : List ℕ) × (after ≡ Some rest) × (texts_from distinct [] bytes ≡ Ok (list, rest))
+TakesTexts before after distinct texts =
+    (bytes : List ℕ) → before ≡ Some bytes → (rest : List ℕ) × (after ≡ Some rest)
+    × ((list : List Text) × (texts_from distinct [] bytes ≡ Ok (list, rest)) × All IsBytes list × (texts ≡ line_texts list))
 
 -- why this number of texts was not read from these bytes. A new interner with this limit takes the texts before
 -- the error
@@ -147,7 +148,7 @@ IsTextError limit distinct bytes (NoEntry number) = ⊥
 IsTextError limit distinct bytes (NotEntry number) = ⊥
 IsTextError limit distinct bytes (PastTexts number) = ⊥
 IsTextError limit distinct bytes (IsNull number) = ⊥
-IsTextError limit distinct bytes error = (texts_from distinct [] bytes ≡ Err error) × Admits limit (texts_before distinct bytes error)
+IsTextError limit distinct bytes error = (texts_from distinct [] bytes ≡ Err error) × Admits limit (line_texts (texts_before distinct bytes error))
 
 -- why the texts of the column with this number were not read
 abbrev pub TextsError : ℕ → ℕ → ℕ → List ℕ → RunError → Type 0
@@ -254,4 +255,4 @@ abbrev pub IsColumnError : {X : Type 0} → (List Text → Makes X) → ℕ → 
 IsColumnError make limit bytes (TextRefused number error) =
     (head : Header × List ℕ) × (head_of bytes ≡ Some head) × IsTextRefused limit head.0.distinct head.1 number error
 IsColumnError make limit bytes NoHeader = HasNoHeader bytes
-IsColumnError make limit bytes error = ((read_column make bytes).1 ≡ Err error) × Admits limit (head_before (head_of bytes) error)
+IsColumnError make limit bytes error = ((read_column make bytes).1 ≡ Err error) × Admits limit (line_texts (head_before (head_of bytes) error))

@@ -29,6 +29,8 @@ pub struct Settings {
     pub top: usize,
     /// Whether codes are written as four bytes each.
     pub binary: bool,
+    /// Whether a line that is not UTF-8 is refused.
+    pub only_utf8: bool,
     /// How many threads share the work, from 1 to 64.
     pub workers: usize,
     /// Whether no progress line is shown.

@@ -11,10 +11,11 @@ ghost use Rattle.lasso_codes.specs.Streams.{Writes};
 use crate::entries::{Entry, first_entry, line_at, next_entry};
 use crate::error::RunError;
 use crate::interner::new_rodeo;
+use crate::line_table::LineTable;
 use crate::output::{end_flushed, write_line};
 use crate::reading::{Header, next_header, read_texts};
 use crate::streams::{Input, Output};
-use lasso::{MemoryLimits, SpurRodeo};
+use lasso::MemoryLimits;
 use std::alloc::Global;
 use std::io::{Read, Write};
 
@@ -64,8 +65,9 @@ fn write_decoded<R: Read + Drop, W: Write + Drop>(
             return Ok(());
         };
         let mut rodeo = new_rodeo(alloc, limits)?;
-        read_texts(input, &mut line, &mut rodeo, header.distinct, column)?;
-        write_lines(input, output, &mut line, &rodeo, header, null, column)?;
+        read_texts(alloc, input, &mut line, &mut rodeo, header.distinct, column)?;
+        let table = LineTable::new(alloc, &rodeo)?;
+        write_lines(input, output, &mut line, &table, header, null, column)?;
     }
     Err(RunError::TooManyLines)
 }
@@ -75,13 +77,13 @@ fn write_lines<R: Read + Drop, W: Write + Drop>(
     input: &mut Input<R>,
     output: &mut Output<W>,
     line: &mut Vec<u8>,
-    rodeo: &SpurRodeo,
+    table: &LineTable<'_>,
     header: Header,
     null: Option<&[u8]>,
     column: usize,
 ) -> Result<(), RunError>
     ensures written { (bytes : List ℕ) → input.old.left ≡ Some bytes →
-        Writes output.old.written output.new.written (λ part. WritesLines (items_from (line_at (word_of null.entry) rodeo.now.texts) header.lines header.binary 1 bytes)
+        Writes output.old.written output.new.written (λ part. WritesLines (items_from (line_at (word_of null.entry) table.now) header.lines header.binary 1 bytes)
         column input.new.left part result) }
     ensures reads { input.new.failures ≡ input.old.failures + failed_reads result }
     ensures writes { output.new.failures ≡ output.old.failures + failed_writes result }
@@ -90,13 +92,13 @@ fn write_lines<R: Read + Drop, W: Write + Drop>(
     let mut count = 0;
     while count < header.lines {
         let shown = input.buffered();
-        let (next, used) = write_stretch(output, rodeo, header, null, column, shown, count)?;
+        let (next, used) = write_stretch(output, table, header, null, column, shown, count)?;
         input.consume(used);
         if next == header.lines {
             return Ok(());
         }
         let entry = next_entry(input, line, header.binary)?;
-        write_entry_line(output, rodeo, null, column, entry, next + 1)?;
+        write_entry_line(output, table, null, column, entry, next + 1)?;
         count = next + 1;
     }
     Ok(())
@@ -106,7 +108,7 @@ fn write_lines<R: Read + Drop, W: Write + Drop>(
 // entries before the next one, and the position where that begins.
 fn write_stretch<W: Write + Drop>(
     output: &mut Output<W>,
-    rodeo: &SpurRodeo,
+    table: &LineTable<'_>,
     header: Header,
     null: Option<&[u8]>,
     column: usize,
@@ -115,12 +117,12 @@ fn write_stretch<W: Write + Drop>(
 ) -> Result<(usize, usize), RunError>
     requires { count ≤ header.lines }
     ensures written { IfOk result (λ at. (read : ReadItems Text) (later : List ℕ) (before : Option (List ℕ)) →
-        Writes before output.old.written (LinesAhead (items_from (line_at (word_of null.entry) rodeo.now.texts) (header.lines - count) header.binary (count + 1) (stretch.now ++ later)) read) →
-        Writes before output.new.written (LinesAhead (items_from (line_at (word_of null.entry) rodeo.now.texts) (header.lines - at.0) header.binary (at.0 + 1) (drop at.1 stretch.now ++ later)) read)) }
+        Writes before output.old.written (LinesAhead (items_from (line_at (word_of null.entry) table.now) (header.lines - count) header.binary (count + 1) (stretch.now ++ later)) read) →
+        Writes before output.new.written (LinesAhead (items_from (line_at (word_of null.entry) table.now) (header.lines - at.0) header.binary (at.0 + 1) (drop at.1 stretch.now ++ later)) read)) }
     ensures more { IfOk result (λ at. (count ≤ at.0) × (at.0 ≤ header.lines)) }
     ensures within { IfOk result (λ at. at.1 ≤ length stretch.now) }
     ensures error { IfErr result (λ error. (read : ReadItems Text) (later : List ℕ) (before : Option (List ℕ)) →
-        Writes before output.old.written (LinesAhead (items_from (line_at (word_of null.entry) rodeo.now.texts) (header.lines - count) header.binary (count + 1) (stretch.now ++ later)) read) →
+        Writes before output.old.written (LinesAhead (items_from (line_at (word_of null.entry) table.now) (header.lines - count) header.binary (count + 1) (stretch.now ++ later)) read) →
         Writes before output.new.written (λ part. DecodingError read column part error)) }
     ensures faults { IfErr result IsOutputError }
     ensures writes { output.new.failures ≡ output.old.failures + failed_writes result }
@@ -131,7 +133,7 @@ fn write_stretch<W: Write + Drop>(
         let Some((entry, len)) = first_entry(&stretch[used..], header.binary) else {
             return Ok((position, used));
         };
-        write_entry_line(output, rodeo, null, column, entry, position + 1)?;
+        write_entry_line(output, table, null, column, entry, position + 1)?;
         used += len;
     }
     Ok((header.lines, used))
@@ -141,18 +143,18 @@ fn write_stretch<W: Write + Drop>(
 #[inline]
 fn write_entry_line<W: Write + Drop>(
     output: &mut Output<W>,
-    rodeo: &SpurRodeo,
+    table: &LineTable<'_>,
     null: Option<&[u8]>,
     column: usize,
     entry: Entry,
     number: usize,
 ) -> Result<(), RunError>
-    ensures written { Writes output.old.written output.new.written (WritesEntry (line_at (word_of null.entry) rodeo.now.texts entry number) column result) }
+    ensures written { Writes output.old.written output.new.written (WritesEntry (line_at (word_of null.entry) table.now entry number) column result) }
     ensures faults { IfErr result IsOutputError }
     ensures writes { output.new.failures ≡ output.old.failures + failed_writes result }
     ensures gone { output.new.gone ≡ output.old.gone + gone_readers result }
 {
-    match line_at(rodeo, null, entry, number) {
+    match line_at(table, null, entry, number) {
         Ok(decoded) => write_line(output, decoded),
         Err(error) => Err(RunError::Column(column, error)),
     }

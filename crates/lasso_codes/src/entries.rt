@@ -8,10 +8,9 @@ ghost use Rattle.lasso_codes.specs.Errors.{failed_reads, IsReadError};
 use crate::columns::NULL;
 use crate::error::{ColumnError, RunError};
 use crate::input::{Cut, next_whole_line};
+use crate::line_table::LineTable;
 use crate::numbers::parse_digits;
 use crate::streams::Input;
-use lasso::SpurRodeo;
-use lasso::index::Texts;
 use lasso_input::find_newline;
 use std::io::Read;
 
@@ -124,19 +123,19 @@ fn entry_in(line: &[u8]) -> Entry
     }
 }
 
-/// The line of the entry with this number: the text of its code, or `null` for a null.
+/// The line of the entry with this number: that of its code, or `null` for a null.
 ///
 /// # Errors
 /// The entry is missing, is not a code, or its code is past the texts. Or it is a null, and `null` is `None`.
 pub fn line_at<'a>(
-    rodeo: &'a SpurRodeo,
+    table: &'a LineTable<'_>,
     null: Option<&'a [u8]>,
     entry: Entry,
     number: usize,
 ) -> Result<&'a [u8], ColumnError>
     ensures { MatchResult result
-        (λ line. line_at (word_of null.entry) rodeo.now.texts entry number ≡ Ok line.now)
-        (λ error. line_at (word_of null.entry) rodeo.now.texts entry number ≡ Err error) }
+        (λ line. line_at (word_of null.entry) table.now entry number ≡ Ok line.now)
+        (λ error. line_at (word_of null.entry) table.now entry number ≡ Err error) }
 {
     match entry {
         Entry::Missing => Err(ColumnError::NoEntry(number)),
@@ -146,10 +145,10 @@ pub fn line_at<'a>(
             None => Err(ColumnError::IsNull(number)),
         },
         Entry::Code(code) => {
-            if code >= rodeo.len() {
+            if code >= table.len() {
                 return Err(ColumnError::PastTexts(number));
             }
-            Ok(rodeo.text_at(code).as_bytes())
+            Ok(table.at(code))
         }
     }
 }

@@ -30,6 +30,7 @@ Lines that came equally often are in the order of their bytes.
   --limit N    the most bytes that the distinct lines may take
   --top N      write at most N lines
   --workers N  read the whole input, and count by 1 to 64 threads
+  --utf8       refuse a line that is not UTF-8
   --quiet      show no progress on a terminal
 
 N is a number below 2^64, or one with K, M or G after it, as 64K for 65536.
@@ -53,6 +54,7 @@ usage: lasso_codes distinct [OPTION..] < INPUT > OUTPUT
 Writes each distinct line once, where it first came.
 
   --limit N  the most bytes that the distinct lines may take
+  --utf8     refuse a line that is not UTF-8
   --quiet    show no progress on a terminal
 
 N is a number below 2^64, or one with K, M or G after it, as 64K for 65536.
@@ -68,6 +70,7 @@ which is the position of the line among the distinct ones, from 0.
   --null WORD  a line that is WORD is a null: it is no text of the column
   --binary     write codes as four bytes each, the least first
   --workers N  read the whole input, and encode by 1 to 64 threads
+  --utf8       refuse a line that is not UTF-8
   --quiet      show no progress on a terminal
 
 N is a number below 2^64, or one with K, M or G after it, as 64K for 65536.

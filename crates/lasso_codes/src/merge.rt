@@ -16,6 +16,7 @@ use crate::columns::{NULL, append, write_column};
 use crate::entries::{Entry, first_entry, next_entry};
 use crate::error::{ColumnError, RunError};
 use crate::interner::new_rodeo;
+use crate::line_table::LineTable;
 use crate::output::end_flushed;
 use crate::reading::{Header, next_header, read_texts};
 use crate::streams::{Input, Output};
@@ -67,7 +68,8 @@ fn write_merged<R: Read + Drop, W: Write + Drop>(
     let mut rodeo = new_rodeo(alloc, limits)?;
     let mut numbers = Vec::new(alloc);
     merge_columns(alloc, input, &mut rodeo, &mut numbers, limits)?;
-    write_column(output, &rodeo, &numbers, binary)
+    let table = LineTable::new(alloc, &rodeo)?;
+    write_column(output, &table, &numbers, binary)
 }
 
 // Interns the texts of each column, and appends its entries with the codes of these.
@@ -91,7 +93,7 @@ fn merge_columns<R: Read + Drop>(
             return Ok(());
         };
         let mut texts = new_rodeo(alloc, limits)?;
-        read_texts(input, &mut line, &mut texts, header.distinct, column)?;
+        read_texts(alloc, input, &mut line, &mut texts, header.distinct, column)?;
         match merge_texts(alloc, rodeo, &texts.into_reader()) {
             Ok(table) => add_numbers(input, &mut line, numbers, &table, header, column)?,
             Err(error) => return Err(RunError::Column(column, ColumnError::NotMerged(error))),

@@ -1,7 +1,7 @@
 //! The options of a verb.
 ghost use Rattle.std.specs.Prelude.{◌≡◌, ◌+◌, ◌≤◌, ◌∷◌, List, None, Some, Ok, Err, IfSome, IsSome, MatchOption, MatchResult, drop, length, map, string_bytes};
 ghost use Rattle.lasso_parts.specs.Texts.{Text};
-ghost use Rattle.lasso_codes.specs.Arguments.{IsWithin, argument_text, is_binary, meaning_of, no_value, not_number, number_of, options_of, setting_of, takes_binary, takes_null, takes_workers, unset, value_of, wanted_of, word_of, workers_of};
+ghost use Rattle.lasso_codes.specs.Arguments.{IsWithin, argument_text, is_binary, is_utf8_only, meaning_of, no_value, not_number, number_of, options_of, setting_of, takes_binary, takes_null, takes_utf8, takes_workers, unset, value_of, wanted_of, word_of, workers_of};
 
 use crate::arguments::{ArgumentError, Command, Request, Settings, Verb};
 use crate::numbers::parse_number;
@@ -28,6 +28,8 @@ enum Meaning {
     IsBinary,
     // Shows no progress line.
     IsQuiet,
+    // Lets in only lines that are UTF-8.
+    IsUtf8Only,
     // A setting whose value is the next word.
     Wants(Setting),
     // A setting whose value follows the `=` at this position.
@@ -58,6 +60,7 @@ pub fn options_of(verb: Verb, words: &[String]) -> Result<Request<'_>, ArgumentE
             limit: usize::MAX,
             top: usize::MAX,
             binary: false,
+            only_utf8: false,
             workers: 1,
             quiet: false,
         },
@@ -124,6 +127,13 @@ fn read_word<'a>(
             },
             ..reading
         })),
+        Meaning::IsUtf8Only => Ok(Some(Reading {
+            settings: Settings {
+                only_utf8: true,
+                ..reading.settings
+            },
+            ..reading
+        })),
         Meaning::Wants(setting) => Ok(Some(Reading {
             wanted: Some((setting, word)),
             ..reading
@@ -147,6 +157,9 @@ fn meaning_of(verb: Verb, word: &str) -> Meaning
     if is_binary(verb, word) {
         return Meaning::IsBinary;
     }
+    if is_utf8_only(verb, word) {
+        return Meaning::IsUtf8Only;
+    }
     let bytes = word.as_bytes();
     match memchr(b'=', bytes) {
         Some(at) => match setting_of(verb, &bytes[..at]) {
@@ -165,6 +178,13 @@ fn is_binary(verb: Verb, word: &str) -> bool
     ensures { result ≡ is_binary verb word.now }
 {
     word == "--binary" && takes_binary(verb)
+}
+
+// Whether the word is `--utf8`, and the verb has that option.
+fn is_utf8_only(verb: Verb, word: &str) -> bool
+    ensures { result ≡ is_utf8_only verb word.now }
+{
+    word == "--utf8" && takes_utf8(verb)
 }
 
 // The verb's setting of this name.
@@ -201,6 +221,16 @@ fn takes_binary(verb: Verb) -> bool
     match verb {
         Verb::Counts | Verb::Decode | Verb::Distinct => false,
         Verb::Encode | Verb::Merge => true,
+    }
+}
+
+// Whether the verb has the option `--utf8`.
+fn takes_utf8(verb: Verb) -> bool
+    ensures { result ≡ takes_utf8 verb }
+{
+    match verb {
+        Verb::Counts | Verb::Distinct | Verb::Encode => true,
+        Verb::Decode | Verb::Merge => false,
     }
 }
 

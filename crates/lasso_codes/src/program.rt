@@ -21,6 +21,7 @@ use crate::distinct::distinct;
 use crate::encode::encode;
 use crate::error::RunError;
 use crate::help::{HELP, VERSION, verb_help};
+use crate::lines::TextRule;
 use crate::merge::merge;
 use crate::output::write_bytes;
 use crate::streams::{Input, Output};
@@ -42,13 +43,13 @@ pub fn run_request<H: AllocGlobal + Threads + Sync, R: Read + Drop, W: Write + D
     output: &mut Output<W>,
 ) -> Result<(), RunError>
     ensures distinct { (settings : Settings) (bytes : List ℕ) → request.now.command ≡ Run Distinct settings → input.old.left ≡ Some bytes →
-        Writes output.old.written output.new.written (λ part. DistinctEnd bytes settings.limit input.new.left part result) }
+        Writes output.old.written output.new.written (λ part. DistinctEnd bytes settings.only_utf8 settings.limit input.new.left part result) }
     ensures counts { (settings : Settings) (bytes : List ℕ) → request.now.command ≡ Run Counts settings → input.old.left ≡ Some bytes →
-        Writes output.old.written output.new.written (λ part. CountsEnd bytes settings.limit settings.top part result) }
+        Writes output.old.written output.new.written (λ part. CountsEnd bytes settings.only_utf8 settings.limit settings.top part result) }
     ensures decode { (settings : Settings) (bytes : List ℕ) → request.now.command ≡ Run Decode settings → input.old.left ≡ Some bytes →
         Writes output.old.written output.new.written (λ part. DecodeEnd bytes settings.limit (word_of request.now.null) part result) }
     ensures encode { (settings : Settings) (bytes : List ℕ) → request.now.command ≡ Run Encode settings → input.old.left ≡ Some bytes →
-        Writes output.old.written output.new.written (λ part. EncodeEnd bytes settings.limit (word_of request.now.null) settings.binary part result) }
+        Writes output.old.written output.new.written (λ part. EncodeEnd bytes settings.only_utf8 settings.limit (word_of request.now.null) settings.binary part result) }
     ensures merge { (settings : Settings) (bytes : List ℕ) → request.now.command ≡ Run Merge settings → input.old.left ≡ Some bytes →
         Writes output.old.written output.new.written (λ part. MergeEnd bytes settings.limit settings.binary part result) }
     ensures help { request.now.command ≡ Help → input.new ≡ input.old }
@@ -68,10 +69,14 @@ pub fn run_request<H: AllocGlobal + Threads + Sync, R: Read + Drop, W: Write + D
         Command::Version => show(output, VERSION),
         Command::Run(verb, settings) => {
             let limits = MemoryLimits::new(settings.limit);
+            let rule = TextRule {
+                alloc: rt.alloc(),
+                only_utf8: settings.only_utf8,
+            };
             match verb {
                 Verb::Counts => counts(rt, input, output, settings),
                 Verb::Decode => decode(rt.alloc(), input, output, limits, null),
-                Verb::Distinct => distinct(rt.alloc(), input, output, limits),
+                Verb::Distinct => distinct(rule, input, output, limits),
                 Verb::Encode => encode(rt, input, output, settings, null),
                 Verb::Merge => merge(rt.alloc(), input, output, limits, settings.binary),
             }

@@ -11,7 +11,7 @@ ghost use Rattle.lasso_codes.specs.Errors.{failed_reads, IsDataError, IsInputErr
 use crate::columns::{BINARY_HEADER, TEXT_HEADER};
 use crate::error::{ColumnError, RunError};
 use crate::input::{Cut, next_whole_line};
-use crate::lines::{intern_line, taken};
+use crate::lines::{TextRule, intern_line, taken};
 use crate::numbers::parse_digits;
 use crate::streams::Input;
 use lasso::SpurRodeo;
@@ -19,6 +19,7 @@ use lasso_columns::LineError;
 use lasso_input::{Line, Stretch};
 use lasso_single::batch::Batch;
 use memchr::memchr;
+use std::alloc::Global;
 use std::io::Read;
 
 /// The header line of a column.
@@ -60,8 +61,9 @@ pub fn next_header<R: Read + Drop>(
 /// buffer for the bytes of a text.
 ///
 /// # Errors
-/// The reader failed, out of memory, or a text is missing, comes twice, is not UTF-8 or is refused.
+/// The reader failed, out of memory, or a text is missing, comes twice or is refused.
 pub fn read_texts<R: Read + Drop>(
+    alloc: Global,
     input: &mut Input<R>,
     line: &mut Vec<u8>,
     rodeo: &mut SpurRodeo,
@@ -80,7 +82,7 @@ pub fn read_texts<R: Read + Drop>(
     let mut count = 0;
     while count < distinct {
         let shown = input.buffered();
-        let (next, used) = add_texts(rodeo, &mut batch, shown, distinct, count, column)?;
+        let (next, used) = add_texts(alloc, rodeo, &mut batch, shown, distinct, count, column)?;
         input.consume(used);
         if next == distinct {
             return Ok(());
@@ -89,7 +91,7 @@ pub fn read_texts<R: Read + Drop>(
         match next_whole_line(input, line)? {
             Cut::Whole => {
                 let whole = Line::untested(line);
-                if let Err(error) = add_text(rodeo, &mut batch, &whole, number) {
+                if let Err(error) = add_text(alloc, rodeo, &mut batch, &whole, number) {
                     return Err(RunError::Column(column, error));
                 }
             }
@@ -105,6 +107,7 @@ pub fn read_texts<R: Read + Drop>(
 // Interns the texts that end in the stretch. `count` texts came before. Returns the number of texts before
 // the next one, and the position where that begins.
 fn add_texts(
+    alloc: Global,
     rodeo: &mut SpurRodeo,
     batch: &mut Batch,
     stretch: &[u8],
@@ -126,15 +129,16 @@ fn add_texts(
         let Some(line) = lines.next_ended() else {
             return Ok((position, taken(stretch, &lines)));
         };
-        if let Err(error) = add_text(rodeo, batch, &line, position + 1) {
+        if let Err(error) = add_text(alloc, rodeo, batch, &line, position + 1) {
             return Err(RunError::Column(column, error));
         }
     }
     Ok((distinct, taken(stretch, &lines)))
 }
 
-// Interns the text with this number, which has to be new. Texts that are new need no look ahead.
+// Interns the text of the line with this number, which has to be new. Texts that are new need no look ahead.
 fn add_text(
+    alloc: Global,
     rodeo: &mut SpurRodeo,
     batch: &mut Batch,
     line: &Line<'_>,
@@ -142,7 +146,11 @@ fn add_text(
 ) -> Result<(), ColumnError>
     ensures { MatchResult result (λ _. AddsText rodeo.old line.now rodeo.new) (AddError rodeo.old line.now number) }
 {
-    match intern_line(rodeo, batch, line, number) {
+    let rule = TextRule {
+        alloc,
+        only_utf8: false,
+    };
+    match intern_line(rule, rodeo, batch, line, number) {
         Ok(true) => Ok(()),
         Ok(false) => Err(ColumnError::Doubled(number)),
         Err(LineError::NotText(_)) => Err(ColumnError::NotUtf8(number)),

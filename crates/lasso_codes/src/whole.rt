@@ -8,7 +8,7 @@ ghost use Rattle.lasso_codes.specs.Whole.{AreTextLines};
 
 use crate::error::RunError;
 use crate::streams::Input;
-use lasso_input::Stretch;
+use lasso_input::{Stretch, own_text};
 use std::alloc::Global;
 use std::io::Read;
 
@@ -48,7 +48,7 @@ pub fn text_lines(alloc: Global, bytes: &[u8]) -> Result<TextLines<'_>, RunError
     let mut texts = Vec::new(alloc);
     let mut lines = Stretch::new(bytes);
     while let Some(line) = lines.next_line() {
-        let Ok(text) = line.text() else {
+        let Some(text) = own_text(&line) else {
             return Ok(TextLines {
                 texts,
                 is_complete: false,
