@@ -5,6 +5,7 @@ pub mod Written
 pub mod Flat
 pub mod Blocks
 pub mod FewTexts
+pub mod LettingIn
 pub mod LineTexts
 pub mod LineCounts
 pub mod LineCodes

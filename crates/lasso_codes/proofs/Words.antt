@@ -6,10 +6,10 @@ use Rattle.std.proofs.Common.{ℕ, zero, suc, ◌≡◌, ◌+◌, ◌<◌, ◌==
 use Rattle.std.specs.Prelude.{slice_get, MatchOption, position, codes, bytes_eq}
 use Rattle.memchr.specs.Find.{IsFirstByte, is_byte}
 use Rattle.lasso_parts.specs.Texts.{Text}
-use Rattle.lasso_codes.specs.Arguments.{Asked, command_of, verb_of, on_verb, not_verb, is_binary, meaning_of, at_equals}
+use Rattle.lasso_codes.specs.Arguments.{Asked, command_of, verb_of, on_verb, not_verb, is_binary, is_utf8_only, meaning_of, at_equals}
 use Rattle.lasso_codes.proofs.FirstBytes.{first_byte_at}
 use Rattle.lasso_codes.specs.declared.arguments.Verb.{Verb}
-use Rattle.lasso_codes.specs.declared.options.Meaning.TheVariants.{AsksHelp, IsBinary, IsQuiet}
+use Rattle.lasso_codes.specs.declared.options.Meaning.TheVariants.{AsksHelp, IsBinary, IsQuiet, IsUtf8Only}
 use Rattle.lasso_codes.specs.declared.arguments.Command.TheVariants.{Help, Version}
 
 -- the first word
@@ -48,9 +48,11 @@ told_some o after asked done go e told = subst (λ p. MatchOption p (asked ≡ d
 equals_is : (word : Text) (o : Option ℕ) → IsFirstByte (is_byte 61) word o → position (λ b. b == 61) word ≡ o
 equals_is word o found = first_byte_at 61 word o found
 
--- the meaning of a word that is not `--help`, `--quiet` or `--binary`
-pub meaning_is : (verb : Verb) (word bytes : Text) (o : Option ℕ) → bytes ≡ word → bytes_eq word (codes "--help") ≡ false → bytes_eq word (codes "--quiet") ≡ false → is_binary verb word ≡ false → IsFirstByte (is_byte 61) bytes o → meaning_of verb word ≡ at_equals verb word o
-meaning_is verb word bytes o same help quiet binary found =
+-- the meaning of a word that is not `--help`, `--quiet`, `--binary` or `--utf8`
+pub meaning_is : (verb : Verb) (word bytes : Text) (o : Option ℕ) → bytes ≡ word → bytes_eq word (codes "--help") ≡ false → bytes_eq word (codes "--quiet") ≡ false → is_binary verb word ≡ false → is_utf8_only verb word ≡ false → IsFirstByte (is_byte 61) bytes o → meaning_of verb word ≡ at_equals verb word o
+meaning_is verb word bytes o same help quiet binary utf8 found =
     let value = at_equals verb word (position (λ c. c == 61) word) in
-    ap (λ b. cond b AsksHelp (cond (bytes_eq word (codes "--quiet")) IsQuiet (cond (is_binary verb word) IsBinary value))) help
-    ∙ ap (λ b. cond b IsQuiet (cond (is_binary verb word) IsBinary value)) quiet ∙ ap (λ b. cond b IsBinary value) binary ∙ ap (at_equals verb word) (equals_is word o (subst (λ bs. IsFirstByte (is_byte 61) bs o) same found))
+    let others = cond (is_utf8_only verb word) IsUtf8Only value in
+    ap (λ b. cond b AsksHelp (cond (bytes_eq word (codes "--quiet")) IsQuiet (cond (is_binary verb word) IsBinary others))) help
+    ∙ ap (λ b. cond b IsQuiet (cond (is_binary verb word) IsBinary others)) quiet ∙ ap (λ b. cond b IsBinary others) binary
+    ∙ ap (λ b. cond b IsUtf8Only value) utf8 ∙ ap (at_equals verb word) (equals_is word o (subst (λ bs. IsFirstByte (is_byte 61) bs o) same found))

@@ -46,14 +46,15 @@ impl<'a> LineTable<'a> {
         ensures refused { IfErr result (λ error. error ≡ RunError.Line (Refused 0 FailedAllocation)) }
     {
         let mut lines = Vec::new(alloc);
-        if !are_own_lines(rodeo) {
-            for position in 0..rodeo.len() {
-                let Ok(line) = line_of(alloc, rodeo.text_at(position)) else {
-                    return Err(RunError::no_memory(0));
-                };
-                if lines.push(line).is_err() {
-                    return Err(RunError::no_memory(0));
-                }
+        if are_own_lines(rodeo) {
+            return Ok(LineTable { rodeo, lines });
+        }
+        for position in 0..rodeo.len() {
+            let Ok(line) = line_of(alloc, rodeo.text_at(position)) else {
+                return Err(RunError::no_memory(0));
+            };
+            if lines.push(line).is_err() {
+                return Err(RunError::no_memory(0));
             }
         }
         Ok(LineTable { rodeo, lines })

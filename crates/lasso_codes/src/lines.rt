@@ -55,7 +55,13 @@ pub fn text_in<'a>(
 fn is_let_in(only_utf8: bool, line: &Line<'_>) -> bool
     ensures { result ≡ is_let_in only_utf8 line.now }
 {
-    !only_utf8 || line.text().is_ok()
+    if !only_utf8 {
+        return true;
+    }
+    match line.text() {
+        Ok(_) => true,
+        Err(_) => false,
+    }
 }
 
 /// Interns the text of the line with this number, the next one of `batch`, and returns whether it is new.

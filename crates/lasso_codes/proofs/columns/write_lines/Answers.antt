@@ -6,29 +6,29 @@ use Rattle.lasso_codes.specs.Distinct.{with_feed}
 use Rattle.lasso_codes.specs.Streams.{Writes, WritesAll}
 use Rattle.lasso_codes.proofs.Flat.{flat_then, flat_fails}
 use Rattle.lasso_codes.proofs.Written.{writes_then}
-use Rattle.lasso_codes.proofs.columns.write_texts.Goals as goal
+use Rattle.lasso_codes.proofs.columns.write_lines.Goals as goal
 
 pub returns-in_err-write_line-clause-written : goal.returns-in_err-write_line-clause-written
 returns-in_err-write_line-clause-written g c =
     let p = err_from_is_err_and c.from_residual.result c.from_residual.ensures.1 in
-    let texts = c.args.rodeo.now.texts in
+    let texts = c.args.table.now in
     let i = c.loop-position.position in
-    let text = c.text_at.result.now in
+    let text = c.at.result.now in
     let error = c.in_err-write_line.field-0.0 in
-    let line = subst (λ t. Writes c.loop-position.output.written c.write_line.new.output.written (WritesAll (t ++ 10 ∷ []) (Err error))) c.as_bytes.ensures.value c.in_err-write_line.ensures.written in
+    let line = c.in_err-write_line.ensures.written in
     rw (p.1, p.2) (writes_then _ _ _ (λ part. part ≡ flat_map with_feed (take i texts)) (WritesAll (with_feed text) (Err error)) (WritesAll (flat_map with_feed texts) (Err error)) c.loop-position.invariant.written line (λ part more is w.
-    flat_fails with_feed texts i text (take_more_at texts i text c.text_at.ensures) part more error is w))
+    flat_fails with_feed texts i text (take_more_at texts i text c.at.ensures) part more error is w))
 
 pub loop-position-preserved : goal.loop-position-preserved
 loop-position-preserved g c =
-    let texts = c.args.rodeo.now.texts in
+    let texts = c.args.table.now in
     let i = c.loop-position.position in
-    let text = c.text_at.result.now in
-    let line = subst (λ t. Writes c.loop-position.output.written c.write_line.new.output.written (λ part. part ≡ t ++ 10 ∷ [])) c.as_bytes.ensures.value c.in_ok-write_line.ensures.written in
+    let text = c.at.result.now in
+    let line = c.in_ok-write_line.ensures.written in
     record {
       written =
           writes_then _ _ _ (λ part. part ≡ flat_map with_feed (take i texts)) (λ part. part ≡ with_feed text) _ c.loop-position.invariant.written line (λ part more is one.
-          flat_then with_feed texts i text (take_more_at texts i text c.text_at.ensures) part more is one);
+          flat_then with_feed texts i text (take_more_at texts i text c.at.ensures) part more is one);
       writes = omega (arith, c.in_ok-write_line.ensures.writes, c.loop-position.invariant.writes);
       gone = omega (arith, c.in_ok-write_line.ensures.gone, c.loop-position.invariant.gone);
     }
