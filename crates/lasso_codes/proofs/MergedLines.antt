@@ -121,7 +121,7 @@ head_fit : (null : Option Text) (list : List Text) (head : Option (Header × Lis
 head_fit null list None rest rest' few found e e' = absurd (cc)
 head_fit null list (Some head) rest rest' few found e e' = texts_fit null list head.0 (texts_from head.0.distinct [] head.1) rest rest' few found e e'
 
--- the texts of a dictionary are UTF-8
+-- the texts of a dictionary have no line feed
 read_plain : (n : ℕ) (bytes : List ℕ) (read : ReadTexts) → texts_from n [] bytes ≡ read → ArePlain (read_list read)
 read_plain n bytes (Err error) e = tt
 read_plain n bytes (Ok texts) e = texts_plain n [] bytes texts e tt
@@ -150,7 +150,7 @@ module _ (null : Option Text) (before dictionary : List Text) where
   old_lines entries lines are =
       subst (λ (ts : List Text). AreLinesOf null ts entries lines) (sym grown) (lines_stay null (distinct_of before) (new_texts (distinct_of before) dictionary) entries lines are)
 
--- the entries stand for the lines, the texts are UTF-8, and the same bytes are left
+-- the entries stand for the lines, the texts have no line feed, and the same bytes are left
 abbrev AllFit : Option Text → List Text → List (Option ℕ) → List Text → List ℕ → List ℕ → Type 0
 AllFit null texts entries lines rest rest' = AreLinesOf null (distinct_of texts) entries lines × ArePlain texts × (rest ≡ rest')
 

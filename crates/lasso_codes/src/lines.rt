@@ -38,6 +38,7 @@ pub fn text_in<'a>(
         (λ text. IsLetIn rule.only_utf8 line.now × (cow_str_bytes text ≡ text_of line.now))
         (IsNotLetIn rule.only_utf8 line.now number) }
 {
+    let _bytes = line.bytes();
     if !is_let_in(rule.only_utf8, line) {
         return Err(LineError::NotText(number));
     }

@@ -5,7 +5,6 @@
 ghost use Rattle.std.specs.Prelude.{◌≡◌, ◌≤◌, true, false, IfOk, IsOkAnd, MatchOption, length};
 ghost use Rattle.std.specs.Cow.{cow_slice_items, cow_str_bytes, IsBorrowedSlice, IsBorrowedStr};
 ghost use Rattle.std.specs.String.{string_bytes};
-ghost use Rattle.hex.specs.Hex.{IsBytes};
 ghost use Rattle.lasso_input.specs.Texts.{escaped, is_marked, is_own_text, line_of, text_of};
 
 use crate::line::Line;
@@ -28,12 +27,10 @@ const MARK_BYTES: [u8; 4] = [0xF4, 0x8F, 0xBF, 0xBF];
 pub fn text_of<'a, A: Allocator>(alloc: A, line: &Line<'a>) -> Result<CowStr<'a, A>, AllocError>
     ensures text { IfOk result (λ text. cow_str_bytes text ≡ text_of line.now) }
     ensures own { is_own_text line.now ≡ true → IsOkAnd result IsBorrowedStr }
-    ensures bytes { IsBytes line.now }
 {
-    let bytes = line.bytes();
     match own_text(line) {
         Some(text) => Ok(CowStr::Borrowed(text)),
-        None => Ok(CowStr::Owned(escape(alloc, bytes)?)),
+        None => Ok(CowStr::Owned(escape(alloc, line.bytes())?)),
     }
 }
 
