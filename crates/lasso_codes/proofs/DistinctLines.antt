@@ -5,7 +5,7 @@
 -- the report of all, and what is written after each line is the report so far. A run that ends early has
 -- written the report of the lines before, or a beginning of it.
 use Rattle.std.proofs.Common.{ℕ, ◌≡◌, ◌+◌, List, [], ◌∷◌, ◌++◌, length, take, drop, Option, Some, Bool, true, false, cond, is_some, Result, Ok, Err, ◌⊎◌, refl, sym, ap, subst, ◌∙◌, append_assoc, inl, inr, ◌-◌, ◌^◌, ◌≤◌, arith}
-use Rattle.std.specs.Prelude.{flat_map, slice_get, IsSomeAnd}
+use Rattle.std.specs.Prelude.{flat_map, All, slice_get, IsSomeAnd}
 use Rattle.std.specs.Io.{StopsAt}
 use Rattle.hex.specs.Hex.{IsBytes}
 use Rattle.std.proofs.lemmas.List.{append-nil, take-append-drop}
