@@ -35,7 +35,7 @@ returns-then-next-distinct-clause-taken g c = λ bytes e.
     let then = c.in_ok-next.ensures.added bytes hand.0 so_far in
     let left = drop c.in_ok-next.used shown ++ hand.0 in
     let known = left_after _ _ _ shown hand.0 ahead.0 c.in_ok-next.used c.buffered-shown.ensures.value c.consume.ensures.left ahead.1 hand.1 in
-    (left, known, subst (λ n. texts_from n [] bytes ≡ Ok (c.add_texts.new.rodeo.texts, left)) c.if-next-distinct.true then.read)
+    (left, known, (then.done, subst (λ n. texts_from n [] bytes ≡ Ok (then.done, left)) c.if-next-distinct.true then.read, then.are_bytes, then.texts))
 
 pub returns-then-next-distinct-clause-list : goal.returns-then-next-distinct-clause-list
 returns-then-next-distinct-clause-list g c = c.in_ok-next.ensures.list c.args.rodeo.now c.loop-count.invariant.list
@@ -112,4 +112,4 @@ returns-clause-taken g c = λ bytes e.
     let at = c.loop-count in
     let ahead = at.invariant.ahead bytes e in
     let all : at.count ≡ c.args.distinct = omega (arith, c.loop-count-test.false, at.invariant.within) in
-    (ahead.0, ahead.1, subst (λ n. texts_from n [] bytes ≡ Ok (at.rodeo.texts, ahead.0)) all ahead.2.read)
+    (ahead.0, ahead.1, (ahead.2.done, subst (λ n. texts_from n [] bytes ≡ Ok (ahead.2.done, ahead.0)) all ahead.2.read, ahead.2.are_bytes, ahead.2.texts))
