@@ -9,6 +9,7 @@ mod groups;
 mod hashing;
 pub mod key_slots;
 mod lists;
+mod old_texts;
 mod probe;
 mod table;
 mod vacancy;

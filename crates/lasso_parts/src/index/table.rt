@@ -8,6 +8,7 @@ ghost use Rattle.lasso_parts.specs.Texts.{Fits};
 use crate::index::hashing::hash_text;
 use crate::index::key_slots::KeySlots;
 use crate::index::lists::Texts;
+use crate::index::old_texts::OldHashes;
 use crate::index::probe::{free_slot, tag_of};
 use crate::keys::Key;
 use std::alloc::{AllocError, Allocator};
@@ -99,9 +100,11 @@ fn refill<K: Key, A: Allocator, T: Texts, S: BuildHasher>(
     ensures len { length slots.new.slots ≡ length slots.old.slots }
     ensures refilled { IsRefilled (text_hash S.build_hasher S.Hasher.write S.Hasher.finish hasher.now) (T.list texts.now) slots.new (Holds old.now.slots) (used old.now.slots) }
 {
+    let mut hashes = OldHashes::new();
     for j in 0..old.len() {
         if let Some(key) = old.get(j) {
-            enter_again(slots, key, texts, hasher);
+            let hash = hashes.hash_at(old, j, texts, hasher);
+            enter(slots, hash, key);
         }
     }
 }
