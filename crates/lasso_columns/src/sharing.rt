@@ -106,7 +106,7 @@ struct Part {
     codes: LassoResult<Vec<u32>>,
 }
 
-// Interns the texts with a new pass.
+// Interns the texts with a new pass, which keeps hints: so texts that it met before take no lock.
 fn encode_part<R: AllocGlobal + Wait, S: BuildHasher + Drop>(
     rt: &R,
     rodeo: &ThreadedRodeo<Spur, S>,
@@ -114,7 +114,7 @@ fn encode_part<R: AllocGlobal + Wait, S: BuildHasher + Drop>(
 ) -> Part
     ensures { IsPartOf rodeo.now (map (λ t. t.now) texts.now) result.known result.codes }
 {
-    let mut pass = rodeo.pass();
+    let mut pass = rodeo.pass_with_hints(rt.alloc());
     let codes = encode_by(rt, rodeo, &mut pass, texts);
     Part {
         known: pass.snapshot(),

@@ -101,7 +101,7 @@ fn lower(lowest: Option<NumberedError>, other: &NumberedError) -> NumberedError
     }
 }
 
-// Interns the worker's lines with a new pass.
+// Interns the worker's lines with a new pass, which keeps hints: so lines that it met before take no lock.
 fn intern_share<R: AllocGlobal + Wait, G: Gate>(
     rt: &R,
     rodeo: &SpurThreadedRodeo,
@@ -113,7 +113,7 @@ fn intern_share<R: AllocGlobal + Wait, G: Gate>(
     requires { 0 < workers }
     ensures { IsShareOf rodeo.now (map (λ t. t.now) lines.now) worker workers result.known result.codes }
 {
-    let mut pass = rodeo.pass();
+    let mut pass = rodeo.pass_with_hints(rt.alloc());
     let codes = intern_by(rt, rodeo, &mut pass, lines, worker, workers, gate);
     Share {
         known: pass.snapshot(),
