@@ -1,6 +1,6 @@
 """Prints the table of batches from lines `INPUT WHAT NANOSECONDS` on standard input, one for each round: the least and the middle of the
 rounds, the ratio of both to what stands in the last column, and the goal of the ratio of the least. WHAT is how many lines a batch has, 0 for
-all of them, or a call of `lasso_bench columns`."""
+all of them, or a call of `tool_bench columns`."""
 
 import sys
 from statistics import median

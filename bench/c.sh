@@ -1,5 +1,5 @@
 # The table of batches that C interns, beside `encode` in Rattle, and that of a pandas column. A part of bench/run, which names the folders,
-# makes the inputs and builds lasso_bench.
+# makes the inputs and builds tool_bench.
 
 BATCHES=$OUT/batches
 C_NAMES="rows distinct"

@@ -114,22 +114,31 @@ END
     rm -rf "$folder"
 }
 
-# A verb with four workers, beside the same with one. Where both don't write the same bytes it stops.
-measure_four() {
-    local lines=$OUT/inputs/ten
-    "$CODES" "$@" --workers 1 < "$lines" > "$OUT/codes.right"
-    "$CODES" "$@" --workers 4 < "$lines" | cmp - "$OUT/codes.right"
-    "$CODES" "$@" < "$lines" | cmp - "$OUT/codes.right"
-    rm -f "$OUT/codes.right"
-    time_commands "$1 --workers 4, ten" << END
-ours - exec $CODES $* --workers 4 < $lines
-one_worker 0.50 exec $CODES $* --workers 1 < $lines
-no_workers - exec $CODES $* < $lines
+# A verb with its options, with four workers compared with one, over inputs, each after the goal of the ratio; and with two on `ten`. Where they
+# don't write the same bytes it stops.
+measure_workers() {
+    local verb=$1 goal name lines count
+    while read -r goal name; do
+        lines=$OUT/inputs/$name
+        "$CODES" $verb < "$lines" > "$OUT/codes.right"
+        for count in 1 2 4; do
+            "$CODES" $verb --workers "$count" < "$lines" | cmp - "$OUT/codes.right"
+        done
+        rm -f "$OUT/codes.right"
+        time_commands "$verb, 4, $name" << END
+ours - exec $CODES $verb --workers 4 < $lines
+one_worker $goal exec $CODES $verb --workers 1 < $lines
 END
+        [ "$name" = ten ] || continue
+        time_commands "$verb, 2, $name" << END
+ours - exec $CODES $verb --workers 2 < $lines
+one_worker 0.85 exec $CODES $verb --workers 1 < $lines
+END
+    done
 }
 
 measure_codes() {
-    local name
+    local name verb
     need "$MAWK" mawk
     make_long_inputs
     rustc -O --edition 2021 -o "$CODES_STANDARD" bench/baseline/codes.rs
@@ -142,6 +151,8 @@ measure_codes() {
             measure_merge "$name"
         done
     fi
-    ! has counts --workers 4 || measure_four counts
-    ! has encode --workers 4 || measure_four encode --binary
+    ! has counts --workers 4 || printf '%s\n' '0.42 ten' '0.50 large' '0.55 few' '0.75 zipf' '1.05 distinct' '1.05 long' | measure_workers counts
+    for verb in 'encode --binary' encode; do
+        ! has encode --workers 4 || printf '%s\n' '0.40 ten' '0.42 large' '0.45 few' '0.60 zipf' '1.05 distinct' '1.05 long' | measure_workers "$verb"
+    done
 }

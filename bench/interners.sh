@@ -1,7 +1,7 @@
 # The tables of interners that threads share, beside those that Rust has. A part of bench/run, which names the folders, builds
 # over the system's packages of Rust crates, makes the inputs, and takes the peak of a program's memory.
 
-OURS_SHARED="$PWD/crates/lasso_bench/out/lasso_bench"
+OURS_SHARED="$PWD/crates/tool_bench/out/tool_bench"
 INTERNERS=$OUT/interners/release/interners
 RIVALS="maps locked list lockless"
 SHARED_NAMES="zipf distinct few"

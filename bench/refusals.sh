@@ -1,6 +1,6 @@
 # What `bench/refusals` does with a script.
 
-# The text in hexadecimal digits, as lasso_replay reads it.
+# The text in hexadecimal digits, as tool_replay reads it.
 digits() {
     if [ -z "$1" ]; then
         printf -- -
@@ -215,11 +215,11 @@ lines_with_workers() {
 }
 
 # Whether a program of so many words was refused memory at a line, and wrote the answers to the lines before it, with workers nothing, and
-# no more. At number 0 no line was at hand.
+# no more. Without a number no line was at hand.
 ends_at_line() {
     local lines
     [ "$status" -eq 1 ] && [[ $(< "$OUT/error") =~ $LINES_ERROR ]] || return 1
-    lines=$((BASH_REMATCH[1] > 0 && $1 == 1 ? BASH_REMATCH[1] - 1 : 0))
+    lines=$((BASH_REMATCH[2] > 0 && $1 == 1 ? BASH_REMATCH[2] - 1 : 0))
     head -n "$lines" "$OUT/worked" | cmp -s - "$OUT/answers"
 }
 
@@ -267,13 +267,12 @@ codes() {
     [ "$CODES_PROGRAM" != - ] || return 0
     filter_in_turn "ends_verb $1" "$CODES_PROGRAM" "$@"
     for place in "${needed[@]}"; do
-        grep -qx "$place: $NO_MEMORY" "$OUT/ends" || fail "memory was never wanting at $place"
+        grep -qx "${place:+$place: }$NO_MEMORY" "$OUT/ends" || fail "memory was never wanting at $place"
     done
 }
 
-# The same with two workers, which do a part again for which there is no memory: memory has to be wanting at no line.
+# The same with two workers: the first thread encodes a short input alone.
 codes_with_workers() {
-    local needed=('line 0')
     codes "$@" --workers 2
 }
 
@@ -281,7 +280,7 @@ codes_with_workers() {
 ends_verb() {
     local verb=$1 place number text
     [ "$status" -eq 1 ] && [[ $(< "$OUT/error") =~ $CODES_ERROR ]] || return 1
-    place=${BASH_REMATCH[2]} number=${BASH_REMATCH[3]} text=${BASH_REMATCH[5]}
+    place=${BASH_REMATCH[2]:-line} number=${BASH_REMATCH[3]:-0} text=${BASH_REMATCH[5]}
     case $verb-$place in
         distinct-line)
             [ -z "$text" ] && has_lines "$number" && lines_before "$number" | awk '!seen[$0]++' | cmp -s - "$OUT/answers"

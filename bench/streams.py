@@ -1,6 +1,7 @@
 #!/usr/bin/env python3
 """Writes odd inputs into the folder that is given, and beside each what lasso_lines has to write: NAME, NAME.report, NAME.ordered. Beside
-the shorter ones also what lasso_codes has to write: NAME.distinct, NAME.counts, NAME.encode.
+the shorter ones also what lasso_codes has to write: NAME.distinct, NAME.counts, NAME.encode. Of `blocks`, which several workers share, there is
+that alone.
 
 Prints the names of the shorter inputs. No byte of an answer comes from either program: it is worked out from the lines by a dictionary, a
 sort and lasso's rule for the sizes of buckets.
@@ -36,6 +37,11 @@ def shorter():
     for length in (65_535, 65_536, 65_537):
         for name, form in FORMS.items():
             yield f"{name}_{length}", form.replace(b"X", line_of(length))
+
+
+def blocks():
+    """Lines of which most repeat; one in 60 is new, and comes again."""
+    return b"".join(b"line %d\n" % (number // 60 - number % 60 * 3 if number > 10_800 else number % 7) for number in range(180_000))
 
 
 def lines_of(text):
@@ -91,14 +97,20 @@ def write(folder, name, text):
     (folder / f"{name}.ordered").write_bytes(ordered(lines))
 
 
+def write_codes(folder, name, text):
+    for verb, answer in codes_answers(lines_of(text)).items():
+        (folder / f"{name}.{verb}").write_bytes(answer)
+
+
 def main():
     folder = Path(sys.argv[1])
     folder.mkdir(parents=True, exist_ok=True)
     for name, text in shorter():
         write(folder, name, text)
-        for verb, answer in codes_answers(lines_of(text)).items():
-            (folder / f"{name}.{verb}").write_bytes(answer)
+        write_codes(folder, name, text)
         print(name)
+    (folder / "blocks").write_bytes(blocks())
+    write_codes(folder, "blocks", blocks())
     write(folder, "long", b"b\n" + line_of(LONG) + b"\nA\n")
     write(folder, "long_alone", line_of(LONG))
 

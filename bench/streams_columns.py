@@ -93,7 +93,7 @@ def read_entry(source, binary, number):
     if word == b"-":
         return None
     if not is_number(word):
-        raise Fault(f"entry {number} is no code")
+        raise Fault(f"entry {number} is not a code")
     return int(word)
 
 

@@ -1,4 +1,5 @@
 """Texts that cases are made of. Each is worked out from how its lines are made, never by a program of the repository."""
+import collections
 import re
 
 PAST = "Lasso encountered an error: The configured memory limit was reached"
@@ -55,3 +56,26 @@ class Shape(Lines):
 
     def __init__(self, texts, times, length):
         super().__init__([letters(length, text) for text in range(texts)], times)
+
+
+class Numbered:
+    """Lines of 100 bytes that are the texts with these numbers, of which each first comes after all that are smaller; and what lasso_codes writes
+    for them."""
+
+    SIZE = 100
+
+    def __init__(self, numbers):
+        self.numbers = numbers
+        self.texts = [(b"%d %s" % (text, letters(self.SIZE)))[: self.SIZE - 1] + b"\n" for text in range(max(numbers) + 1)]
+        times = collections.Counter(numbers)
+        ranked = sorted(times, key=lambda text: (-times[text], self.texts[text]))
+        self.lines = each(numbers, self.texts.__getitem__)
+        self.counts = each(ranked, lambda text: b"%d %s" % (times[text], self.texts[text]))
+        self.column = column(len(self.texts), len(numbers)) + b"".join(self.texts) + each(numbers, lambda text: b"%d\n" % text)
+        self.binary = column(len(self.texts), len(numbers), "binary") + b"".join(self.texts) + each(numbers, code)
+        others = column(len(self.texts) - 1, len(numbers)) + b"".join(self.texts[1:])
+        self.first_as_null = others + each(numbers, lambda text: b"%d\n" % (text - 1) if text else b"-\n")
+
+    def with_line(self, line, other):
+        """The lines with another one in place of this one. Lines are numbered from 1."""
+        return self.lines[: (line - 1) * self.SIZE] + other + b"\n" + self.lines[line * self.SIZE :]

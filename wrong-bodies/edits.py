@@ -157,15 +157,15 @@ def test_names(edit):
         if not any(module in path for path in named for module in modules[:1] or [""]):
             raise Unfit(f"{edit.crate}/{edit.name}: {crate} has no test {test}")
     for program, case in edit.cases:
-        if program == "lasso_replay" and has_script(case):
+        if program == "tool_replay" and has_script(case):
             continue
         if not any(has_line(path, f"case {case}") for path in glob.glob(f"{HERE}/cases/{program}/*.txt")):
             raise Unfit(f"{edit.crate}/{edit.name}: {program} has no case {case}")
 
 
 def has_script(name):
-    """Whether the stored input of lasso_replay has a script of this name."""
-    with open(f"{HERE}/crates/lasso_replay/stdin", encoding="utf-8") as scripts:
+    """Whether the stored input of tool_replay has a script of this name."""
+    with open(f"{HERE}/crates/tool_replay/stdin", encoding="utf-8") as scripts:
         return any(line.startswith(f"script {name} ") for line in scripts)
 
 

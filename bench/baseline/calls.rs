@@ -1,5 +1,5 @@
 //! How long single calls take in one round, as a Rust programmer writes an interner over std, and an index of a
-//! `Vec<Box<str>>` at random positions, over the texts of `lasso_bench round`. Prints for each count of texts the nanoseconds
+//! `Vec<Box<str>>` at random positions, over the texts of `tool_bench round`. Prints for each count of texts the nanoseconds
 //! of a call.
 mod opaque;
 mod positions;

@@ -1,6 +1,6 @@
 //! Random positions of texts, which may repeat.
 
-/// So many draws of a position below the count, the same as `lasso_bench` draws. Each is drawn by itself, so that a
+/// So many draws of a position below the count, the same as `tool_bench` draws. Each is drawn by itself, so that a
 /// position may come more than once or not at all.
 pub fn random_positions(count: u32, draws: u32) -> Vec<u32> {
     let mut state = 0u64;

@@ -1,5 +1,5 @@
 //! How long it takes to clear a `HashMap<Box<str>, u32>` of std and to fill it with the same texts, round after round,
-//! beside a new one for each round, over the texts of `lasso_bench refill`. Prints lines of what is timed, the number of
+//! beside a new one for each round, over the texts of `tool_bench refill`. Prints lines of what is timed, the number of
 //! texts, and the nanoseconds of a text.
 mod opaque;
 

@@ -1,4 +1,4 @@
-//! One round of single calls of a pool of texts, over the same texts in the same order as in `lasso_bench round`. The programs
+//! One round of single calls of a pool of texts, over the same texts in the same order as in `tool_bench round`. The programs
 //! that time calls share this file, and each uses a part of it.
 #![allow(dead_code)]
 
@@ -11,7 +11,7 @@ pub const COUNTS: [u32; 4] = [10_000, 90_000, 100_000, 1_000_000];
 /// How many texts there are, and the bytes of each, where `lasso_proved` is measured.
 pub const SIZES: [(u32, usize); 3] = [(100_000, 7), (100_000, 35), (10_000, 7)];
 
-/// The same of `lasso_bench sizes`.
+/// The same of `tool_bench sizes`.
 pub const ALL_SIZES: [(u32, usize); 9] = [
     (10_000, 7),
     (10_000, 35),

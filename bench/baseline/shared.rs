@@ -1,5 +1,5 @@
 //! How long it takes threads to read texts of one list at once, behind a lock and in a plain list, over the same texts
-//! and at the same positions as `lasso_bench` reads them from the log of a shared interner. Prints lines of the list, the call, the
+//! and at the same positions as `tool_bench` reads them from the log of a shared interner. Prints lines of the list, the call, the
 //! number of threads or of texts, and the nanoseconds that a call takes each thread.
 mod opaque;
 mod positions;

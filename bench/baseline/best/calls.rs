@@ -1,5 +1,5 @@
-//! How long single calls take in one round, over the same texts in the same order as in `lasso_bench round`, or with the
-//! word `sizes` as in `lasso_bench sizes`. The first word says which hash: `fx`, `ahash` or `fold`. Prints for each count of
+//! How long single calls take in one round, over the same texts in the same order as in `tool_bench round`, or with the
+//! word `sizes` as in `tool_bench sizes`. The first word says which hash: `fx`, `ahash` or `fold`. Prints for each count of
 //! texts, and each size, the nanoseconds of a call.
 #[path = "../opaque.rs"]
 mod opaque;

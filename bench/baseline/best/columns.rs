@@ -1,4 +1,4 @@
-//! A column at a time, as `lasso_bench columns` does it, over the lines of standard input: the codes of all lines, from texts that were
+//! A column at a time, as `tool_bench columns` does it, over the lines of standard input: the codes of all lines, from texts that were
 //! cut before and from the bytes as they are, the texts of the codes, and the codes of one dictionary in another. The word says which
 //! hash: `fx`, `ahash` or `fold`. Prints the nanoseconds of a text in one round.
 #[path = "../opaque.rs"]

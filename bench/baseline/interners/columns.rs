@@ -1,4 +1,4 @@
-//! The codes of all lines of standard input by 1 to 4 threads over one interner of two maps of `dashmap`, as `lasso_bench columns` has
+//! The codes of all lines of standard input by 1 to 4 threads over one interner of two maps of `dashmap`, as `tool_bench columns` has
 //! them by a `ThreadedRodeo`. Prints the nanoseconds of a text in one round.
 #[cfg(feature = "maps")]
 mod arena;

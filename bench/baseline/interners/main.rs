@@ -1,4 +1,4 @@
-//! Interners that threads share, over the lines of standard input: the same work as `lasso_bench interners` and `lasso_bench fill`.
+//! Interners that threads share, over the lines of standard input: the same work as `tool_bench interners` and `tool_bench fill`.
 //! The first word says which interner: `maps` (two maps of `dashmap`), `locked` (a map and a list of std behind one lock), `list` (one
 //! list behind one plain lock) or `lockless` (the same list without that lock). The second says what to do: `round` prints the
 //! nanoseconds that a call takes each thread in one round, `fill` interns each line as it is read, and prints how many texts there are.

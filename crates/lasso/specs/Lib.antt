@@ -29,7 +29,7 @@ pub use Rattle.lasso_single.specs.Intern
 pub use Rattle.lasso_single.specs.Interner
 pub use Rattle.lasso_single.specs.Json as JsonReads
 pub use Rattle.lasso_single.specs.KeyLists
-pub use Rattle.lasso_single.specs.Words
+pub use Rattle.lasso_single.specs.KeywordLists
 pub use Rattle.lasso_log.specs.Calls
 pub use Rattle.lasso_log.specs.Events
 pub use Rattle.lasso_log.specs.History

@@ -12,12 +12,8 @@ ghost use Rattle.lasso.specs.Interning.{InternsAmong, InternsStaticAmong};
 mod boxed;
 mod exclusive;
 mod frozen;
-pub mod holders;
-pub mod laws;
 mod lent;
 mod lent_mut;
-pub mod meanings;
-pub mod object_laws;
 mod objects;
 mod shared;
 
@@ -26,7 +22,7 @@ use lasso_parts::util::LassoResult;
 pub use objects::{SpurInterner, SpurReader, SpurResolver};
 use std::sync::Wait;
 
-/// What gives the texts of keys.
+/// Resolves keys to texts.
 pub trait Resolver<K: Key> {
     // the texts in the order of their keys, where the value has a list of its own
     ghost meaning: { Self → Option (List Text) };
@@ -65,7 +61,7 @@ pub trait Resolver<K: Key> {
     }
 }
 
-/// What finds the keys of texts too.
+/// Finds the keys of texts too.
 pub trait Reader<K: Key>: Resolver<K> {
     /// The key of the text, or `None` if it is absent.
     fn get<R: Wait>(&self, rt: &R, text: &str) -> Option<K>
@@ -76,7 +72,7 @@ pub trait Reader<K: Key>: Resolver<K> {
         ensures { IfSome (Self.meaning self.now) (λ texts. result ≡ is_some (position_of texts text.now)) };
 }
 
-/// What interns texts too.
+/// Interns texts too.
 pub trait Interner<K: Key>: Reader<K> {
     /// Returns the text's key, and appends the text first if it is new. Interning a present text never fails.
     /// A new text fails when the key type has no key for its position (`KeySpaceExhaustion`), else when it
@@ -107,7 +103,7 @@ pub trait Interner<K: Key>: Reader<K> {
     }
 }
 
-/// What freezes to a reader.
+/// Freezes to a reader.
 pub trait IntoReader<K: Key>: Interner<K> + Sized {
     /// The frozen form.
     type Reader: Reader<K>;
@@ -124,7 +120,7 @@ pub trait IntoReader<K: Key>: Interner<K> + Sized {
         ensures refused { IfErr result (λ error. error ≡ FailedAllocation) };
 }
 
-/// What freezes to a resolver.
+/// Freezes to a resolver.
 pub trait IntoResolver<K: Key>: Reader<K> + Sized {
     /// The frozen form.
     type Resolver: Resolver<K>;
@@ -141,5 +137,5 @@ pub trait IntoResolver<K: Key>: Reader<K> + Sized {
         ensures refused { IfErr result (λ error. error ≡ FailedAllocation) };
 }
 
-/// What freezes to either.
+/// Freezes to a reader or to a resolver.
 pub trait IntoReaderAndResolver<K: Key>: IntoReader<K> + IntoResolver<K> {}

@@ -50,6 +50,7 @@
 #![tactic(auto)]
 
 pub mod interface;
+pub mod keyed;
 pub mod laws;
 
 pub use interface::{
@@ -57,7 +58,7 @@ pub use interface::{
     SpurReader, SpurResolver,
 };
 pub use lasso_log::log::{Pass, Snapshot};
-pub use lasso_log::{log, shared_arena};
+pub use lasso_log::{log, shared_memory};
 pub use lasso_parts::iter::{Iter, Strings};
 pub use lasso_parts::json::{JsonError, JsonKey};
 pub use lasso_parts::keys::{Key, LargeSpur, MicroSpur, MiniSpur, Spur};
@@ -68,11 +69,11 @@ pub use lasso_parts::{arena, bucket, entries, index, iter, json, keys, util};
 pub use lasso_shared::threaded::{SpurThreadedRodeo, ThreadedRodeo};
 pub use lasso_shared::{machine, shards, threaded};
 pub use lasso_single::commands::{Command, Reply, run_commands};
+pub use lasso_single::keyword_lists::{are_distinct, have_keys};
 pub use lasso_single::reader::RodeoReader;
 pub use lasso_single::resolver::RodeoResolver;
 pub use lasso_single::rodeo::Rodeo;
-pub use lasso_single::words::{are_distinct, have_keys};
-pub use lasso_single::{commands, reader, resolver, rodeo, words};
+pub use lasso_single::{coding, commands, keyword_lists, reader, resolver, rodeo};
 use std::alloc::Global;
 
 /// A `Rodeo` with `Spur` keys, the hasher of fixed seed and the global allocator.

@@ -8,7 +8,7 @@ pub mod Rows
 pub mod BatchSteps
 pub mod LayoutSteps
 pub mod Columns
-pub mod SlotValues
+pub mod SeatValues
 pub mod Loading
 pub mod NullsBack
 pub mod Ascii

@@ -1,4 +1,4 @@
--- What a slot owns: the block of its interner, if it holds one.
+-- What a seat owns: the block of its interner, if it holds one.
 use mir.Syntax.{Ty}
 use base.Fml.{Fml, ftrue}
 use denote.RawPtr.{Ptr}
@@ -12,7 +12,7 @@ use Rattle.lasso_c.specs.contracts.seeded.Interner.{the_row}
 abbrev pub freed_by_heap : Ty → Ptr → Fml
 freed_by_heap = ghosts.dealloc_token (record { memory = record { seal = tt } })
 
--- what such a slot owns: nothing, or the block of the interner that it holds
+-- what such a seat owns: nothing, or the block of the interner that it holds
 abbrev pub held : Ptr → Option the_row.Denot → Fml
 held at None = ftrue
 held at (Some interner) = box_owns freed_by_heap the_row at interner

@@ -17,10 +17,10 @@ use crate::layout::{check_layout, first_start, put_text, text_between};
 use crate::nulls::{check_null, fit, is_present};
 use crate::offsets::Offset;
 use crate::status::{DONE, NO_SUCH_CODE};
-use lasso_encode::intern_code_next;
 use lasso_parts::keys::Key;
 use lasso_parts::util::LassoErrorKind;
 use lasso_single::batch::{Batch, get_next};
+use lasso_single::coding::intern_code_next;
 
 // How many rows of a batch were done, and why no more.
 #[derive(Clone, Copy)]

@@ -2,16 +2,16 @@
 ghost use Rattle.std.specs.Prelude.{◌≡◌, None, Some, is_some, option_map};
 ghost use Rattle.std.specs.Borrow.{sem};
 
+use crate::seat::{Block, Seat};
 use crate::seeded::Interner;
-use crate::slot::{Block, Slot};
 use std::alloc::Global;
 
 /// An interner, or none. All zero it is none.
 #[repr(C)]
 pub struct Lasso {
-    pub(crate) slot: Slot,
+    pub(crate) seat: Seat,
     live: bool,
-    ghost agree: { live ≡ is_some slot.value },
+    ghost agree: { live ≡ is_some seat.value },
 }
 
 impl Lasso {
@@ -19,23 +19,23 @@ impl Lasso {
 
     // No interner.
     pub(crate) fn none(alloc: Global) -> Lasso
-        ensures { result.slot.value ≡ None }
+        ensures { result.seat.value ≡ None }
     {
         Lasso {
-            slot: Slot::none(alloc),
+            seat: Seat::none(alloc),
             live: false,
         }
     }
 
     // The interner, if there is one.
     fn into_box(self) -> Option<Box<Interner>>
-        ensures { option_map (λ b. b.value) result ≡ self.slot.value }
+        ensures { option_map (λ b. b.value) result ≡ self.seat.value }
     {
-        let Lasso { slot, live } = self;
+        let Lasso { seat, live } = self;
         if live {
-            return Some(slot.into_box());
+            return Some(seat.into_box());
         }
-        slot.end();
+        seat.end();
         None
     }
 
@@ -43,20 +43,20 @@ impl Lasso {
     #[inline(always)]
     pub(crate) fn interner(&mut self) -> Option<&mut Interner>
         ensures* writes_back { sem 𝓛 (LendsHeld self.entry result) }
-        ensures value { option_map (λ i. i.now) result ≡ self.old.slot.value }
+        ensures value { option_map (λ i. i.now) result ≡ self.old.seat.value }
     {
         if self.live {
-            return Some(self.slot.get_mut());
+            return Some(self.seat.get_mut());
         }
         None
     }
 
     // Holds this interner, and lets go of one that was held.
     pub(crate) fn put(&mut self, alloc: Global, interner: Box<Interner>)
-        ensures { self.new.slot.value ≡ Some interner.value }
+        ensures { self.new.seat.value ≡ Some interner.value }
     {
         *self = Lasso {
-            slot: Slot::of_block(alloc, Block::of(interner)),
+            seat: Seat::of_block(alloc, Block::of(interner)),
             live: true,
         };
     }

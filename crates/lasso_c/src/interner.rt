@@ -29,13 +29,13 @@ use std::alloc::Global;
 /// `NO_MEMORY` out of memory, and the handle is as it was then.
 #[unsafe(no_mangle)]
 pub extern "C" fn lasso_new(alloc: Global, lasso: &mut Lasso, limit: usize) -> u32
-    ensures made { result ≡ DONE → IsSome lasso.new.slot.value }
-    ensures texts { result ≡ DONE → texts_in lasso.new.slot.value ≡ [] }
-    ensures account { result ≡ DONE → account_in lasso.new.slot.value ≡ Some (fresh 4096 limit) }
-    ensures first { result ≡ DONE → first_in lasso.new.slot.value ≡ Some 4096 }
-    ensures seed { result ≡ DONE → IfSome (seed_in lasso.new.slot.value) IsFixed }
+    ensures made { result ≡ DONE → IsSome lasso.new.seat.value }
+    ensures texts { result ≡ DONE → texts_in lasso.new.seat.value ≡ [] }
+    ensures account { result ≡ DONE → account_in lasso.new.seat.value ≡ Some (fresh 4096 limit) }
+    ensures first { result ≡ DONE → first_in lasso.new.seat.value ≡ Some 4096 }
+    ensures seed { result ≡ DONE → IfSome (seed_in lasso.new.seat.value) IsFixed }
     ensures refused { ¬ (result ≡ DONE) → result ≡ NO_MEMORY }
-    ensures kept { ¬ (result ≡ DONE) → lasso.new.slot.value ≡ lasso.old.slot.value }
+    ensures kept { ¬ (result ≡ DONE) → lasso.new.seat.value ≡ lasso.old.seat.value }
 {
     make(alloc, lasso, Capacity::default(), limit, Seed::fixed())
 }
@@ -44,11 +44,11 @@ pub extern "C" fn lasso_new(alloc: Global, lasso: &mut Lasso, limit: usize) -> u
 /// `LIMIT_REACHED`, `NO_CODE_LEFT` or `NO_MEMORY`. Nothing has changed then.
 #[unsafe(no_mangle)]
 pub extern "C" fn lasso_intern(lasso: &mut Lasso, text: &[u8], code: &mut u32) -> u32
-    ensures texts { result ≡ DONE → texts_in lasso.new.slot.value ≡ with_new (texts_in lasso.old.slot.value) text.now }
-    ensures code { result ≡ DONE → position_of (texts_in lasso.new.slot.value) text.now ≡ Some code.new }
-    ensures outcome { TextEnds (is_utf8 text.now) lasso.old.slot.value text.now result lasso.new.slot.value }
-    ensures seed { seed_in lasso.new.slot.value ≡ seed_in lasso.old.slot.value }
-    ensures kept { ¬ (result ≡ DONE) → lasso.new.slot.value ≡ lasso.old.slot.value }
+    ensures texts { result ≡ DONE → texts_in lasso.new.seat.value ≡ with_new (texts_in lasso.old.seat.value) text.now }
+    ensures code { result ≡ DONE → position_of (texts_in lasso.new.seat.value) text.now ≡ Some code.new }
+    ensures outcome { TextEnds (is_utf8 text.now) lasso.old.seat.value text.now result lasso.new.seat.value }
+    ensures seed { seed_in lasso.new.seat.value ≡ seed_in lasso.old.seat.value }
+    ensures kept { ¬ (result ≡ DONE) → lasso.new.seat.value ≡ lasso.old.seat.value }
     ensures code_kept { ¬ (result ≡ DONE) → code.new ≡ code.old }
 {
     let Some(text) = text_of(text) else {
@@ -78,10 +78,10 @@ pub extern "C" fn lasso_intern_batch(
     codes: &mut [u32],
     report: &mut LassoReport,
 ) -> u32
-    ensures outcome { BatchEnds greatest_offset lasso.old.slot.value [] bytes.now offsets.now (length codes.old) result report.new lasso.new.slot.value }
-    ensures texts { texts_in lasso.new.slot.value ≡ with_all_new (texts_in lasso.old.slot.value) (take report.new.texts (layout_texts bytes.now offsets.now)) }
-    ensures codes { codes.new ≡ over (codes_of (texts_in lasso.new.slot.value) (take report.new.texts (layout_texts bytes.now offsets.now))) codes.old }
-    ensures seed { seed_in lasso.new.slot.value ≡ seed_in lasso.old.slot.value }
+    ensures outcome { BatchEnds greatest_offset lasso.old.seat.value [] bytes.now offsets.now (length codes.old) result report.new lasso.new.seat.value }
+    ensures texts { texts_in lasso.new.seat.value ≡ with_all_new (texts_in lasso.old.seat.value) (take report.new.texts (layout_texts bytes.now offsets.now)) }
+    ensures codes { codes.new ≡ over (codes_of (texts_in lasso.new.seat.value) (take report.new.texts (layout_texts bytes.now offsets.now))) codes.old }
+    ensures seed { seed_in lasso.new.seat.value ≡ seed_in lasso.old.seat.value }
     ensures whole { result ≡ DONE → report.new.texts ≡ length (layout_texts bytes.now offsets.now) }
     ensures within { report.new.texts ≤ length (layout_texts bytes.now offsets.now) }
 {
@@ -101,10 +101,10 @@ pub extern "C" fn lasso_intern_batch_nulls(
     codes: &mut [u32],
     report: &mut LassoReport,
 ) -> u32
-    ensures outcome { BatchEnds greatest_offset lasso.old.slot.value present.now bytes.now offsets.now (length codes.old) result report.new lasso.new.slot.value }
-    ensures texts { texts_in lasso.new.slot.value ≡ with_all_new (texts_in lasso.old.slot.value) (present_texts (take report.new.texts (column_rows present.now bytes.now offsets.now))) }
-    ensures codes { codes.new ≡ over (row_codes null (texts_in lasso.new.slot.value) (take report.new.texts (column_rows present.now bytes.now offsets.now))) codes.old }
-    ensures seed { seed_in lasso.new.slot.value ≡ seed_in lasso.old.slot.value }
+    ensures outcome { BatchEnds greatest_offset lasso.old.seat.value present.now bytes.now offsets.now (length codes.old) result report.new lasso.new.seat.value }
+    ensures texts { texts_in lasso.new.seat.value ≡ with_all_new (texts_in lasso.old.seat.value) (present_texts (take report.new.texts (column_rows present.now bytes.now offsets.now))) }
+    ensures codes { codes.new ≡ over (row_codes null (texts_in lasso.new.seat.value) (take report.new.texts (column_rows present.now bytes.now offsets.now))) codes.old }
+    ensures seed { seed_in lasso.new.seat.value ≡ seed_in lasso.old.seat.value }
     ensures whole { result ≡ DONE → report.new.texts ≡ length (layout_texts bytes.now offsets.now) }
     ensures within { report.new.texts ≤ length (layout_texts bytes.now offsets.now) }
 {
@@ -115,10 +115,10 @@ pub extern "C" fn lasso_intern_batch_nulls(
 /// `NO_SUCH_TEXT` if the text is absent, and writes nothing then.
 #[unsafe(no_mangle)]
 pub extern "C" fn lasso_get(lasso: &mut Lasso, text: &[u8], code: &mut u32) -> u32
-    ensures status { result ≡ outcome_status (text_lookup (is_utf8 text.now) lasso.old.slot.value text.now) }
-    ensures found { result ≡ DONE → position_of (texts_in lasso.old.slot.value) text.now ≡ Some code.new }
+    ensures status { result ≡ outcome_status (text_lookup (is_utf8 text.now) lasso.old.seat.value text.now) }
+    ensures found { result ≡ DONE → position_of (texts_in lasso.old.seat.value) text.now ≡ Some code.new }
     ensures code_kept { ¬ (result ≡ DONE) → code.new ≡ code.old }
-    ensures kept { lasso.new.slot.value ≡ lasso.old.slot.value }
+    ensures kept { lasso.new.seat.value ≡ lasso.old.seat.value }
 {
     match find_code(lasso, text) {
         Ok(found) => {
@@ -131,8 +131,8 @@ pub extern "C" fn lasso_get(lasso: &mut Lasso, text: &[u8], code: &mut u32) -> u
 
 // The code of the text, or why there is none.
 fn find_code(lasso: &mut Lasso, text: &[u8]) -> Result<u32, CallError>
-    ensures found { result ≡ text_lookup (is_utf8 text.now) lasso.old.slot.value text.now }
-    ensures kept { lasso.new.slot.value ≡ lasso.old.slot.value }
+    ensures found { result ≡ text_lookup (is_utf8 text.now) lasso.old.seat.value text.now }
+    ensures kept { lasso.new.seat.value ≡ lasso.old.seat.value }
 {
     let Some(text) = text_of(text) else {
         return Err(CallError::NotUtf8(0));
@@ -159,10 +159,10 @@ pub extern "C" fn lasso_get_batch(
     codes: &mut [u32],
     report: &mut LassoReport,
 ) -> u32
-    ensures outcome { Reports (lookup_outcome greatest_offset lasso.old.slot.value bytes.now offsets.now (length codes.old)) result report.new }
-    ensures codes { result ≡ DONE → codes.new ≡ over (codes_or absent (texts_in lasso.old.slot.value) (layout_texts bytes.now offsets.now)) codes.old }
+    ensures outcome { Reports (lookup_outcome greatest_offset lasso.old.seat.value bytes.now offsets.now (length codes.old)) result report.new }
+    ensures codes { result ≡ DONE → codes.new ≡ over (codes_or absent (texts_in lasso.old.seat.value) (layout_texts bytes.now offsets.now)) codes.old }
     ensures codes_kept { ¬ (result ≡ DONE) → codes.new ≡ codes.old }
-    ensures kept { lasso.new.slot.value ≡ lasso.old.slot.value }
+    ensures kept { lasso.new.seat.value ≡ lasso.old.seat.value }
 {
     widths::get_batch(lasso, bytes, offsets, absent, codes, report)
 }
@@ -176,12 +176,12 @@ pub extern "C" fn lasso_resolve(
     text: &mut [u8],
     whole: &mut usize,
 ) -> u32
-    ensures status { result ≡ outcome_status (code_lookup lasso.old.slot.value code) }
-    ensures found { result ≡ DONE → IfSome (slice_get (texts_in lasso.old.slot.value) code) (λ t. (whole.new ≡ length t) × (text.new ≡ over (take (length text.old) t) text.old)) }
-    ensures present { result ≡ DONE → IsSome (slice_get (texts_in lasso.old.slot.value) code) }
+    ensures status { result ≡ outcome_status (code_lookup lasso.old.seat.value code) }
+    ensures found { result ≡ DONE → IfSome (slice_get (texts_in lasso.old.seat.value) code) (λ t. (whole.new ≡ length t) × (text.new ≡ over (take (length text.old) t) text.old)) }
+    ensures present { result ≡ DONE → IsSome (slice_get (texts_in lasso.old.seat.value) code) }
     ensures text_kept { ¬ (result ≡ DONE) → text.new ≡ text.old }
     ensures whole_kept { ¬ (result ≡ DONE) → whole.new ≡ whole.old }
-    ensures kept { lasso.new.slot.value ≡ lasso.old.slot.value }
+    ensures kept { lasso.new.seat.value ≡ lasso.old.seat.value }
 {
     match lasso.interner() {
         Some(interner) => copy_text(&interner.rodeo, code, text, whole),
@@ -200,12 +200,12 @@ pub extern "C" fn lasso_dictionary(
     offsets: &mut [u32],
     report: &mut LassoReport,
 ) -> u32
-    ensures outcome { Reports (dictionary_outcome greatest_offset lasso.old.slot.value from (length offsets.old) (length bytes.old)) result report.new }
-    ensures bytes { result ≡ DONE → bytes.new ≡ over (concat (drop from (texts_in lasso.old.slot.value))) bytes.old }
-    ensures offsets { result ≡ DONE → offsets.new ≡ over (offsets_from 0 (drop from (texts_in lasso.old.slot.value))) offsets.old }
+    ensures outcome { Reports (dictionary_outcome greatest_offset lasso.old.seat.value from (length offsets.old) (length bytes.old)) result report.new }
+    ensures bytes { result ≡ DONE → bytes.new ≡ over (concat (drop from (texts_in lasso.old.seat.value))) bytes.old }
+    ensures offsets { result ≡ DONE → offsets.new ≡ over (offsets_from 0 (drop from (texts_in lasso.old.seat.value))) offsets.old }
     ensures bytes_kept { ¬ (result ≡ DONE) → bytes.new ≡ bytes.old }
     ensures offsets_kept { ¬ (result ≡ DONE) → offsets.new ≡ offsets.old }
-    ensures kept { lasso.new.slot.value ≡ lasso.old.slot.value }
+    ensures kept { lasso.new.seat.value ≡ lasso.old.seat.value }
 {
     widths::dictionary(lasso, from, bytes, offsets, report)
 }
@@ -213,8 +213,8 @@ pub extern "C" fn lasso_dictionary(
 /// How many texts the interner has; 0 without an interner.
 #[unsafe(no_mangle)]
 pub extern "C" fn lasso_len(lasso: &mut Lasso) -> usize
-    ensures value { result ≡ length (texts_in lasso.old.slot.value) }
-    ensures kept { lasso.new.slot.value ≡ lasso.old.slot.value }
+    ensures value { result ≡ length (texts_in lasso.old.seat.value) }
+    ensures kept { lasso.new.seat.value ≡ lasso.old.seat.value }
 {
     let Some(interner) = lasso.interner() else {
         return 0;
@@ -225,9 +225,9 @@ pub extern "C" fn lasso_len(lasso: &mut Lasso) -> usize
 /// How many texts fit before the interner's list of texts grows, at least as many as it has; 0 without an interner.
 #[unsafe(no_mangle)]
 pub extern "C" fn lasso_capacity(lasso: &mut Lasso) -> usize
-    ensures bound { length (texts_in lasso.old.slot.value) ≤ result }
-    ensures none { lasso.old.slot.value ≡ None → result ≡ 0 }
-    ensures kept { lasso.new.slot.value ≡ lasso.old.slot.value }
+    ensures bound { length (texts_in lasso.old.seat.value) ≤ result }
+    ensures none { lasso.old.seat.value ≡ None → result ≡ 0 }
+    ensures kept { lasso.new.seat.value ≡ lasso.old.seat.value }
 {
     let Some(interner) = lasso.interner() else {
         return 0;
@@ -238,9 +238,9 @@ pub extern "C" fn lasso_capacity(lasso: &mut Lasso) -> usize
 /// How many bytes the interner's buckets take; 0 without an interner.
 #[unsafe(no_mangle)]
 pub extern "C" fn lasso_memory(lasso: &mut Lasso) -> usize
-    ensures value { IfSome (account_in lasso.old.slot.value) (λ account. result ≡ account.usage) }
-    ensures none { lasso.old.slot.value ≡ None → result ≡ 0 }
-    ensures kept { lasso.new.slot.value ≡ lasso.old.slot.value }
+    ensures value { IfSome (account_in lasso.old.seat.value) (λ account. result ≡ account.usage) }
+    ensures none { lasso.old.seat.value ≡ None → result ≡ 0 }
+    ensures kept { lasso.new.seat.value ≡ lasso.old.seat.value }
 {
     let Some(interner) = lasso.interner() else {
         return 0;
@@ -251,9 +251,9 @@ pub extern "C" fn lasso_memory(lasso: &mut Lasso) -> usize
 /// How many bytes the interner's buckets may take; 0 without an interner.
 #[unsafe(no_mangle)]
 pub extern "C" fn lasso_limit(lasso: &mut Lasso) -> usize
-    ensures value { IfSome (account_in lasso.old.slot.value) (λ account. result ≡ account.limit) }
-    ensures none { lasso.old.slot.value ≡ None → result ≡ 0 }
-    ensures kept { lasso.new.slot.value ≡ lasso.old.slot.value }
+    ensures value { IfSome (account_in lasso.old.seat.value) (λ account. result ≡ account.limit) }
+    ensures none { lasso.old.seat.value ≡ None → result ≡ 0 }
+    ensures kept { lasso.new.seat.value ≡ lasso.old.seat.value }
 {
     let Some(interner) = lasso.interner() else {
         return 0;
@@ -265,12 +265,12 @@ pub extern "C" fn lasso_limit(lasso: &mut Lasso) -> usize
 /// `NO_INTERNER` without an interner.
 #[unsafe(no_mangle)]
 pub extern "C" fn lasso_set_limit(lasso: &mut Lasso, limit: usize) -> u32
-    ensures texts { texts_in lasso.new.slot.value ≡ texts_in lasso.old.slot.value }
-    ensures account { IfSome (account_in lasso.old.slot.value) (λ account. account_in lasso.new.slot.value ≡ Some (with_limit account limit)) }
-    ensures first { first_in lasso.new.slot.value ≡ first_in lasso.old.slot.value }
-    ensures seed { seed_in lasso.new.slot.value ≡ seed_in lasso.old.slot.value }
-    ensures done { IsSome lasso.old.slot.value → result ≡ DONE }
-    ensures none { lasso.old.slot.value ≡ None → (result ≡ NO_INTERNER) × (lasso.new.slot.value ≡ None) }
+    ensures texts { texts_in lasso.new.seat.value ≡ texts_in lasso.old.seat.value }
+    ensures account { IfSome (account_in lasso.old.seat.value) (λ account. account_in lasso.new.seat.value ≡ Some (with_limit account limit)) }
+    ensures first { first_in lasso.new.seat.value ≡ first_in lasso.old.seat.value }
+    ensures seed { seed_in lasso.new.seat.value ≡ seed_in lasso.old.seat.value }
+    ensures done { IsSome lasso.old.seat.value → result ≡ DONE }
+    ensures none { lasso.old.seat.value ≡ None → (result ≡ NO_INTERNER) × (lasso.new.seat.value ≡ None) }
 {
     let Some(interner) = lasso.interner() else {
         return NO_INTERNER;
@@ -282,12 +282,12 @@ pub extern "C" fn lasso_set_limit(lasso: &mut Lasso, limit: usize) -> u32
 /// Forgets every text. The limit stays, and so do the buckets that are filled again. It returns `NO_INTERNER` without an interner.
 #[unsafe(no_mangle)]
 pub extern "C" fn lasso_clear(lasso: &mut Lasso) -> u32
-    ensures texts { texts_in lasso.new.slot.value ≡ [] }
-    ensures account { IfSome lasso.old.slot.value (λ interner. account_in lasso.new.slot.value ≡ Some (clear interner.rodeo.first interner.rodeo.account)) }
-    ensures first { first_in lasso.new.slot.value ≡ first_in lasso.old.slot.value }
-    ensures seed { seed_in lasso.new.slot.value ≡ seed_in lasso.old.slot.value }
-    ensures done { IsSome lasso.old.slot.value → result ≡ DONE }
-    ensures none { lasso.old.slot.value ≡ None → (result ≡ NO_INTERNER) × (lasso.new.slot.value ≡ None) }
+    ensures texts { texts_in lasso.new.seat.value ≡ [] }
+    ensures account { IfSome lasso.old.seat.value (λ interner. account_in lasso.new.seat.value ≡ Some (clear interner.rodeo.first interner.rodeo.account)) }
+    ensures first { first_in lasso.new.seat.value ≡ first_in lasso.old.seat.value }
+    ensures seed { seed_in lasso.new.seat.value ≡ seed_in lasso.old.seat.value }
+    ensures done { IsSome lasso.old.seat.value → result ≡ DONE }
+    ensures none { lasso.old.seat.value ≡ None → (result ≡ NO_INTERNER) × (lasso.new.seat.value ≡ None) }
 {
     let Some(interner) = lasso.interner() else {
         return NO_INTERNER;
@@ -299,7 +299,7 @@ pub extern "C" fn lasso_clear(lasso: &mut Lasso) -> u32
 /// Lets the interner go, if there is one. The handle holds none then.
 #[unsafe(no_mangle)]
 pub extern "C" fn lasso_free(alloc: Global, lasso: &mut Lasso)
-    ensures { lasso.new.slot.value ≡ None }
+    ensures { lasso.new.seat.value ≡ None }
 {
     *lasso = Lasso::none(alloc);
 }

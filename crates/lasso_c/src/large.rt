@@ -22,10 +22,10 @@ pub extern "C" fn lasso_intern_batch_large(
     codes: &mut [u32],
     report: &mut LassoReport,
 ) -> u32
-    ensures outcome { BatchEnds greatest_large_offset lasso.old.slot.value [] bytes.now offsets.now (length codes.old) result report.new lasso.new.slot.value }
-    ensures texts { texts_in lasso.new.slot.value ≡ with_all_new (texts_in lasso.old.slot.value) (take report.new.texts (layout_texts bytes.now offsets.now)) }
-    ensures codes { codes.new ≡ over (codes_of (texts_in lasso.new.slot.value) (take report.new.texts (layout_texts bytes.now offsets.now))) codes.old }
-    ensures seed { seed_in lasso.new.slot.value ≡ seed_in lasso.old.slot.value }
+    ensures outcome { BatchEnds greatest_large_offset lasso.old.seat.value [] bytes.now offsets.now (length codes.old) result report.new lasso.new.seat.value }
+    ensures texts { texts_in lasso.new.seat.value ≡ with_all_new (texts_in lasso.old.seat.value) (take report.new.texts (layout_texts bytes.now offsets.now)) }
+    ensures codes { codes.new ≡ over (codes_of (texts_in lasso.new.seat.value) (take report.new.texts (layout_texts bytes.now offsets.now))) codes.old }
+    ensures seed { seed_in lasso.new.seat.value ≡ seed_in lasso.old.seat.value }
     ensures whole { result ≡ DONE → report.new.texts ≡ length (layout_texts bytes.now offsets.now) }
     ensures within { report.new.texts ≤ length (layout_texts bytes.now offsets.now) }
 {
@@ -43,10 +43,10 @@ pub extern "C" fn lasso_intern_batch_nulls_large(
     codes: &mut [u32],
     report: &mut LassoReport,
 ) -> u32
-    ensures outcome { BatchEnds greatest_large_offset lasso.old.slot.value present.now bytes.now offsets.now (length codes.old) result report.new lasso.new.slot.value }
-    ensures texts { texts_in lasso.new.slot.value ≡ with_all_new (texts_in lasso.old.slot.value) (present_texts (take report.new.texts (column_rows present.now bytes.now offsets.now))) }
-    ensures codes { codes.new ≡ over (row_codes null (texts_in lasso.new.slot.value) (take report.new.texts (column_rows present.now bytes.now offsets.now))) codes.old }
-    ensures seed { seed_in lasso.new.slot.value ≡ seed_in lasso.old.slot.value }
+    ensures outcome { BatchEnds greatest_large_offset lasso.old.seat.value present.now bytes.now offsets.now (length codes.old) result report.new lasso.new.seat.value }
+    ensures texts { texts_in lasso.new.seat.value ≡ with_all_new (texts_in lasso.old.seat.value) (present_texts (take report.new.texts (column_rows present.now bytes.now offsets.now))) }
+    ensures codes { codes.new ≡ over (row_codes null (texts_in lasso.new.seat.value) (take report.new.texts (column_rows present.now bytes.now offsets.now))) codes.old }
+    ensures seed { seed_in lasso.new.seat.value ≡ seed_in lasso.old.seat.value }
     ensures whole { result ≡ DONE → report.new.texts ≡ length (layout_texts bytes.now offsets.now) }
     ensures within { report.new.texts ≤ length (layout_texts bytes.now offsets.now) }
 {
@@ -63,10 +63,10 @@ pub extern "C" fn lasso_get_batch_large(
     codes: &mut [u32],
     report: &mut LassoReport,
 ) -> u32
-    ensures outcome { Reports (lookup_outcome greatest_large_offset lasso.old.slot.value bytes.now offsets.now (length codes.old)) result report.new }
-    ensures codes { result ≡ DONE → codes.new ≡ over (codes_or absent (texts_in lasso.old.slot.value) (layout_texts bytes.now offsets.now)) codes.old }
+    ensures outcome { Reports (lookup_outcome greatest_large_offset lasso.old.seat.value bytes.now offsets.now (length codes.old)) result report.new }
+    ensures codes { result ≡ DONE → codes.new ≡ over (codes_or absent (texts_in lasso.old.seat.value) (layout_texts bytes.now offsets.now)) codes.old }
     ensures codes_kept { ¬ (result ≡ DONE) → codes.new ≡ codes.old }
-    ensures kept { lasso.new.slot.value ≡ lasso.old.slot.value }
+    ensures kept { lasso.new.seat.value ≡ lasso.old.seat.value }
 {
     widths::get_batch(lasso, bytes, offsets, absent, codes, report)
 }
@@ -80,12 +80,12 @@ pub extern "C" fn lasso_dictionary_large(
     offsets: &mut [u64],
     report: &mut LassoReport,
 ) -> u32
-    ensures outcome { Reports (dictionary_outcome greatest_large_offset lasso.old.slot.value from (length offsets.old) (length bytes.old)) result report.new }
-    ensures bytes { result ≡ DONE → bytes.new ≡ over (concat (drop from (texts_in lasso.old.slot.value))) bytes.old }
-    ensures offsets { result ≡ DONE → offsets.new ≡ over (offsets_from 0 (drop from (texts_in lasso.old.slot.value))) offsets.old }
+    ensures outcome { Reports (dictionary_outcome greatest_large_offset lasso.old.seat.value from (length offsets.old) (length bytes.old)) result report.new }
+    ensures bytes { result ≡ DONE → bytes.new ≡ over (concat (drop from (texts_in lasso.old.seat.value))) bytes.old }
+    ensures offsets { result ≡ DONE → offsets.new ≡ over (offsets_from 0 (drop from (texts_in lasso.old.seat.value))) offsets.old }
     ensures bytes_kept { ¬ (result ≡ DONE) → bytes.new ≡ bytes.old }
     ensures offsets_kept { ¬ (result ≡ DONE) → offsets.new ≡ offsets.old }
-    ensures kept { lasso.new.slot.value ≡ lasso.old.slot.value }
+    ensures kept { lasso.new.seat.value ≡ lasso.old.seat.value }
 {
     widths::dictionary(lasso, from, bytes, offsets, report)
 }

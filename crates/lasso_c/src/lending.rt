@@ -30,8 +30,8 @@ struct Lent<'a> {
 #[unsafe(no_mangle)]
 pub extern "C" fn lasso_text<'a>(lasso: &'a mut Lasso, code: u32, text: &mut LassoText<'a>) -> u32
     ensures* kept { sem 𝓛 (KeepsHeld lasso.entry) }
-    ensures status { result ≡ outcome_status (code_lookup lasso.old.slot.value code) }
-    ensures text { result ≡ DONE → slice_get (texts_in lasso.old.slot.value) code ≡ Some text.new.bytes.now }
+    ensures status { result ≡ outcome_status (code_lookup lasso.old.seat.value code) }
+    ensures text { result ≡ DONE → slice_get (texts_in lasso.old.seat.value) code ≡ Some text.new.bytes.now }
     ensures text_kept { ¬ (result ≡ DONE) → text.new ≡ text.old }
 {
     status_of(lend_text(lasso, code, text))
@@ -41,8 +41,8 @@ pub extern "C" fn lasso_text<'a>(lasso: &'a mut Lasso, code: u32, text: &mut Las
 #[inline(always)]
 fn lend_text<'a>(lasso: &'a mut Lasso, code: u32, text: &mut LassoText<'a>) -> Lent<'a>
     ensures* kept { sem 𝓛 (KeepsHeld lasso.entry) }
-    ensures status { result.status ≡ outcome_status (code_lookup lasso.old.slot.value code) }
-    ensures text { result.status ≡ DONE → slice_get (texts_in lasso.old.slot.value) code ≡ Some text.new.bytes.now }
+    ensures status { result.status ≡ outcome_status (code_lookup lasso.old.seat.value code) }
+    ensures text { result.status ≡ DONE → slice_get (texts_in lasso.old.seat.value) code ≡ Some text.new.bytes.now }
     ensures text_kept { ¬ (result.status ≡ DONE) → text.new ≡ text.old }
 {
     let Some(interner) = lasso.interner() else {
@@ -71,8 +71,8 @@ pub extern "C" fn lasso_texts<'a>(
     texts: &mut [LassoText<'a>],
 ) -> usize
     ensures* kept { sem 𝓛 (KeepsHeld lasso.entry) }
-    ensures count { result ≡ min (length texts.old) (length (texts_in lasso.old.slot.value) - from) }
-    ensures texts { take result (map (λ t. t.bytes.now) texts.new) ≡ take result (drop from (texts_in lasso.old.slot.value)) }
+    ensures count { result ≡ min (length texts.old) (length (texts_in lasso.old.seat.value) - from) }
+    ensures texts { take result (map (λ t. t.bytes.now) texts.new) ≡ take result (drop from (texts_in lasso.old.seat.value)) }
     ensures rest { drop result texts.new ≡ drop result texts.old }
 {
     count_of(lend_from(lasso, from, texts))
@@ -81,8 +81,8 @@ pub extern "C" fn lasso_texts<'a>(
 // Lends the texts from a code on, as many as there is room for.
 fn lend_from<'a>(lasso: &'a mut Lasso, from: usize, texts: &mut [LassoText<'a>]) -> Lent<'a>
     ensures* kept { sem 𝓛 (KeepsHeld lasso.entry) }
-    ensures count { result.count ≡ min (length texts.old) (length (texts_in lasso.old.slot.value) - from) }
-    ensures texts { take result.count (map (λ t. t.bytes.now) texts.new) ≡ take result.count (drop from (texts_in lasso.old.slot.value)) }
+    ensures count { result.count ≡ min (length texts.old) (length (texts_in lasso.old.seat.value) - from) }
+    ensures texts { take result.count (map (λ t. t.bytes.now) texts.new) ≡ take result.count (drop from (texts_in lasso.old.seat.value)) }
     ensures rest { drop result.count texts.new ≡ drop result.count texts.old }
 {
     let Some(interner) = lasso.interner() else {

@@ -32,6 +32,8 @@ mod layout;
 pub mod lending;
 #[cfg(test)]
 mod lending_tests;
+#[cfg(test)]
+mod long_tests;
 pub mod making;
 #[cfg(test)]
 mod making_tests;
@@ -39,11 +41,11 @@ mod making_tests;
 mod null_tests;
 mod nulls;
 mod offsets;
+pub mod seat;
 mod seed;
 #[cfg(test)]
 mod seed_tests;
 pub mod seeded;
-pub mod slot;
 pub mod status;
 #[cfg(test)]
 mod tests;

@@ -22,13 +22,13 @@ pub extern "C" fn lasso_new_sized(
     bytes: usize,
     limit: usize,
 ) -> u32
-    ensures made { result ≡ DONE → IsSome lasso.new.slot.value }
-    ensures texts { result ≡ DONE → texts_in lasso.new.slot.value ≡ [] }
-    ensures account { result ≡ DONE → account_in lasso.new.slot.value ≡ Some (fresh (max bytes 1) limit) }
-    ensures first { result ≡ DONE → first_in lasso.new.slot.value ≡ Some (max bytes 1) }
-    ensures seed { result ≡ DONE → IfSome (seed_in lasso.new.slot.value) IsFixed }
+    ensures made { result ≡ DONE → IsSome lasso.new.seat.value }
+    ensures texts { result ≡ DONE → texts_in lasso.new.seat.value ≡ [] }
+    ensures account { result ≡ DONE → account_in lasso.new.seat.value ≡ Some (fresh (max bytes 1) limit) }
+    ensures first { result ≡ DONE → first_in lasso.new.seat.value ≡ Some (max bytes 1) }
+    ensures seed { result ≡ DONE → IfSome (seed_in lasso.new.seat.value) IsFixed }
     ensures refused { ¬ (result ≡ DONE) → result ≡ NO_MEMORY }
-    ensures kept { ¬ (result ≡ DONE) → lasso.new.slot.value ≡ lasso.old.slot.value }
+    ensures kept { ¬ (result ≡ DONE) → lasso.new.seat.value ≡ lasso.old.seat.value }
 {
     let capacity = Capacity::new(texts, bytes.max(1));
     make(alloc, lasso, capacity, limit, Seed::fixed())
@@ -44,13 +44,13 @@ pub extern "C" fn lasso_new_keyed(
     key0: u64,
     key1: u64,
 ) -> u32
-    ensures made { result ≡ DONE → IsSome lasso.new.slot.value }
-    ensures texts { result ≡ DONE → texts_in lasso.new.slot.value ≡ [] }
-    ensures account { result ≡ DONE → account_in lasso.new.slot.value ≡ Some (fresh 4096 limit) }
-    ensures first { result ≡ DONE → first_in lasso.new.slot.value ≡ Some 4096 }
-    ensures seed { result ≡ DONE → seed_in lasso.new.slot.value ≡ Some (keyed_seed key0 key1) }
+    ensures made { result ≡ DONE → IsSome lasso.new.seat.value }
+    ensures texts { result ≡ DONE → texts_in lasso.new.seat.value ≡ [] }
+    ensures account { result ≡ DONE → account_in lasso.new.seat.value ≡ Some (fresh 4096 limit) }
+    ensures first { result ≡ DONE → first_in lasso.new.seat.value ≡ Some 4096 }
+    ensures seed { result ≡ DONE → seed_in lasso.new.seat.value ≡ Some (keyed_seed key0 key1) }
     ensures refused { ¬ (result ≡ DONE) → result ≡ NO_MEMORY }
-    ensures kept { ¬ (result ≡ DONE) → lasso.new.slot.value ≡ lasso.old.slot.value }
+    ensures kept { ¬ (result ≡ DONE) → lasso.new.seat.value ≡ lasso.old.seat.value }
 {
     make(
         alloc,
@@ -72,13 +72,13 @@ pub extern "C" fn lasso_new_sized_keyed(
     key0: u64,
     key1: u64,
 ) -> u32
-    ensures made { result ≡ DONE → IsSome lasso.new.slot.value }
-    ensures texts { result ≡ DONE → texts_in lasso.new.slot.value ≡ [] }
-    ensures account { result ≡ DONE → account_in lasso.new.slot.value ≡ Some (fresh (max bytes 1) limit) }
-    ensures first { result ≡ DONE → first_in lasso.new.slot.value ≡ Some (max bytes 1) }
-    ensures seed { result ≡ DONE → seed_in lasso.new.slot.value ≡ Some (keyed_seed key0 key1) }
+    ensures made { result ≡ DONE → IsSome lasso.new.seat.value }
+    ensures texts { result ≡ DONE → texts_in lasso.new.seat.value ≡ [] }
+    ensures account { result ≡ DONE → account_in lasso.new.seat.value ≡ Some (fresh (max bytes 1) limit) }
+    ensures first { result ≡ DONE → first_in lasso.new.seat.value ≡ Some (max bytes 1) }
+    ensures seed { result ≡ DONE → seed_in lasso.new.seat.value ≡ Some (keyed_seed key0 key1) }
     ensures refused { ¬ (result ≡ DONE) → result ≡ NO_MEMORY }
-    ensures kept { ¬ (result ≡ DONE) → lasso.new.slot.value ≡ lasso.old.slot.value }
+    ensures kept { ¬ (result ≡ DONE) → lasso.new.seat.value ≡ lasso.old.seat.value }
 {
     let sized = Capacity::new(texts, bytes.max(1));
     make(alloc, lasso, sized, limit, Seed::keyed(key0, key1))
@@ -89,15 +89,15 @@ pub extern "C" fn lasso_new_sized_keyed(
 /// returns `NO_INTERNER` without an interner to clone, `NO_MEMORY` out of memory, and `clone` is as it was then.
 #[unsafe(no_mangle)]
 pub extern "C" fn lasso_clone(alloc: Global, lasso: &mut Lasso, clone: &mut Lasso) -> u32
-    ensures made { result ≡ DONE → IsSome clone.new.slot.value }
-    ensures texts { result ≡ DONE → texts_in clone.new.slot.value ≡ texts_in lasso.old.slot.value }
-    ensures account { result ≡ DONE → IfSome lasso.old.slot.value (λ interner. account_in clone.new.slot.value ≡ clone_of interner.rodeo.texts interner.rodeo.account.limit) }
-    ensures first { result ≡ DONE → first_in clone.new.slot.value ≡ Some (clone_size (texts_in lasso.old.slot.value)) }
-    ensures seed { result ≡ DONE → seed_in clone.new.slot.value ≡ seed_in lasso.old.slot.value }
-    ensures none { lasso.old.slot.value ≡ None → result ≡ NO_INTERNER }
-    ensures refused { IsSome lasso.old.slot.value → ¬ (result ≡ DONE) → result ≡ NO_MEMORY }
-    ensures clone_kept { ¬ (result ≡ DONE) → clone.new.slot.value ≡ clone.old.slot.value }
-    ensures kept { lasso.new.slot.value ≡ lasso.old.slot.value }
+    ensures made { result ≡ DONE → IsSome clone.new.seat.value }
+    ensures texts { result ≡ DONE → texts_in clone.new.seat.value ≡ texts_in lasso.old.seat.value }
+    ensures account { result ≡ DONE → IfSome lasso.old.seat.value (λ interner. account_in clone.new.seat.value ≡ clone_of interner.rodeo.texts interner.rodeo.account.limit) }
+    ensures first { result ≡ DONE → first_in clone.new.seat.value ≡ Some (clone_size (texts_in lasso.old.seat.value)) }
+    ensures seed { result ≡ DONE → seed_in clone.new.seat.value ≡ seed_in lasso.old.seat.value }
+    ensures none { lasso.old.seat.value ≡ None → result ≡ NO_INTERNER }
+    ensures refused { IsSome lasso.old.seat.value → ¬ (result ≡ DONE) → result ≡ NO_MEMORY }
+    ensures clone_kept { ¬ (result ≡ DONE) → clone.new.seat.value ≡ clone.old.seat.value }
+    ensures kept { lasso.new.seat.value ≡ lasso.old.seat.value }
 {
     let Some(interner) = lasso.interner() else {
         return NO_INTERNER;
@@ -116,13 +116,13 @@ pub(crate) fn make(
     limit: usize,
     seed: Seed,
 ) -> u32
-    ensures made { result ≡ DONE → IsSome lasso.new.slot.value }
-    ensures texts { result ≡ DONE → texts_in lasso.new.slot.value ≡ [] }
-    ensures account { result ≡ DONE → account_in lasso.new.slot.value ≡ Some (fresh capacity.bytes limit) }
-    ensures first { result ≡ DONE → first_in lasso.new.slot.value ≡ Some capacity.bytes }
-    ensures seed { result ≡ DONE → seed_in lasso.new.slot.value ≡ Some seed }
+    ensures made { result ≡ DONE → IsSome lasso.new.seat.value }
+    ensures texts { result ≡ DONE → texts_in lasso.new.seat.value ≡ [] }
+    ensures account { result ≡ DONE → account_in lasso.new.seat.value ≡ Some (fresh capacity.bytes limit) }
+    ensures first { result ≡ DONE → first_in lasso.new.seat.value ≡ Some capacity.bytes }
+    ensures seed { result ≡ DONE → seed_in lasso.new.seat.value ≡ Some seed }
     ensures refused { ¬ (result ≡ DONE) → result ≡ NO_MEMORY }
-    ensures kept { ¬ (result ≡ DONE) → lasso.new.slot.value ≡ lasso.old.slot.value }
+    ensures kept { ¬ (result ≡ DONE) → lasso.new.seat.value ≡ lasso.old.seat.value }
 {
     match Interner::new(alloc, capacity, limit, seed) {
         Ok(interner) => hold(alloc, lasso, interner),
@@ -132,10 +132,10 @@ pub(crate) fn make(
 
 // Holds the interner, and lets go of one that was held. The handle is as it was out of memory.
 fn hold(alloc: Global, lasso: &mut Lasso, interner: Interner) -> u32
-    ensures held { result ≡ DONE → lasso.new.slot.value ≡ Some interner }
-    ensures made { result ≡ DONE → IsSome lasso.new.slot.value }
+    ensures held { result ≡ DONE → lasso.new.seat.value ≡ Some interner }
+    ensures made { result ≡ DONE → IsSome lasso.new.seat.value }
     ensures refused { ¬ (result ≡ DONE) → result ≡ NO_MEMORY }
-    ensures kept { ¬ (result ≡ DONE) → lasso.new.slot.value ≡ lasso.old.slot.value }
+    ensures kept { ¬ (result ≡ DONE) → lasso.new.seat.value ≡ lasso.old.seat.value }
 {
     let Ok(boxed) = Box::new(alloc, interner) else {
         return NO_MEMORY;

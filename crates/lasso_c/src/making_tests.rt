@@ -5,6 +5,7 @@ use crate::making::{lasso_new_keyed, lasso_new_sized, lasso_new_sized_keyed};
 use crate::tests::checks::{Seen, is_as_told, is_so_at};
 use crate::tests::steps::{Layout, Step, clones, walk, walk_on};
 use std::alloc::Global;
+use std::process::Abort;
 use std::test::Fail;
 
 // A text of more bytes than an entry of the list has.
@@ -62,10 +63,10 @@ fn grows(alloc: Global, lasso: &mut Lasso, number: usize) -> Result<(bool, bool)
 // The list of texts grows for a text past the capacity, and for no other.
 #[test]
 fn tells_how_many_texts_fit(rt: HostRuntime) -> Result<(), Fail> {
-    for room in [0, 1, 50, 1000] {
+    for room in [0, 1, 50, 1000, 5000] {
         let mut lasso = Lasso::none(rt.alloc());
         walk_on(&rt, &mut lasso, &[Step::MakesSized(room, 9, usize::MAX)])?;
-        for number in 0..2100usize {
+        for number in 0..10_100usize {
             let (is_changed, is_past) = grows(rt.alloc(), &mut lasso, number)?;
             is_so_at(&rt, is_changed == is_past, number);
         }
@@ -110,6 +111,30 @@ fn makes_sizes(
     (sized, has_room(status, lasso, texts, bytes))
 }
 
+// Sizes of which one is near a power of two: up to 2^17 + 1 texts, and 2^22 + 1 bytes.
+fn sizes_near(bit: u32) -> [(usize, usize); 3] {
+    let (texts, bytes) = (1usize.wrapping_shl(bit.min(17)), 1usize.wrapping_shl(bit));
+    [
+        (texts.saturating_sub(1), bytes.saturating_sub(1)),
+        (texts, bytes),
+        (texts.saturating_add(1), bytes.saturating_add(1)),
+    ]
+}
+
+#[test]
+fn makes_interners_of_sizes_near_powers_of_two(rt: HostRuntime) -> Result<(), Fail> {
+    let mut lasso = Lasso::none(rt.alloc());
+    for bit in 0..23u32 {
+        for size in &sizes_near(bit) {
+            let keys = (1u64.wrapping_shl(bit), 7);
+            let (sized, keyed) = makes_sizes(rt.alloc(), &mut lasso, *size, keys);
+            is_as_told(&rt, sized, size.1)?;
+            is_as_told(&rt, keyed, size.1)?;
+        }
+    }
+    Ok(())
+}
+
 #[test]
 fn makes_interners_of_any_size(rt: HostRuntime) -> Result<(), Fail> {
     let mut lasso = Lasso::none(rt.alloc());
@@ -139,6 +164,12 @@ fn makes_interners_of_any_keys(rt: HostRuntime) -> Result<(), Fail> {
         let (keyed, sized) = makes_keyed(rt.alloc(), &mut lasso, *keys);
         is_as_told(&rt, keyed, 1)?;
         is_as_told(&rt, sized, 2)?;
+    }
+    for bit in 0..64u32 {
+        let key = 1u64.wrapping_shl(bit);
+        let (keyed, sized) = makes_keyed(rt.alloc(), &mut lasso, (key, key.wrapping_sub(1)));
+        is_as_told(&rt, keyed, 3)?;
+        is_as_told(&rt, sized, 4)?;
     }
     Ok(())
 }
@@ -173,21 +204,31 @@ static LIMITS: [usize; 13] = [
     usize::MAX,
 ];
 
+// Makes interners of this limit by each maker.
+fn makes_by_each_maker<R: Abort + AllocGlobal>(rt: &R, limit: usize) -> Result<(), Fail> {
+    let steps = [
+        Step::Makes(limit),
+        Step::Takes(4096, limit),
+        Step::MakesSized(9, 70, limit),
+        Step::Takes(70, limit),
+        Step::MakesKeyed(limit),
+        Step::Takes(4096, limit),
+        Step::MakesSizedKeyed(9, 5000, limit),
+        Step::Takes(5000, limit),
+    ];
+    walk(rt, &steps)
+}
+
 #[test]
 fn makes_interners_of_any_limit(rt: HostRuntime) -> Result<(), Fail> {
     for limit in &LIMITS {
-        let limit = *limit;
-        let steps = [
-            Step::Makes(limit),
-            Step::Takes(4096, limit),
-            Step::MakesSized(9, 70, limit),
-            Step::Takes(70, limit),
-            Step::MakesKeyed(limit),
-            Step::Takes(4096, limit),
-            Step::MakesSizedKeyed(9, 5000, limit),
-            Step::Takes(5000, limit),
-        ];
-        walk(&rt, &steps)?;
+        makes_by_each_maker(&rt, *limit)?;
+    }
+    for bit in 0..64u32 {
+        let power = 1usize.wrapping_shl(bit);
+        makes_by_each_maker(&rt, power.wrapping_sub(1))?;
+        makes_by_each_maker(&rt, power)?;
+        makes_by_each_maker(&rt, power.wrapping_add(1))?;
     }
     Ok(())
 }

@@ -21,10 +21,10 @@ pub(crate) fn intern_batch<O: Offset>(
     codes: &mut [u32],
     report: &mut LassoReport,
 ) -> u32
-    ensures outcome { BatchEnds O.greatest lasso.old.slot.value [] bytes.now (O.numbers offsets.now) (length codes.old) result report.new lasso.new.slot.value }
-    ensures texts { texts_in lasso.new.slot.value ≡ with_all_new (texts_in lasso.old.slot.value) (take report.new.texts (layout_texts bytes.now (O.numbers offsets.now))) }
-    ensures codes { codes.new ≡ over (codes_of (texts_in lasso.new.slot.value) (take report.new.texts (layout_texts bytes.now (O.numbers offsets.now)))) codes.old }
-    ensures seed { seed_in lasso.new.slot.value ≡ seed_in lasso.old.slot.value }
+    ensures outcome { BatchEnds O.greatest lasso.old.seat.value [] bytes.now (O.numbers offsets.now) (length codes.old) result report.new lasso.new.seat.value }
+    ensures texts { texts_in lasso.new.seat.value ≡ with_all_new (texts_in lasso.old.seat.value) (take report.new.texts (layout_texts bytes.now (O.numbers offsets.now))) }
+    ensures codes { codes.new ≡ over (codes_of (texts_in lasso.new.seat.value) (take report.new.texts (layout_texts bytes.now (O.numbers offsets.now)))) codes.old }
+    ensures seed { seed_in lasso.new.seat.value ≡ seed_in lasso.old.seat.value }
     ensures whole { result ≡ DONE → report.new.texts ≡ length (layout_texts bytes.now (O.numbers offsets.now)) }
     ensures within { report.new.texts ≤ length (layout_texts bytes.now (O.numbers offsets.now)) }
 {
@@ -45,10 +45,10 @@ pub(crate) fn intern_batch_nulls<O: Offset>(
     codes: &mut [u32],
     report: &mut LassoReport,
 ) -> u32
-    ensures outcome { BatchEnds O.greatest lasso.old.slot.value present.now bytes.now (O.numbers offsets.now) (length codes.old) result report.new lasso.new.slot.value }
-    ensures texts { texts_in lasso.new.slot.value ≡ with_all_new (texts_in lasso.old.slot.value) (present_texts (take report.new.texts (column_rows present.now bytes.now (O.numbers offsets.now)))) }
-    ensures codes { codes.new ≡ over (row_codes null (texts_in lasso.new.slot.value) (take report.new.texts (column_rows present.now bytes.now (O.numbers offsets.now)))) codes.old }
-    ensures seed { seed_in lasso.new.slot.value ≡ seed_in lasso.old.slot.value }
+    ensures outcome { BatchEnds O.greatest lasso.old.seat.value present.now bytes.now (O.numbers offsets.now) (length codes.old) result report.new lasso.new.seat.value }
+    ensures texts { texts_in lasso.new.seat.value ≡ with_all_new (texts_in lasso.old.seat.value) (present_texts (take report.new.texts (column_rows present.now bytes.now (O.numbers offsets.now)))) }
+    ensures codes { codes.new ≡ over (row_codes null (texts_in lasso.new.seat.value) (take report.new.texts (column_rows present.now bytes.now (O.numbers offsets.now)))) codes.old }
+    ensures seed { seed_in lasso.new.seat.value ≡ seed_in lasso.old.seat.value }
     ensures whole { result ≡ DONE → report.new.texts ≡ length (layout_texts bytes.now (O.numbers offsets.now)) }
     ensures within { report.new.texts ≤ length (layout_texts bytes.now (O.numbers offsets.now)) }
 {
@@ -68,10 +68,10 @@ pub(crate) fn get_batch<O: Offset>(
     codes: &mut [u32],
     report: &mut LassoReport,
 ) -> u32
-    ensures outcome { Reports (lookup_outcome O.greatest lasso.old.slot.value bytes.now (O.numbers offsets.now) (length codes.old)) result report.new }
-    ensures codes { result ≡ DONE → codes.new ≡ over (codes_or absent (texts_in lasso.old.slot.value) (layout_texts bytes.now (O.numbers offsets.now))) codes.old }
+    ensures outcome { Reports (lookup_outcome O.greatest lasso.old.seat.value bytes.now (O.numbers offsets.now) (length codes.old)) result report.new }
+    ensures codes { result ≡ DONE → codes.new ≡ over (codes_or absent (texts_in lasso.old.seat.value) (layout_texts bytes.now (O.numbers offsets.now))) codes.old }
     ensures codes_kept { ¬ (result ≡ DONE) → codes.new ≡ codes.old }
-    ensures kept { lasso.new.slot.value ≡ lasso.old.slot.value }
+    ensures kept { lasso.new.seat.value ≡ lasso.old.seat.value }
 {
     let Some(interner) = lasso.interner() else {
         return tell(&Err(CallError::NoInterner), report);
@@ -88,12 +88,12 @@ pub(crate) fn dictionary<O: Offset>(
     offsets: &mut [O],
     report: &mut LassoReport,
 ) -> u32
-    ensures outcome { Reports (dictionary_outcome O.greatest lasso.old.slot.value from (length (O.numbers offsets.old)) (length bytes.old)) result report.new }
-    ensures bytes { result ≡ DONE → bytes.new ≡ over (concat (drop from (texts_in lasso.old.slot.value))) bytes.old }
-    ensures offsets { result ≡ DONE → O.numbers offsets.new ≡ over (offsets_from 0 (drop from (texts_in lasso.old.slot.value))) (O.numbers offsets.old) }
+    ensures outcome { Reports (dictionary_outcome O.greatest lasso.old.seat.value from (length (O.numbers offsets.old)) (length bytes.old)) result report.new }
+    ensures bytes { result ≡ DONE → bytes.new ≡ over (concat (drop from (texts_in lasso.old.seat.value))) bytes.old }
+    ensures offsets { result ≡ DONE → O.numbers offsets.new ≡ over (offsets_from 0 (drop from (texts_in lasso.old.seat.value))) (O.numbers offsets.old) }
     ensures bytes_kept { ¬ (result ≡ DONE) → bytes.new ≡ bytes.old }
     ensures offsets_kept { ¬ (result ≡ DONE) → O.numbers offsets.new ≡ O.numbers offsets.old }
-    ensures kept { lasso.new.slot.value ≡ lasso.old.slot.value }
+    ensures kept { lasso.new.seat.value ≡ lasso.old.seat.value }
 {
     let Some(interner) = lasso.interner() else {
         return tell(&Err(CallError::NoInterner), report);

@@ -3,9 +3,8 @@
 -- The lines of the input are those that were counted, and then those of the rest. If nothing is left, all
 -- were counted, and the ranked texts are each distinct line once with its count. The report is written from
 -- its start, so what was written when a write fails is a beginning of it. Nothing is written before that.
-use Rattle.std.proofs.Common.{ℕ, ◌≡◌, ◌+◌, List, [], ◌∷◌, ◌++◌, length, map, take, drop, get_or, ◌⊎◌, ◌<◌, min, Result, Ok, Err, refl, sym, ap, subst, ◌∙◌, arith, append_assoc, inl, inr, ◌-◌, ◌^◌, ◌≤◌}
-use Rattle.std.specs.Prelude.{All, flat_map, slice_get, IsSomeAnd, IsPermutation, IsSorted, sum_by}
-use Rattle.std.specs.Str.{IsUtf8}
+use Rattle.std.proofs.Common.{ℕ, ◌≡◌, ◌+◌, Bool, List, [], ◌∷◌, ◌++◌, length, map, take, drop, get_or, ◌⊎◌, ◌<◌, min, Result, Ok, Err, refl, sym, ap, subst, ◌∙◌, arith, append_assoc, inl, inr, ◌-◌, ◌^◌, ◌≤◌}
+use Rattle.std.specs.Prelude.{flat_map, slice_get, IsSomeAnd, IsPermutation, IsSorted, sum_by}
 use Rattle.std.proofs.lemmas.Bool.{cases_order}
 use Rattle.std.proofs.lemmas.Grind.{flat_map-append}
 use Rattle.std.proofs.lemmas.List.{append-nil, map_push, map-append, take-map, take_more, take_all, take-append-drop}
@@ -14,73 +13,74 @@ use Rattle.lasso_parts.specs.declared.util.LassoErrorKind.TheVariants.{FailedAll
 use Rattle.lasso_single.specs.Filling.{extend}
 use Rattle.lasso_single.specs.Intern.{InternsIn}
 use Rattle.lasso_single.specs.Interner.{InternerView, made_with}
-use Rattle.lasso_single.proofs.Filled.{accepted, extend_push}
-use Rattle.lasso_encode.specs.Encoding.{spur_at}
-use Rattle.lasso_columns.specs.Faults.{IsFaultOf}
+use Rattle.lasso_single.proofs.Filled.{accepted}
+use Rattle.lasso_single.specs.Coding.{spur_at}
 use Rattle.lasso_input.specs.Lines.{lines_of}
+use Rattle.lasso_input.specs.Texts.{text_of}
 use Rattle.lasso_columns.specs.declared.faults.LineError.{LineError}
 use Rattle.lasso_columns.specs.declared.faults.LineError.TheVariants.{Refused}
-use Rattle.lasso_counts.specs.Counts.{AreCounts, counted_texts, ranked_cmp}
-use Rattle.lasso_codes.specs.Counts.{count_line, CountingError, CountsEnd, IsBegun}
+use Rattle.lasso_columns.specs.Counts.{AreCounts, ranked_cmp}
+use Rattle.lasso_codes.specs.Counts.{count_line, counted_lines, CountingError, CountsEnd, IsBegun}
 use Rattle.lasso_codes.specs.Errors.{IsReadError, IsWriteEnd}
-use Rattle.lasso_codes.specs.Limits.{AreTaken}
+use Rattle.lasso_codes.specs.Limits.{line_texts, AreLetIn, AreTaken, IsLetIn, IsLineFault}
 use Rattle.lasso_codes.specs.Stages.{Counting}
 use Rattle.lasso_codes.specs.Streams.{WritesAll}
 use Rattle.lasso_codes.specs.declared.error.RunError.{RunError}
 use Rattle.lasso_codes.specs.declared.error.RunError.TheVariants.{Line, TooManyLines, ReadFailed, WriteFailed, ReaderGone, Column}
-use Rattle.lasso_codes.proofs.Taken.{taken_push, taken_all, taken_first, taken_texts, taken_few, taken_next}
+use Rattle.lasso_codes.proofs.LineTexts.{extend_line, texts_push}
+use Rattle.lasso_codes.proofs.Taken.{taken_push, taken_all, taken_first, taken_let_in, taken_few, taken_next}
 
 -- one line more
-pub counting_push : (input rest : List ℕ) (number : ℕ) (old now after : InternerView) (counts : List ℕ) (line left counts' : List ℕ) (key : ℕ) → Counting input rest number old now counts → lines_of rest ≡ line ∷ lines_of left → IsUtf8 line → InternsIn spur_at now line (Ok key) after → ((texts : List Text) → AreCounts texts now.texts counts → AreCounts (texts ++ line ∷ []) after.texts counts') → Counting input left (number + 1) old after counts'
-counting_push input rest number old now after counts line left counts' key so_far cut text interns counts_line = record {
+pub counting_push : (input rest : List ℕ) (only : Bool) (number : ℕ) (old now after : InternerView) (counts : List ℕ) (line left counts' : List ℕ) (key : ℕ) → Counting input rest only number old now counts → lines_of rest ≡ line ∷ lines_of left → IsLetIn only line → InternsIn spur_at now (text_of line) (Ok key) after → ((texts : List Text) → AreCounts texts now.texts counts → AreCounts (texts ++ text_of line ∷ []) after.texts counts') → Counting input left only (number + 1) old after counts'
+counting_push input rest only number old now after counts line left counts' key so_far cut let_in interns counts_line = record {
   done = so_far.done ++ line ∷ [];
-  taken = taken_push input rest number so_far.done line left so_far.taken cut text;
-  counted = counts_line so_far.done so_far.counted;
-  list = extend_push spur_at old now after so_far.done line (Ok key) accepted so_far.list interns refl;
+  taken = taken_push input rest only number so_far.done line left so_far.taken cut let_in;
+  counted = subst (λ (ts : List Text). AreCounts ts after.texts counts') (sym (texts_push so_far.done line)) (counts_line (line_texts so_far.done) so_far.counted);
+  list = extend_line old now after so_far.done line key so_far.list interns;
 }
 
-module _ (input rest : List ℕ) (number : ℕ) (old now : InternerView) (counts : List ℕ) (so_far : Counting input rest number old now counts) where
+module _ (input rest : List ℕ) (only : Bool) (number : ℕ) (old now : InternerView) (counts : List ℕ) (so_far : Counting input rest only number old now counts) where
   -- the input has ended
-  pub counting_ends : rest ≡ [] → All IsUtf8 (lines_of input) × AreCounts (lines_of input) now.texts counts
+  pub counting_ends : rest ≡ [] → AreLetIn only (lines_of input) × AreCounts (line_texts (lines_of input)) now.texts counts
   counting_ends none =
-      let all : lines_of input ≡ so_far.done = taken_all input rest number so_far.done so_far.taken none in
-      (subst (λ (ls : List Text). All IsUtf8 ls) (sym all) so_far.taken.texts, subst (λ (ls : List Text). AreCounts ls now.texts counts) (sym all) so_far.counted)
+      let all : lines_of input ≡ so_far.done = taken_all input rest only number so_far.done so_far.taken none in
+      (subst (λ (ls : List Text). AreLetIn only ls) (sym all) so_far.taken.let_in, subst (λ (ls : List Text). AreCounts (line_texts ls) now.texts counts) (sym all) so_far.counted)
 
-  pub counting_interned : rest ≡ [] → extend spur_at old (lines_of input) accepted now
-  counting_interned none = subst (λ (ls : List Text). extend spur_at old ls accepted now) (sym (taken_all input rest number so_far.done so_far.taken none)) so_far.list
+  pub counting_interned : rest ≡ [] → extend spur_at old (line_texts (lines_of input)) accepted now
+  counting_interned none = subst (λ (ls : List Text). extend spur_at old (line_texts ls) accepted now) (sym (taken_all input rest only number so_far.done so_far.taken none)) so_far.list
 
   lines_few : length so_far.done ≤ length (lines_of input)
-  lines_few = taken_few input rest number so_far.done so_far.taken
+  lines_few = taken_few input rest only number so_far.done so_far.taken
 
   -- the first lines were interned
-  first_texts : All IsUtf8 (take (length so_far.done) (lines_of input))
-  first_texts = taken_texts input rest number so_far.done so_far.taken
+  first_let_in : AreLetIn only (take (length so_far.done) (lines_of input))
+  first_let_in = taken_let_in input rest only number so_far.done so_far.taken
 
-  first_list : (limit : ℕ) → old ≡ made_with 4096 limit → extend spur_at (made_with 4096 limit) (take (length so_far.done) (lines_of input)) accepted now
+  first_list : (limit : ℕ) → old ≡ made_with 4096 limit → extend spur_at (made_with 4096 limit) (line_texts (take (length so_far.done) (lines_of input))) accepted now
   first_list limit made =
-      let list : extend spur_at (made_with 4096 limit) so_far.done accepted now = subst (λ (i : InternerView). extend spur_at i so_far.done accepted now) made so_far.list in
-      subst (λ (ls : List Text). extend spur_at (made_with 4096 limit) ls accepted now) (sym (taken_first input rest number so_far.done so_far.taken)) list
+      let list : extend spur_at (made_with 4096 limit) (line_texts so_far.done) accepted now = subst (λ (i : InternerView). extend spur_at i (line_texts so_far.done) accepted now) made so_far.list in
+      subst (λ (ls : List Text). extend spur_at (made_with 4096 limit) (line_texts ls) accepted now) (sym (taken_first input rest only number so_far.done so_far.taken)) list
 
   -- there are more lines than `usize` can number
-  pub counting_many : (limit : ℕ) → 2 ^ 64 - 1 ≤ number → CountingError limit (lines_of input) TooManyLines
+  pub counting_many : (limit : ℕ) → 2 ^ 64 - 1 ≤ number → CountingError only limit (lines_of input) TooManyLines
   counting_many limit many = omega (arith, so_far.taken.counted, lines_few, many)
 
-  pub counting_read_fails : (limit : ℕ) (error : RunError) → old ≡ made_with 4096 limit → IsReadError number error → CountingError limit (lines_of input) error
+  pub counting_read_fails : (limit : ℕ) (error : RunError) → old ≡ made_with 4096 limit → IsReadError number error → CountingError only limit (lines_of input) error
   counting_read_fails limit (Line error) made is =
-      (length so_far.done, inr (first_texts, (now, first_list limit made, inl (is ∙ ap (λ n. Refused n FailedAllocation) (sym so_far.taken.counted), lines_few))))
+      (length so_far.done, inr (first_let_in, (now, first_list limit made, inl (is ∙ ap (λ n. Refused n FailedAllocation) (sym so_far.taken.counted), lines_few))))
   counting_read_fails limit TooManyLines made is = absurd is
   counting_read_fails limit ReadFailed made is = tt
   counting_read_fails limit WriteFailed made is = absurd is
   counting_read_fails limit ReaderGone made is = absurd is
   counting_read_fails limit (Column column error) made is = absurd is
 
-  -- the next line is refused or not UTF-8
-  pub counting_line_fails : (limit : ℕ) (line left : List ℕ) (error : LineError) → old ≡ made_with 4096 limit → lines_of rest ≡ line ∷ lines_of left → IsFaultOf now line number error → CountingError limit (lines_of input) (Line error)
+  -- the next line is refused or not let in
+  pub counting_line_fails : (limit : ℕ) (line left : List ℕ) (error : LineError) → old ≡ made_with 4096 limit → lines_of rest ≡ line ∷ lines_of left → IsLineFault only now line number error → CountingError only limit (lines_of input) (Line error)
   counting_line_fails limit line left error made cut is =
-      let faulty : IsFaultOf now line (length so_far.done + 1) error = subst (λ n. IsFaultOf now line n error) (sym so_far.taken.counted) is in
-      let next : IsSomeAnd (slice_get (lines_of input) (length so_far.done)) (λ l. IsFaultOf now l (length so_far.done + 1) error) =
-      subst (λ o. IsSomeAnd o (λ l. IsFaultOf now l (length so_far.done + 1) error)) (sym (taken_next input rest number so_far.done line (lines_of left) so_far.taken cut)) faulty in
-      (length so_far.done, inr (first_texts, (now, first_list limit made, inr next)))
+      let faulty : IsLineFault only now line (length so_far.done + 1) error = subst (λ n. IsLineFault only now line n error) (sym so_far.taken.counted) is in
+      let next : IsSomeAnd (slice_get (lines_of input) (length so_far.done)) (λ l. IsLineFault only now l (length so_far.done + 1) error) =
+      subst (λ o. IsSomeAnd o (λ l. IsLineFault only now l (length so_far.done + 1) error)) (sym (taken_next input rest only number so_far.done line (lines_of left) so_far.taken cut)) faulty in
+      (length so_far.done, inr (first_let_in, (now, first_list limit made, inr next)))
 
 -- ---- the report
 
@@ -109,27 +109,27 @@ lines_fail see xs i d part more error small so_far written =
     (written.0, (written.1.0 ++ rest, whole ∙ ap (λ bs. bs ++ rest) (front ∙ grown) ∙ append_assoc (part ++ more) written.1.0 rest))
 
 -- a report is written, or a beginning of it
-pub report_written : (input : List ℕ) (limit top : ℕ) (ranked : List (ℕ × Text)) (part : List ℕ) (result : Result (Unit {0}) RunError) → AreTaken limit (lines_of input) → IsPermutation (counted_texts (lines_of input)) ranked → IsSorted ranked_cmp ranked → sum_by (λ pair. pair.0) ranked ≡ length (lines_of input) → WritesAll (flat_map count_line (take top ranked)) result part → CountsEnd input limit top part result
-report_written input limit top ranked part (Ok x) texts order sorted total written = (texts, (ranked, order, sorted, total, written))
-report_written input limit top ranked part (Err (Line error)) texts order sorted total written = absurd written.0
-report_written input limit top ranked part (Err TooManyLines) texts order sorted total written = absurd written.0
-report_written input limit top ranked part (Err ReadFailed) texts order sorted total written = absurd written.0
-report_written input limit top ranked part (Err WriteFailed) texts order sorted total written = inr (flat_map count_line (take top ranked), (ranked, order, sorted, total, refl), written.1)
-report_written input limit top ranked part (Err ReaderGone) texts order sorted total written = inr (flat_map count_line (take top ranked), (ranked, order, sorted, total, refl), written.1)
-report_written input limit top ranked part (Err (Column column error)) texts order sorted total written = absurd written.0
+pub report_written : (input : List ℕ) (only : Bool) (limit top : ℕ) (ranked : List (ℕ × Text)) (part : List ℕ) (result : Result (Unit {0}) RunError) → AreTaken only limit (lines_of input) → IsPermutation (counted_lines (lines_of input)) ranked → IsSorted ranked_cmp ranked → sum_by (λ pair. pair.0) ranked ≡ length (lines_of input) → WritesAll (flat_map count_line (take top ranked)) result part → CountsEnd input only limit top part result
+report_written input only limit top ranked part (Ok x) texts order sorted total written = (texts, (ranked, order, sorted, total, written))
+report_written input only limit top ranked part (Err (Line error)) texts order sorted total written = absurd written.0
+report_written input only limit top ranked part (Err TooManyLines) texts order sorted total written = absurd written.0
+report_written input only limit top ranked part (Err ReadFailed) texts order sorted total written = absurd written.0
+report_written input only limit top ranked part (Err WriteFailed) texts order sorted total written = inr (flat_map count_line (take top ranked), (ranked, order, sorted, total, refl), written.1)
+report_written input only limit top ranked part (Err ReaderGone) texts order sorted total written = inr (flat_map count_line (take top ranked), (ranked, order, sorted, total, refl), written.1)
+report_written input only limit top ranked part (Err (Column column error)) texts order sorted total written = absurd written.0
 
 -- lines were not counted, and nothing is written
-pub none_written : (input : List ℕ) (limit top : ℕ) (error : RunError) → CountingError limit (lines_of input) error → CountsEnd input limit top [] (Err error)
-none_written input limit top (Line error) is = (refl, is)
-none_written input limit top TooManyLines is = (refl, is)
-none_written input limit top ReadFailed is = refl
-none_written input limit top WriteFailed is = absurd is
-none_written input limit top ReaderGone is = absurd is
-none_written input limit top (Column column error) is = absurd is
+pub none_written : (input : List ℕ) (only : Bool) (limit top : ℕ) (error : RunError) → CountingError only limit (lines_of input) error → CountsEnd input only limit top [] (Err error)
+none_written input only limit top (Line error) is = (refl, is)
+none_written input only limit top TooManyLines is = (refl, is)
+none_written input only limit top ReadFailed is = refl
+none_written input only limit top WriteFailed is = absurd is
+none_written input only limit top ReaderGone is = absurd is
+none_written input only limit top (Column column error) is = absurd is
 
 -- out of memory outside of a line
-pub unmade : (limit : ℕ) (lines : List Text) (error : RunError) → error ≡ Line (Refused 0 FailedAllocation) → CountingError limit lines error
-unmade limit lines error is = subst (CountingError limit lines) (sym is) (0, inl (refl, refl))
+pub unmade : (only : Bool) (limit : ℕ) (lines : List Text) (error : RunError) → error ≡ Line (Refused 0 FailedAllocation) → CountingError only limit lines error
+unmade only limit lines error is = subst (CountingError only limit lines) (sym is) (0, inl (refl, refl))
 
 take_least : {X : Type 0} (xs : List X) (top : ℕ) → take (min (length xs) top) xs ≡ take top xs
 take_least xs top = elim (cases_order (length xs) top) [
@@ -143,25 +143,25 @@ pub first_ranked : {X : Type 0} (see : X → ℕ × Text) (xs whole : List X) (t
 first_ranked see xs whole top most is same =
     ap (λ n. map see (take n whole)) is ∙ ap (λ ys. map see (take (min (length xs) top) ys)) same ∙ ap (map see) (take_least xs top) ∙ sym (take-map see top xs)
 
-end_begun : (input : List ℕ) (limit top : ℕ) (part : List ℕ) (result : Result (Unit {0}) RunError) → CountsEnd input limit top part result → IsBegun (lines_of input) top part
-end_begun input limit top part (Ok x) end = inr (part, end.1, ([], sym (append-nil part)))
-end_begun input limit top part (Err (Line error)) end = inl end.0
-end_begun input limit top part (Err TooManyLines) end = inl end.0
-end_begun input limit top part (Err ReadFailed) end = inl end
-end_begun input limit top part (Err WriteFailed) end = end
-end_begun input limit top part (Err ReaderGone) end = end
-end_begun input limit top part (Err (Column column error)) end = absurd end
+end_begun : (input : List ℕ) (only : Bool) (limit top : ℕ) (part : List ℕ) (result : Result (Unit {0}) RunError) → CountsEnd input only limit top part result → IsBegun (lines_of input) top part
+end_begun input only limit top part (Ok x) end = inr (part, end.1, ([], sym (append-nil part)))
+end_begun input only limit top part (Err (Line error)) end = inl end.0
+end_begun input only limit top part (Err TooManyLines) end = inl end.0
+end_begun input only limit top part (Err ReadFailed) end = inl end
+end_begun input only limit top part (Err WriteFailed) end = end
+end_begun input only limit top part (Err ReaderGone) end = end
+end_begun input only limit top part (Err (Column column error)) end = absurd end
 
-write_end : (input : List ℕ) (limit top : ℕ) (part : List ℕ) (result : Result (Unit {0}) RunError) → IsBegun (lines_of input) top part → IsWriteEnd result → CountsEnd input limit top part result
-write_end input limit top part (Ok x) begun is = absurd is
-write_end input limit top part (Err (Line error)) begun is = absurd is
-write_end input limit top part (Err TooManyLines) begun is = absurd is
-write_end input limit top part (Err ReadFailed) begun is = absurd is
-write_end input limit top part (Err WriteFailed) begun is = begun
-write_end input limit top part (Err ReaderGone) begun is = begun
-write_end input limit top part (Err (Column column error)) begun is = absurd is
+write_end : (input : List ℕ) (only : Bool) (limit top : ℕ) (part : List ℕ) (result : Result (Unit {0}) RunError) → IsBegun (lines_of input) top part → IsWriteEnd result → CountsEnd input only limit top part result
+write_end input only limit top part (Ok x) begun is = absurd is
+write_end input only limit top part (Err (Line error)) begun is = absurd is
+write_end input only limit top part (Err TooManyLines) begun is = absurd is
+write_end input only limit top part (Err ReadFailed) begun is = absurd is
+write_end input only limit top part (Err WriteFailed) begun is = begun
+write_end input only limit top part (Err ReaderGone) begun is = begun
+write_end input only limit top part (Err (Column column error)) begun is = absurd is
 
 -- the run ends as it did before the flush, or with the error of the flush
-pub end_then : (input : List ℕ) (limit top : ℕ) (part : List ℕ) (given result : Result (Unit {0}) RunError) → CountsEnd input limit top part given → (result ≡ given) ⊎ IsWriteEnd result → CountsEnd input limit top part result
-end_then input limit top part given result end (inl same) = subst (CountsEnd input limit top part) (sym same) end
-end_then input limit top part given result end (inr is) = write_end input limit top part result (end_begun input limit top part given end) is
+pub end_then : (input : List ℕ) (only : Bool) (limit top : ℕ) (part : List ℕ) (given result : Result (Unit {0}) RunError) → CountsEnd input only limit top part given → (result ≡ given) ⊎ IsWriteEnd result → CountsEnd input only limit top part result
+end_then input only limit top part given result end (inl same) = subst (CountsEnd input only limit top part) (sym same) end
+end_then input only limit top part given result end (inr is) = write_end input only limit top part result (end_begun input only limit top part given end) is

@@ -11,7 +11,7 @@ use Rattle.std.proofs.lemmas.Fmt.{decimal_is_IsNumeral, length-decimal-le}
 use Rattle.std.proofs.lemmas.Str.{digit_value_digit}
 use Rattle.std.proofs.lemmas.Str.Parse.{digit_from_value}
 use Rattle.lasso_input.specs.Lines.{NoFeed}
-use Rattle.lasso_codes.specs.Arguments.{is_digit, digits_after, digits_value}
+use Rattle.lasso_input.specs.Numbers.{is_digit, digits_after, digits_value}
 
 value_grows : (n : ℕ) (ds : List ℕ) → n ≤ digits_value_after 10 n ds
 value_grows n [] = omega arith

@@ -13,7 +13,7 @@ use Rattle.lasso_columns.specs.declared.faults.LineError.TheVariants.{Refused}
 use Rattle.lasso_codes.specs.Decode.{text_or_past, null_line, line_at, decoded, Reads, AdmitsEach, fed_lines, DecodingError, WritesEntry, WritesLines, IsWhole, IsBegun, lines_before, DecodeEnd}
 use Rattle.lasso_codes.specs.Distinct.{with_feed}
 use Rattle.lasso_codes.specs.Errors.{IsReadError, IsWriteEnd}
-use Rattle.lasso_codes.specs.Limits.{Admits}
+use Rattle.lasso_codes.specs.Limits.{line_texts, Admits}
 use Rattle.lasso_codes.specs.Stages.{IsAhead, LinesAhead}
 use Rattle.lasso_codes.specs.Reading.{ReadItems, cut_entry, items_from, head_of, texts_at, on_head, HasNoHeader, IsTextError, TextsError, IsEntryError, IsColumnError}
 use Rattle.lasso_codes.specs.Streams.{Begins, WritesAll}
@@ -138,41 +138,41 @@ module _ (null : Option Text) (texts : List Text) (lines position : ℕ) (binary
 
 -- the lines of the columns before this one were written, their dictionaries were within the limit, and the rest
 -- is left
-pub record ColumnsAhead (input : List ℕ) (limit : ℕ) (null : Option Text) (rest : List ℕ) (column : ℕ) (part : List ℕ) : Type 0 where
+pub record ColumnsAhead (only : Bool) (input : List ℕ) (limit : ℕ) (null : Option Text) (rest : List ℕ) (column : ℕ) (part : List ℕ) : Type 0 where
   pub count : ℕ
   pub lines : List Text
-  pub reads : Reads null count input lines rest
-  pub admits : AdmitsEach limit null count input
+  pub reads : Reads only null count input lines rest
+  pub admits : AdmitsEach only limit null count input
   pub counted : count + 1 ≡ column
   pub part_is : part ≡ fed_lines lines
 
-module _ (input : List ℕ) (limit : ℕ) (null : Option Text) (rest : List ℕ) (column : ℕ) (part : List ℕ) (way : ColumnsAhead input limit null rest column part) where
+module _ (only : Bool) (input : List ℕ) (limit : ℕ) (null : Option Text) (rest : List ℕ) (column : ℕ) (part : List ℕ) (way : ColumnsAhead only input limit null rest column part) where
   -- one column more
-  pub columns_push : (read : ReadItems Text) (left more : List ℕ) → Admits limit (texts_at rest) → decoded null rest ≡ read → read.1 ≡ Ok left → more ≡ fed_lines read.0 → ColumnsAhead input limit null left (column + 1) (part ++ more)
+  pub columns_push : (read : ReadItems Text) (left more : List ℕ) → Admits limit (line_texts (texts_at only rest)) → decoded only null rest ≡ read → read.1 ≡ Ok left → more ≡ fed_lines read.0 → ColumnsAhead only input limit null left (column + 1) (part ++ more)
   columns_push read left more texts is ended written = record {
     count = suc way.count;
-    lines = way.lines ++ (decoded null rest).0;
+    lines = way.lines ++ (decoded only null rest).0;
     reads = (way.lines, rest, way.reads, ap (λ (r : ReadItems Text). r.1) is ∙ ended, refl);
     admits = (way.admits, (way.lines, rest, way.reads, texts));
     counted = let before : way.count + 1 ≡ column = way.counted in omega (arith, before);
     part_is =
         ap (λ bs. bs ++ more) way.part_is ∙ ap (λ bs. fed_lines way.lines ++ bs) (written ∙ ap (λ (r : ReadItems Text). fed_lines r.0) (sym is))
-        ∙ sym (fed_both way.lines (decoded null rest).0);
+        ∙ sym (fed_both way.lines (decoded only null rest).0);
   }
 
   -- the input has ended
-  pub columns_end : rest ≡ [] → DecodeEnd input limit null part (Ok tt)
-  columns_end none = (way.count, way.lines, subst (λ bs. Reads null way.count input way.lines bs) none way.reads, way.admits, way.part_is)
+  pub columns_end : rest ≡ [] → DecodeEnd input only limit null part (Ok tt)
+  columns_end none = (way.count, way.lines, subst (λ bs. Reads only null way.count input way.lines bs) none way.reads, way.admits, way.part_is)
 
-  whole_so_far : IsWhole input limit null part
+  whole_so_far : IsWhole input only limit null part
   whole_so_far = (way.count, way.lines, rest, way.reads, way.admits, (0, λ some. absurd (omega (arith, some)), way.part_is ∙ ap fed_lines (sym (append-nil way.lines))))
 
   -- there are more columns than `usize` can number
-  pub columns_many : 2 ^ 64 - 1 ≤ column → DecodeEnd input limit null part (Err TooManyLines)
+  pub columns_many : 2 ^ 64 - 1 ≤ column → DecodeEnd input only limit null part (Err TooManyLines)
   columns_many many = let counted = way.counted in (way.count, way.lines, rest, way.reads, way.admits, omega (arith, counted, many), way.part_is)
 
   -- a read failed, or there was no memory
-  pub columns_read_fails : (error : RunError) → IsReadError 0 error → DecodeEnd input limit null part (Err error)
+  pub columns_read_fails : (error : RunError) → IsReadError 0 error → DecodeEnd input only limit null part (Err error)
   columns_read_fails (Line error) is = (is, whole_so_far)
   columns_read_fails TooManyLines is = absurd is
   columns_read_fails ReadFailed is = whole_so_far
@@ -180,21 +180,21 @@ module _ (input : List ℕ) (limit : ℕ) (null : Option Text) (rest : List ℕ)
   columns_read_fails ReaderGone is = absurd is
   columns_read_fails (Column number error) is = absurd is
 
-  pub columns_unmade : (error : RunError) → error ≡ Line (Refused 0 FailedAllocation) → DecodeEnd input limit null part (Err error)
-  columns_unmade error is = subst (λ f. DecodeEnd input limit null part (Err f)) (sym is) (refl, whole_so_far)
+  pub columns_unmade : (error : RunError) → error ≡ Line (Refused 0 FailedAllocation) → DecodeEnd input only limit null part (Err error)
+  columns_unmade error is = subst (λ f. DecodeEnd input only limit null part (Err f)) (sym is) (refl, whole_so_far)
 
   -- the header or the dictionary of a column is bad
-  no_lines : (error : ColumnError) → lines_before null rest error ≡ [] → part ≡ fed_lines (way.lines ++ lines_before null rest error)
+  no_lines : (error : ColumnError) → lines_before only null rest error ≡ [] → part ≡ fed_lines (way.lines ++ lines_before only null rest error)
   no_lines error none = way.part_is ∙ ap fed_lines (sym (append-nil way.lines)) ∙ ap (λ (ls : List Text). fed_lines (way.lines ++ ls)) (sym none)
 
-  pub columns_header_fails : (error : RunError) → IsReadError 0 error ⊎ ((error ≡ Column column NoHeader) × HasNoHeader rest) → DecodeEnd input limit null part (Err error)
+  pub columns_header_fails : (error : RunError) → IsReadError 0 error ⊎ ((error ≡ Column column NoHeader) × HasNoHeader rest) → DecodeEnd input only limit null part (Err error)
   columns_header_fails error (inl is) = columns_read_fails error is
   columns_header_fails error (inr is) =
-      subst (λ f. DecodeEnd input limit null part (Err f)) (sym is.0)
-      (way.count, way.lines, rest, way.reads, way.admits, sym way.counted, is.1, no_lines NoHeader (ap (λ (h : Option (Header × List ℕ)). (on_head (line_at null) h).0) is.1.1))
+      subst (λ f. DecodeEnd input only limit null part (Err f)) (sym is.0)
+      (way.count, way.lines, rest, way.reads, way.admits, sym way.counted, is.1, no_lines NoHeader (ap (λ (h : Option (Header × List ℕ)). (on_head only (line_at null) h).0) is.1.1))
 
   module _ (header : Header) (left : List ℕ) (head : head_of rest ≡ Some (header, left)) where
-    text_fails : (reason : ColumnError) → IsTextError limit header.distinct left reason → IsColumnError (line_at null) limit rest reason × (lines_before null rest reason ≡ [])
+    text_fails : (reason : ColumnError) → IsTextError only limit header.distinct left reason → IsColumnError only (line_at null) limit rest reason × (lines_before only null rest reason ≡ [])
     text_fails NoHeader is = absurd is
     text_fails (NotMerged error) is = absurd is
     text_fails (TextRefused number error) is = (((header, left), head, is), refl)
@@ -203,18 +203,18 @@ module _ (input : List ℕ) (limit : ℕ) (null : Option Text) (rest : List ℕ)
     text_fails (PastTexts number) is = absurd is
     text_fails (IsNull number) is = absurd is
     text_fails reason is =
-        let read : decoded null rest ≡ ([], Err reason) = column_unread (line_at null) rest left header head reason is.0 in
-        let admitted = subst (λ (ts : List Text). Admits limit ts) (sym (before_error rest left header head reason)) is.1 in
+        let read : decoded only null rest ≡ ([], Err reason) = column_unread only (line_at null) rest left header head reason is.0 in
+        let admitted = subst (λ (ts : List Text). Admits limit (line_texts ts)) (sym (before_error only rest left header head reason)) is.1 in
         ((ap (λ (r : ReadItems Text). r.1) read, admitted), ap (λ (r : ReadItems Text). r.0) read)
 
-    pub columns_texts_fail : (error : RunError) → TextsError limit header.distinct column left error → DecodeEnd input limit null part (Err error)
+    pub columns_texts_fail : (error : RunError) → TextsError only limit header.distinct column left error → DecodeEnd input only limit null part (Err error)
     columns_texts_fail error (inl is) = columns_read_fails error is
     columns_texts_fail error (inr is) =
         let told = text_fails is.0 is.2 in
-        subst (λ f. DecodeEnd input limit null part (Err f)) (sym is.1) (way.count, way.lines, rest, way.reads, way.admits, sym way.counted, told.0, no_lines is.0 told.1)
+        subst (λ f. DecodeEnd input only limit null part (Err f)) (sym is.1) (way.count, way.lines, rest, way.reads, way.admits, sym way.counted, told.0, no_lines is.0 told.1)
 
   -- not all lines of the column are written
-  some_lines : (read : ReadItems Text) (more : List ℕ) (m : ℕ) → Admits limit (texts_at rest) → decoded null rest ≡ read → more ≡ fed_lines (take m read.0) → IsWhole input limit null (part ++ more)
+  some_lines : (read : ReadItems Text) (more : List ℕ) (m : ℕ) → Admits limit (line_texts (texts_at only rest)) → decoded only null rest ≡ read → more ≡ fed_lines (take m read.0) → IsWhole input only limit null (part ++ more)
   some_lines read more m texts is written = (
     way.count,
     way.lines,
@@ -225,20 +225,20 @@ module _ (input : List ℕ) (limit : ℕ) (null : Option Text) (rest : List ℕ)
       m,
       λ some. texts,
       ap (λ bs. bs ++ more) way.part_is ∙ ap (λ bs. fed_lines way.lines ++ bs) (written ∙ ap (λ (r : ReadItems Text). fed_lines (take m r.0)) (sym is))
-          ∙ sym (fed_both way.lines (take m (decoded null rest).0)),
+          ∙ sym (fed_both way.lines (take m (decoded only null rest).0)),
     ),
   )
 
-  lines_begun : (read : ReadItems Text) (more : List ℕ) → decoded null rest ≡ read → Begins more (fed_lines read.0) → IsBegun input null (part ++ more)
+  lines_begun : (read : ReadItems Text) (more : List ℕ) → decoded only null rest ≡ read → Begins more (fed_lines read.0) → IsBegun input only null (part ++ more)
   lines_begun read more is b =
-      let begun : Begins more (fed_lines (decoded null rest).0) = subst (λ (r : ReadItems Text). Begins more (fed_lines r.0)) (sym is) b in
-      (way.count, way.lines, rest, way.reads, begins_after part more way.lines (decoded null rest).0 way.part_is begun)
+      let begun : Begins more (fed_lines (decoded only null rest).0) = subst (λ (r : ReadItems Text). Begins more (fed_lines r.0)) (sym is) b in
+      (way.count, way.lines, rest, way.reads, begins_after part more way.lines (decoded only null rest).0 way.part_is begun)
 
-  entry_lines : (error : ColumnError) → IsEntryError error → lines_before null rest error ≡ (decoded null rest).0
+  entry_lines : (error : ColumnError) → IsEntryError error → lines_before only null rest error ≡ (decoded only null rest).0
   entry_lines (TextRefused number error) is = absurd is
   entry_lines error is = refl
 
-  pub columns_lines_fail : (read : ReadItems Text) (more : List ℕ) (error : RunError) → Admits limit (texts_at rest) → decoded null rest ≡ read → DecodingError read column more error → DecodeEnd input limit null (part ++ more) (Err error)
+  pub columns_lines_fail : (read : ReadItems Text) (more : List ℕ) (error : RunError) → Admits limit (line_texts (texts_at only rest)) → decoded only null rest ≡ read → DecodingError read column more error → DecodeEnd input only limit null (part ++ more) (Err error)
   columns_lines_fail read more (Line error) texts is told = (told.0, some_lines read more told.1.0 texts is told.1.1)
   columns_lines_fail read more TooManyLines texts is told = absurd told
   columns_lines_fail read more ReadFailed texts is told = some_lines read more told.0 texts is told.1
@@ -251,48 +251,48 @@ module _ (input : List ℕ) (limit : ℕ) (null : Option Text) (rest : List ℕ)
     way.reads,
     way.admits,
     told.0 ∙ sym way.counted,
-    entry_error (line_at null) limit rest error told.1 texts (ap (λ (r : ReadItems Text). r.1) is ∙ told.2),
+    entry_error only (line_at null) limit rest error told.1 texts (ap (λ (r : ReadItems Text). r.1) is ∙ told.2),
     ap (λ bs. bs ++ more) way.part_is ∙ ap (λ bs. fed_lines way.lines ++ bs) (told.3 ∙ ap (λ (r : ReadItems Text). fed_lines r.0) (sym is))
-        ∙ sym (fed_both way.lines (decoded null rest).0) ∙ ap (λ (ls : List Text). fed_lines (way.lines ++ ls)) (sym (entry_lines error told.1)),
+        ∙ sym (fed_both way.lines (decoded only null rest).0) ∙ ap (λ (ls : List Text). fed_lines (way.lines ++ ls)) (sym (entry_lines error told.1)),
   )
 
 -- ---- the end
 
-before_begins : (null : Option Text) (rest : List ℕ) (lines : List Text) (error : ColumnError) → Begins (fed_lines (lines ++ lines_before null rest error)) (fed_lines (lines ++ (decoded null rest).0))
-before_begins null rest lines (TextRefused number error) =
-    subst (λ (ls : List Text). Begins (fed_lines ls) (fed_lines (lines ++ (decoded null rest).0))) (sym (append-nil lines)) (fed_begins lines (decoded null rest).0)
-before_begins null rest lines error = begins_self _ (fed_lines (lines ++ (decoded null rest).0)) refl
+before_begins : (only : Bool) (null : Option Text) (rest : List ℕ) (lines : List Text) (error : ColumnError) → Begins (fed_lines (lines ++ lines_before only null rest error)) (fed_lines (lines ++ (decoded only null rest).0))
+before_begins only null rest lines (TextRefused number error) =
+    subst (λ (ls : List Text). Begins (fed_lines ls) (fed_lines (lines ++ (decoded only null rest).0))) (sym (append-nil lines)) (fed_begins lines (decoded only null rest).0)
+before_begins only null rest lines error = begins_self _ (fed_lines (lines ++ (decoded only null rest).0)) refl
 
 some_begin : (lines all : List Text) (m : ℕ) → Begins (fed_lines (lines ++ take m all)) (fed_lines (lines ++ all))
 some_begin lines all m =
     subst (λ (ls : List Text). Begins (fed_lines (lines ++ take m all)) (fed_lines ls)) (append_assoc lines (take m all) (drop m all) ∙ ap (λ (ls : List Text). lines ++ ls) (take-append-drop m all))
     (fed_begins (lines ++ take m all) (drop m all))
 
-whole_begun : (input : List ℕ) (limit : ℕ) (null : Option Text) (part : List ℕ) → IsWhole input limit null part → IsBegun input null part
-whole_begun input limit null part w =
-    let all = (decoded null w.2).0 in
+whole_begun : (only : Bool) (input : List ℕ) (limit : ℕ) (null : Option Text) (part : List ℕ) → IsWhole input only limit null part → IsBegun input only null part
+whole_begun only input limit null part w =
+    let all = (decoded only null w.2).0 in
     (w.0, w.1, w.2, w.3, subst (λ bs. Begins bs (fed_lines (w.1 ++ all))) (sym w.5.2) (some_begin w.1 all w.5.0))
 
-end_begun : (input : List ℕ) (limit : ℕ) (null : Option Text) (part : List ℕ) (result : Result (Unit {0}) RunError) → DecodeEnd input limit null part result → IsBegun input null part
-end_begun input limit null part (Ok x) end = (end.0, end.1, [], end.2, begins_self part (fed_lines (end.1 ++ [])) (end.4 ∙ ap fed_lines (sym (append-nil end.1))))
-end_begun input limit null part (Err (Line error)) end = whole_begun input limit null part end.1
-end_begun input limit null part (Err TooManyLines) end = whole_begun input limit null part (end.0, end.1, end.2, end.3, end.4, (0, λ some. absurd (omega (arith, some)), end.6 ∙ ap fed_lines (sym (append-nil end.1))))
-end_begun input limit null part (Err ReadFailed) end = whole_begun input limit null part end
-end_begun input limit null part (Err WriteFailed) end = end
-end_begun input limit null part (Err ReaderGone) end = end
-end_begun input limit null part (Err (Column column error)) end =
-    (end.0, end.1, end.2, end.3, subst (λ bs. Begins bs (fed_lines (end.1 ++ (decoded null end.2).0))) (sym end.7) (before_begins null end.2 end.1 error))
+end_begun : (only : Bool) (input : List ℕ) (limit : ℕ) (null : Option Text) (part : List ℕ) (result : Result (Unit {0}) RunError) → DecodeEnd input only limit null part result → IsBegun input only null part
+end_begun only input limit null part (Ok x) end = (end.0, end.1, [], end.2, begins_self part (fed_lines (end.1 ++ [])) (end.4 ∙ ap fed_lines (sym (append-nil end.1))))
+end_begun only input limit null part (Err (Line error)) end = whole_begun only input limit null part end.1
+end_begun only input limit null part (Err TooManyLines) end = whole_begun only input limit null part (end.0, end.1, end.2, end.3, end.4, (0, λ some. absurd (omega (arith, some)), end.6 ∙ ap fed_lines (sym (append-nil end.1))))
+end_begun only input limit null part (Err ReadFailed) end = whole_begun only input limit null part end
+end_begun only input limit null part (Err WriteFailed) end = end
+end_begun only input limit null part (Err ReaderGone) end = end
+end_begun only input limit null part (Err (Column column error)) end =
+    (end.0, end.1, end.2, end.3, subst (λ bs. Begins bs (fed_lines (end.1 ++ (decoded only null end.2).0))) (sym end.7) (before_begins only null end.2 end.1 error))
 
-write_end : (input : List ℕ) (limit : ℕ) (null : Option Text) (part : List ℕ) (result : Result (Unit {0}) RunError) → IsBegun input null part → IsWriteEnd result → DecodeEnd input limit null part result
-write_end input limit null part (Ok x) begun is = absurd is
-write_end input limit null part (Err (Line error)) begun is = absurd is
-write_end input limit null part (Err TooManyLines) begun is = absurd is
-write_end input limit null part (Err ReadFailed) begun is = absurd is
-write_end input limit null part (Err WriteFailed) begun is = begun
-write_end input limit null part (Err ReaderGone) begun is = begun
-write_end input limit null part (Err (Column column error)) begun is = absurd is
+write_end : (only : Bool) (input : List ℕ) (limit : ℕ) (null : Option Text) (part : List ℕ) (result : Result (Unit {0}) RunError) → IsBegun input only null part → IsWriteEnd result → DecodeEnd input only limit null part result
+write_end only input limit null part (Ok x) begun is = absurd is
+write_end only input limit null part (Err (Line error)) begun is = absurd is
+write_end only input limit null part (Err TooManyLines) begun is = absurd is
+write_end only input limit null part (Err ReadFailed) begun is = absurd is
+write_end only input limit null part (Err WriteFailed) begun is = begun
+write_end only input limit null part (Err ReaderGone) begun is = begun
+write_end only input limit null part (Err (Column column error)) begun is = absurd is
 
 -- the run ends as it did before the flush, or with the error of the flush
-pub end_then : (input : List ℕ) (limit : ℕ) (null : Option Text) (part : List ℕ) (given result : Result (Unit {0}) RunError) → DecodeEnd input limit null part given → (result ≡ given) ⊎ IsWriteEnd result → DecodeEnd input limit null part result
-end_then input limit null part given result end (inl same) = subst (DecodeEnd input limit null part) (sym same) end
-end_then input limit null part given result end (inr is) = write_end input limit null part result (end_begun input limit null part given end) is
+pub end_then : (only : Bool) (input : List ℕ) (limit : ℕ) (null : Option Text) (part : List ℕ) (given result : Result (Unit {0}) RunError) → DecodeEnd input only limit null part given → (result ≡ given) ⊎ IsWriteEnd result → DecodeEnd input only limit null part result
+end_then only input limit null part given result end (inl same) = subst (DecodeEnd input only limit null part) (sym same) end
+end_then only input limit null part given result end (inr is) = write_end only input limit null part result (end_begun only input limit null part given end) is

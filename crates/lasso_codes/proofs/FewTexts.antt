@@ -12,7 +12,7 @@ use Rattle.lasso_single.specs.Intern.{InternsIn}
 use Rattle.lasso_single.specs.Interner.{InternerView}
 use Rattle.lasso_single.proofs.Filled.{accepted}
 use Rattle.lasso.proofs.Calling.{list_interned}
-use Rattle.lasso_encode.specs.Encoding.{spur_at}
+use Rattle.lasso_single.specs.Coding.{spur_at}
 
 few_with : (list : List Text) (text : Text) (o : Option ℕ) (key : ℕ) → spur_at (unwrap_or o (length list)) ≡ Some key → length list ≤ 4294967295 → length (cond (is_some o) list (list ++ text ∷ [])) ≤ 4294967295
 few_with list text (Some n) key at few = few

@@ -9,7 +9,7 @@ use Rattle.std.proofs.lemmas.List.{append-nil}
 use Rattle.lasso_parts.specs.Texts.{Text}
 use Rattle.lasso_single.specs.Filling.{extend}
 use Rattle.lasso_single.specs.Interner.{InternerView, made_with}
-use Rattle.lasso_encode.specs.Encoding.{spur_at}
+use Rattle.lasso_single.specs.Coding.{spur_at}
 use Rattle.lasso_codes.specs.Reading.{Makes, ReadItems, ReadTexts, TakesEntry, TakesHeader, HeaderError, HasNoHeader, cut_entry, on_entry_line, on_item, items_from, texts_from, read_list, first_texts, texts_before, head_of, head_list, head_before, texts_at, on_texts, on_head, read_column, IsEntryError, IsColumnError}
 use Rattle.lasso_codes.specs.Stages.{IsAhead}
 use Rattle.lasso_codes.specs.Streams.{CutsLine}
@@ -22,7 +22,7 @@ use Rattle.lasso_codes.specs.declared.error.ColumnError.TheVariants.{NoHeader, N
 use Rattle.lasso_codes.specs.declared.error.RunError.{RunError}
 use Rattle.lasso_codes.specs.declared.error.RunError.TheVariants.{Column}
 use Rattle.lasso_codes.specs.Errors.{IsReadError}
-use Rattle.lasso_codes.specs.Limits.{Admits}
+use Rattle.lasso_codes.specs.Limits.{line_texts, Admits}
 use Rattle.lasso_codes.specs.declared.reading.Header.{Header}
 use Rattle.lasso_codes.proofs.Feeds.{no_cut}
 
@@ -84,45 +84,45 @@ header_unread before column error bytes (inr is) e = inr (is.0, is.1 bytes e)
 
 -- ---- columns
 
-module _ (bytes left : List ℕ) (header : Header) (head : head_of bytes ≡ Some (header, left)) where
-  pub texts_read : (list : List Text) (rest : List ℕ) → texts_from header.distinct [] left ≡ Ok (list, rest) → texts_at bytes ≡ list
-  texts_read list rest is = ap head_list head ∙ ap read_list is
+module _ (only : Bool) (bytes left : List ℕ) (header : Header) (head : head_of bytes ≡ Some (header, left)) where
+  pub texts_read : (list : List Text) (rest : List ℕ) → texts_from only header.distinct [] left ≡ Ok (list, rest) → texts_at only bytes ≡ list
+  texts_read list rest is = ap (head_list only) head ∙ ap read_list is
 
   -- its texts were taken by a new interner with the limit
-  pub admitted_at : (limit : ℕ) (made now : InternerView) (rest : List ℕ) → texts_from header.distinct [] left ≡ Ok (now.texts, rest) → made ≡ made_with 4096 limit → extend spur_at made now.texts (Ok tt) now → Admits limit (texts_at bytes)
-  admitted_at limit made now rest is new list =
-      subst (λ (ts : List Text). Admits limit ts) (sym (texts_read now.texts rest is)) (now, subst (λ (i : InternerView). extend spur_at i now.texts (Ok tt) now) new list)
+  pub admitted_at : (limit : ℕ) (made now : InternerView) (list : List Text) (rest : List ℕ) → texts_from only header.distinct [] left ≡ Ok (list, rest) → now.texts ≡ line_texts list → made ≡ made_with 4096 limit → extend spur_at made now.texts (Ok tt) now → Admits limit (line_texts (texts_at only bytes))
+  admitted_at limit made now list rest is texts_are new interned =
+      subst (λ (ts : List Text). Admits limit ts) (texts_are ∙ ap line_texts (sym (texts_read list rest is))) (now, subst (λ (i : InternerView). extend spur_at i now.texts (Ok tt) now) new interned)
 
   -- the texts before the error
-  pub before_error : (error : ColumnError) → head_before (head_of bytes) error ≡ texts_before header.distinct left error
-  before_error error = ap (λ (h : Option (Header × List ℕ)). head_before h error) head
+  pub before_error : (error : ColumnError) → head_before only (head_of bytes) error ≡ texts_before only header.distinct left error
+  before_error error = ap (λ (h : Option (Header × List ℕ)). head_before only h error) head
 
-module _ {X : Type 0} (make : List Text → Makes X) (bytes left : List ℕ) (header : Header) (head : head_of bytes ≡ Some (header, left)) where
-  on_it : (read : ReadTexts) → texts_from header.distinct [] left ≡ read → read_column make bytes ≡ on_texts make header read
-  on_it read is = ap (on_head make) head ∙ ap (on_texts make header) is
+module _ {X : Type 0} (only : Bool) (make : List Text → Makes X) (bytes left : List ℕ) (header : Header) (head : head_of bytes ≡ Some (header, left)) where
+  on_it : (read : ReadTexts) → texts_from only header.distinct [] left ≡ read → read_column only make bytes ≡ on_texts make header read
+  on_it read is = ap (on_head only make) head ∙ ap (on_texts make header) is
 
   -- the dictionary was read
-  pub column_read : (list : List Text) (rest : List ℕ) → texts_from header.distinct [] left ≡ Ok (list, rest) → read_column make bytes ≡ items_from (make list) header.lines header.binary 1 rest
+  pub column_read : (list : List Text) (rest : List ℕ) → texts_from only header.distinct [] left ≡ Ok (list, rest) → read_column only make bytes ≡ items_from (make list) header.lines header.binary 1 rest
   column_read list rest is = on_it (Ok (list, rest)) is
 
   -- the dictionary was not read
-  pub column_unread : (error : ColumnError) → texts_from header.distinct [] left ≡ Err error → read_column make bytes ≡ ([], Err error)
+  pub column_unread : (error : ColumnError) → texts_from only header.distinct [] left ≡ Err error → read_column only make bytes ≡ ([], Err error)
   column_unread error is = on_it (Err error) is
 
 -- all texts come before an entry
-entry_before : (distinct : ℕ) (bytes : List ℕ) (error : ColumnError) → IsEntryError error → texts_before distinct bytes error ≡ first_texts distinct bytes
-entry_before distinct bytes NoHeader is = absurd is
-entry_before distinct bytes (NoText number) is = absurd is
-entry_before distinct bytes (NotUtf8 number) is = absurd is
-entry_before distinct bytes (Doubled number) is = absurd is
-entry_before distinct bytes error is = refl
+entry_before : (only : Bool) (distinct : ℕ) (bytes : List ℕ) (error : ColumnError) → IsEntryError error → texts_before only distinct bytes error ≡ first_texts only distinct bytes
+entry_before only distinct bytes NoHeader is = absurd is
+entry_before only distinct bytes (NoText number) is = absurd is
+entry_before only distinct bytes (NotUtf8 number) is = absurd is
+entry_before only distinct bytes (Doubled number) is = absurd is
+entry_before only distinct bytes error is = refl
 
-head_entry : (head : Option (Header × List ℕ)) (error : ColumnError) → IsEntryError error → head_before head error ≡ head_list head
-head_entry None error is = refl
-head_entry (Some head) error is = entry_before head.0.distinct head.1 error is
+head_entry : (only : Bool) (head : Option (Header × List ℕ)) (error : ColumnError) → IsEntryError error → head_before only head error ≡ head_list only head
+head_entry only None error is = refl
+head_entry only (Some head) error is = entry_before only head.0.distinct head.1 error is
 
 -- the error of an entry is that of the column
-pub entry_error : {X : Type 0} (make : List Text → Makes X) (limit : ℕ) (bytes : List ℕ) (error : ColumnError) → IsEntryError error → Admits limit (texts_at bytes) → (read_column make bytes).1 ≡ Err error → IsColumnError make limit bytes error
-entry_error make limit bytes NoHeader is texts e = absurd is
-entry_error make limit bytes (TextRefused number error) is texts e = absurd is
-entry_error make limit bytes error is texts e = (e, subst (λ (ts : List Text). Admits limit ts) (sym (head_entry (head_of bytes) error is)) texts)
+pub entry_error : {X : Type 0} (only : Bool) (make : List Text → Makes X) (limit : ℕ) (bytes : List ℕ) (error : ColumnError) → IsEntryError error → Admits limit (line_texts (texts_at only bytes)) → (read_column only make bytes).1 ≡ Err error → IsColumnError only make limit bytes error
+entry_error only make limit bytes NoHeader is texts e = absurd is
+entry_error only make limit bytes (TextRefused number error) is texts e = absurd is
+entry_error only make limit bytes error is texts e = (e, subst (λ (ts : List Text). Admits limit (line_texts ts)) (sym (head_entry only (head_of bytes) error is)) texts)

@@ -1,7 +1,7 @@
--- Out of memory is told only of a text that an interner would take.
+-- Out of memory is told only of a text that an interner would take, and of a line that is not its own text.
 --
 -- Interning refuses a text by the limit or for lack of a key. So if it says out of memory, it did neither.
-use Rattle.std.proofs.Common.{ℕ, ◌≡◌, ◌⊎◌, Option, Some, None, Err, IsOk, length, subst, inl, inr}
+use Rattle.std.proofs.Common.{ℕ, ◌≡◌, ◌⊎◌, Bool, Option, Some, None, Err, IsOk, length, subst, inl, inr}
 use Rattle.lasso_parts.specs.Account.{Account, store}
 use Rattle.lasso_parts.specs.Held.{Held}
 use Rattle.lasso_parts.specs.Texts.{Text, position_of}
@@ -9,7 +9,11 @@ use Rattle.lasso_parts.specs.declared.util.LassoError.{LassoError}
 use Rattle.lasso_parts.specs.declared.util.LassoErrorKind.TheVariants.{FailedAllocation}
 use Rattle.lasso_single.specs.Intern.{InternsIn, interned, found_or_new, keyed_or_refused, stored_or_refused}
 use Rattle.lasso_single.specs.Interner.{InternerView}
-use Rattle.lasso_encode.specs.Encoding.{spur_at, IsAdmitted}
+use Rattle.lasso_single.specs.Coding.{spur_at, IsAdmitted}
+use Rattle.lasso_columns.specs.declared.faults.LineError.{LineError}
+use Rattle.lasso_columns.specs.declared.faults.LineError.TheVariants.{Refused, NotText}
+use Rattle.lasso_codes.specs.Encode.{IsNoNull}
+use Rattle.lasso_codes.specs.Limits.{IsLineFault, IsNotLetIn, LacksMemory}
 
 never_stored : (held : Held) (text : Text) (place : Option Account) → stored_or_refused held text place ≡ Err FailedAllocation → ⊥
 never_stored held text None e = absurd (cc)
@@ -32,3 +36,17 @@ lacks_memory now after text error interns is = either interns.0.2
     either : (interned spur_at now.first held text ≡ Err error) ⊎ ((error ≡ FailedAllocation) × (position_of now.texts text ≡ None) × IsOk (interned spur_at now.first held text)) → IsAdmitted now text
     either (inl refused) = absurd (never_new now.first held text (position_of now.texts text) (subst (λ (e : LassoError). interned spur_at now.first held text ≡ Err e) is refused))
     either (inr lacking) = (lacking.1, lacking.2)
+
+-- ---- a line that has no text
+
+pub fault_unlet : (only : Bool) (now : InternerView) (line : Text) (number : ℕ) (error : LineError) → IsNotLetIn only line number error → IsLineFault only now line number error
+fault_unlet only now line number (Refused at error) is = (is.0, is.1, inr is.2)
+fault_unlet only now line number (NotText at) is = is
+
+pub memory_unlet : (only : Bool) (now : InternerView) (line : Text) (number : ℕ) (error : LineError) → IsNotLetIn only line number error → LacksMemory now line error
+memory_unlet only now line number (Refused at error) is = λ lacking. inl is.3
+memory_unlet only now line number (NotText at) is = tt
+
+pub null_unlet : (only : Bool) (null : Option Text) (line : Text) (number : ℕ) (error : LineError) → IsNotLetIn only line number error → IsNoNull null line error
+null_unlet only null line number (Refused at error) is = inl is.2
+null_unlet only null line number (NotText at) is = tt

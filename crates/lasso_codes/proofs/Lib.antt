@@ -5,13 +5,16 @@ pub mod Written
 pub mod Flat
 pub mod Blocks
 pub mod FewTexts
+pub mod LettingIn
+pub mod LineTexts
+pub mod LineCounts
+pub mod LineCodes
 pub mod Taken
 pub mod DistinctLines
 pub mod CountedLines
 pub mod EncodedLines
-pub mod WholeLines
-pub mod WholeCounts
-pub mod Words
+pub mod EncodedStream
+pub mod CommandWords
 pub mod Decimals
 pub mod Items
 pub mod ReadTexts
@@ -21,3 +24,4 @@ pub mod MergedColumns
 pub mod MergedLines
 pub mod Failing
 pub mod Lacking
+pub mod Verbs

@@ -5,11 +5,11 @@
 -- so the entries of the columns before stay the same. If nothing of the input is left, all columns were
 -- merged, and the list is that of the distinct texts of all dictionaries.
 use Rattle.std.proofs.Common.{ℕ, zero, suc, ◌≡◌, ◌+◌, ◌-◌, ◌^◌, ◌<◌, ◌≤◌, ◌==◌, Bool, false, cond, List, [], ◌∷◌, ◌++◌, length, get_or, map, take, Option, Some, None, ◌⊎◌, Result, Ok, Err, refl, sym, ap, subst, ◌∙◌, arith, append_assoc, inl, inr}
-use Rattle.std.specs.Prelude.{slice_get, IsSomeAnd}
+use Rattle.std.specs.Prelude.{All, slice_get, IsSomeAnd}
 use Rattle.std.proofs.lemmas.Bool.Decides.{nat_tests}
-use Rattle.std.proofs.lemmas.List.{append-nil, length-map, map_push}
+use Rattle.std.proofs.lemmas.List.{append-nil, length-map, map_push, take-map}
+use Rattle.std.proofs.lemmas.List.Elements.{All-append}
 use Rattle.std.proofs.lemmas.Option.{slice_get_within, slice_get-get_or}
-use Rattle.std.proofs.lemmas.Result.{MatchResult-weaker}
 use Rattle.lasso_parts.proofs.TextLemmas.{position_here}
 use Rattle.lasso_parts.specs.Texts.{Text, position_of}
 use Rattle.lasso_parts.specs.declared.util.LassoError.{LassoError}
@@ -17,14 +17,17 @@ use Rattle.lasso_parts.specs.declared.util.LassoErrorKind.TheVariants.{FailedAll
 use Rattle.lasso_single.specs.Filling.{extend}
 use Rattle.lasso_single.specs.Interner.{InternerView, made_with}
 use Rattle.lasso_single.proofs.Filled.{accepted}
-use Rattle.lasso_encode.proofs.Coded.{map_some_length}
-use Rattle.lasso_columns.proofs.PartLists.{list_extended}
-use Rattle.lasso_encode.specs.Codes.{AreCodes}
-use Rattle.lasso_encode.specs.Encoding.{spur_at, IsRefused}
+use Rattle.lasso_single.proofs.Coded.{map_some_length}
+use Rattle.lasso_single.specs.Codes.{AreCodes}
+use Rattle.lasso_single.specs.Coding.{spur_at, IsRefused}
 use Rattle.lasso_columns.specs.declared.faults.LineError.TheVariants.{Refused}
 use Rattle.lasso_codes.specs.Columns.{entry_at, column_of}
 use Rattle.lasso_codes.specs.Errors.{IsReadError, IsWriteEnd}
-use Rattle.lasso_codes.specs.Limits.{Admits}
+use Rattle.hex.specs.Hex.{IsBytes}
+use Rattle.lasso_input.specs.Texts.{line_of, text_of}
+use Rattle.lasso_codes.specs.Limits.{line_texts, Admits}
+use Rattle.lasso_codes.proofs.LineTexts.{distinct_are_bytes, extend_lines, list_of_lines, some_line, table_back}
+use Rattle.lasso_codes.proofs.LineCodes.{recoded_items}
 use Rattle.lasso_codes.specs.Merge.{code_or_past, recoded, entries_of, distinct_of, Merges, AdmitsColumns, MergesWithin, EntriesError, AddsEntry, AddsEntries, AreMerged, IsNotMerged, IsMergeError, IsMergeBegun, MergingError, MergeEnd}
 use Rattle.lasso_codes.specs.Stages.{IsAhead, EntriesAhead}
 use Rattle.lasso_codes.specs.Reading.{ReadItems, cut_entry, head_of, head_before, texts_at, texts_before, texts_from, items_from, HasNoHeader, IsTextError, TextsError, IsEntryError}
@@ -40,15 +43,6 @@ use Rattle.lasso_codes.proofs.FewTexts.{few_texts}
 use Rattle.lasso_codes.proofs.Items.{ahead_push, ahead_error, one_fewer, texts_read, column_read, column_unread, before_error, entry_error}
 
 -- ---- interning texts, and then others
-
-pub extend_both : (old mid new : InternerView) (front back : List Text) → extend spur_at old front accepted mid → extend spur_at mid back accepted new → extend spur_at old (front ++ back) accepted new
-extend_both old mid new [] back first second = subst (λ (i : InternerView). extend spur_at i back accepted new) first.1 second
-extend_both old mid new (t ∷ ts) back first second = (
-  first.0,
-  first.1,
-  first.2,
-  MatchResult-weaker first.0 first.3 (λ k others. extend_both first.1 mid new ts back others second) (λ error last. let e = last.0 in absurd (cc)),
-)
 
 -- ---- the table of codes
 
@@ -130,36 +124,37 @@ module _ (list texts : List Text) (lines position : ℕ) (binary : Bool) (bytes 
 -- ---- columns on their way
 
 -- the columns before this one were merged, and the rest is left
-pub record Merging (input rest : List ℕ) (limit column : ℕ) (now : InternerView) (numbers : List ℕ) : Type 0 where
+pub record Merging (only : Bool) (input rest : List ℕ) (limit column : ℕ) (now : InternerView) (numbers : List ℕ) : Type 0 where
   pub count : ℕ
   pub texts : List Text
-  pub merges : Merges count input texts (map entry_at numbers) rest
-  pub admits : AdmitsColumns limit count input
+  pub merges : Merges only count input texts (map entry_at numbers) rest
+  pub admits : AdmitsColumns only limit count input
   pub counted : count + 1 ≡ column
-  pub list : extend spur_at (made_with 4096 limit) texts accepted now
+  pub are_bytes : All IsBytes texts
+  pub list : extend spur_at (made_with 4096 limit) (line_texts texts) accepted now
 
-module _ (input rest : List ℕ) (limit column : ℕ) (now : InternerView) (numbers : List ℕ) (way : Merging input rest limit column now numbers) where
-  -- the list is that of the distinct texts, and their codes fit
-  list_is : now.texts ≡ distinct_of way.texts
-  list_is = list_extended (made_with 4096 limit) now way.texts way.list
+module _ (only : Bool) (input rest : List ℕ) (limit column : ℕ) (now : InternerView) (numbers : List ℕ) (way : Merging only input rest limit column now numbers) where
+  -- the list has the texts of the distinct lines, and their codes fit
+  list_is : now.texts ≡ line_texts (distinct_of way.texts)
+  list_is = list_of_lines (made_with 4096 limit) now way.texts refl way.are_bytes way.list
 
   -- the limit was kept so far
-  within : MergesWithin limit way.count input way.texts (map entry_at numbers) rest
+  within : MergesWithin only limit way.count input way.texts (map entry_at numbers) rest
   within = (way.merges, way.admits, (now, way.list))
 
   pub merging_few : length now.texts < 2 ^ 32
-  merging_few = let few : length now.texts ≤ 4294967295 = few_texts (made_with 4096 limit) now way.texts way.list (omega arith) in omega (arith, few)
+  merging_few = let few : length now.texts ≤ 4294967295 = few_texts (made_with 4096 limit) now (line_texts way.texts) way.list (omega arith) in omega (arith, few)
 
   -- the input has ended
-  pub merging_ends : rest ≡ [] → AreMerged input limit now.texts numbers
-  merging_ends none = (way.count, way.texts, subst (λ bs. MergesWithin limit way.count input way.texts (map entry_at numbers) bs) none within, list_is, merging_few)
+  pub merging_ends : rest ≡ [] → AreMerged input only limit now.texts numbers
+  merging_ends none = (way.count, way.texts, subst (λ bs. MergesWithin only limit way.count input way.texts (map entry_at numbers) bs) none within, list_is, way.are_bytes, merging_few)
 
   -- there are more columns than `usize` can number
-  pub merging_many : 2 ^ 64 - 1 ≤ column → MergingError input limit TooManyLines
+  pub merging_many : 2 ^ 64 - 1 ≤ column → MergingError input only limit TooManyLines
   merging_many many = let counted = way.counted in (way.count, way.texts, map entry_at numbers, rest, within, omega (arith, counted, many))
 
   -- a read failed, or there was no memory
-  pub merging_read_fails : (error : RunError) → IsReadError 0 error → MergingError input limit error
+  pub merging_read_fails : (error : RunError) → IsReadError 0 error → MergingError input only limit error
   merging_read_fails (Line error) is = is
   merging_read_fails TooManyLines is = absurd is
   merging_read_fails ReadFailed is = tt
@@ -167,26 +162,26 @@ module _ (input rest : List ℕ) (limit column : ℕ) (now : InternerView) (numb
   merging_read_fails ReaderGone is = absurd is
   merging_read_fails (Column number error) is = absurd is
 
-  pub merging_unmade : (error : RunError) → error ≡ Line (Refused 0 FailedAllocation) → MergingError input limit error
-  merging_unmade error is = subst (MergingError input limit) (sym is) refl
+  pub merging_unmade : (error : RunError) → error ≡ Line (Refused 0 FailedAllocation) → MergingError input only limit error
+  merging_unmade error is = subst (MergingError input only limit) (sym is) refl
 
   -- the column is bad
-  column_fails : (error : ColumnError) → IsMergeError limit way.texts rest error → MergingError input limit (Column column error)
+  column_fails : (error : ColumnError) → IsMergeError only limit way.texts rest error → MergingError input only limit (Column column error)
   column_fails error is = (way.count, way.texts, map entry_at numbers, rest, within, sym way.counted, is)
 
-  pub merging_header_fails : (error : RunError) → IsReadError 0 error ⊎ ((error ≡ Column column NoHeader) × HasNoHeader rest) → MergingError input limit error
+  pub merging_header_fails : (error : RunError) → IsReadError 0 error ⊎ ((error ≡ Column column NoHeader) × HasNoHeader rest) → MergingError input only limit error
   merging_header_fails error (inl is) = merging_read_fails error is
-  merging_header_fails error (inr is) = subst (MergingError input limit) (sym is.0) (column_fails NoHeader (is.1, λ entry. absurd entry))
+  merging_header_fails error (inr is) = subst (MergingError input only limit) (sym is.0) (column_fails NoHeader (is.1, λ entry. absurd entry))
 
   module _ (header : Header) (left : List ℕ) (head : head_of rest ≡ Some (header, left)) where
-    unread : (reason : ColumnError) → texts_from header.distinct [] left ≡ Err reason → Admits limit (texts_before header.distinct left reason) → ((entries_of (distinct_of (way.texts ++ texts_at rest)) rest).1 ≡ Err reason) × Admits limit (head_before (head_of rest) reason)
+    unread : (reason : ColumnError) → texts_from only header.distinct [] left ≡ Err reason → Admits limit (line_texts (texts_before only header.distinct left reason)) → ((entries_of only (distinct_of (way.texts ++ texts_at only rest)) rest).1 ≡ Err reason) × Admits limit (line_texts (head_before only (head_of rest) reason))
     unread reason is texts =
-        let make = recoded (distinct_of (way.texts ++ texts_at rest)) in (
-          ap (λ (r : ReadItems (Option ℕ)). r.1) (column_unread make rest left header head reason is),
-          subst (λ (ts : List Text). Admits limit ts) (sym (before_error rest left header head reason)) texts,
+        let make = recoded (distinct_of (way.texts ++ texts_at only rest)) in (
+          ap (λ (r : ReadItems (Option ℕ)). r.1) (column_unread only make rest left header head reason is),
+          subst (λ (ts : List Text). Admits limit (line_texts ts)) (sym (before_error only rest left header head reason)) texts,
         )
 
-    text_fails : (reason : ColumnError) → IsTextError limit header.distinct left reason → IsMergeError limit way.texts rest reason
+    text_fails : (reason : ColumnError) → IsTextError only limit header.distinct left reason → IsMergeError only limit way.texts rest reason
     text_fails NoHeader is = absurd is
     text_fails (TextRefused number error) is = (((header, left), head, is), λ entry. absurd entry)
     text_fails (NotMerged error) is = absurd is
@@ -198,40 +193,48 @@ module _ (input rest : List ℕ) (limit column : ℕ) (now : InternerView) (numb
     text_fails (PastTexts number) is = absurd is
     text_fails (IsNull number) is = absurd is
 
-    pub merging_texts_fail : (error : RunError) → TextsError limit header.distinct column left error → MergingError input limit error
+    pub merging_texts_fail : (error : RunError) → TextsError only limit header.distinct column left error → MergingError input only limit error
     merging_texts_fail error (inl is) = merging_read_fails error is
-    merging_texts_fail error (inr is) = subst (MergingError input limit) (sym is.1) (column_fails is.0 (text_fails is.0 is.2))
+    merging_texts_fail error (inr is) = subst (MergingError input only limit) (sym is.1) (column_fails is.0 (text_fails is.0 is.2))
 
-    module _ (dictionary : List Text) (body : List ℕ) (read : texts_from header.distinct [] left ≡ Ok (dictionary, body)) where
-      texts_are : texts_at rest ≡ dictionary
-      texts_are = texts_read rest left header head dictionary body read
+    module _ (dictionary : List Text) (body : List ℕ) (read : texts_from only header.distinct [] left ≡ Ok (dictionary, body)) where
+      texts_are : texts_at only rest ≡ dictionary
+      texts_are = texts_read only rest left header head dictionary body read
 
       -- a text is refused by the interner of the merged column
-      pub merging_refused : (error : LassoError) (n : ℕ) (after : InternerView) → Admits limit (texts_at rest) → extend spur_at now (take n dictionary) accepted after → IsSomeAnd (slice_get dictionary n) (λ text. IsRefused after text error) → MergingError input limit (Column column (NotMerged error))
+      pub merging_refused : (error : LassoError) (n : ℕ) (after : InternerView) → Admits limit (line_texts (texts_at only rest)) → extend spur_at now (take n (line_texts dictionary)) accepted after → IsSomeAnd (slice_get (line_texts dictionary) n) (λ text. IsRefused after text error) → MergingError input only limit (Column column (NotMerged error))
       merging_refused error n after texts list refused =
           column_fails (NotMerged error)
-          (texts, subst (λ (ts : List Text). IsNotMerged limit way.texts ts error) (sym texts_are) (n, after, extend_both (made_with 4096 limit) now after way.texts (take n dictionary) way.list list, refused))
+          (texts, subst (λ (ts : List Text). IsNotMerged limit way.texts ts error) (sym texts_are) (n, after, extend_lines (made_with 4096 limit) now after way.texts (take n dictionary) way.list (subst (λ (ts : List Text). extend spur_at now ts accepted after) (take-map text_of n dictionary) list), some_line dictionary n (λ text. IsRefused after text error) refused))
 
-      module _ (after : InternerView) (list : extend spur_at now dictionary accepted after) (admitted : Admits limit (texts_at rest)) where
-        all : extend spur_at (made_with 4096 limit) (way.texts ++ texts_at rest) accepted after
+      module _ (dictionary_bytes : All IsBytes dictionary) (after : InternerView) (list : extend spur_at now (line_texts dictionary) accepted after) (admitted : Admits limit (line_texts (texts_at only rest))) where
+        all : extend spur_at (made_with 4096 limit) (line_texts (way.texts ++ texts_at only rest)) accepted after
         all =
-            subst (λ (ts : List Text). extend spur_at (made_with 4096 limit) (way.texts ++ ts) accepted after) (sym texts_are)
-            (extend_both (made_with 4096 limit) now after way.texts dictionary way.list list)
+            subst (λ (ts : List Text). extend spur_at (made_with 4096 limit) (line_texts (way.texts ++ ts)) accepted after) (sym texts_are)
+            (extend_lines (made_with 4096 limit) now after way.texts dictionary way.list list)
+
+        all_bytes : All IsBytes (way.texts ++ texts_at only rest)
+        all_bytes = All-append IsBytes way.texts (texts_at only rest) way.are_bytes (subst (λ (ts : List Text). All IsBytes ts) (sym texts_are) dictionary_bytes)
+
+        after_is : after.texts ≡ line_texts (distinct_of (way.texts ++ texts_at only rest))
+        after_is = list_of_lines (made_with 4096 limit) after (way.texts ++ texts_at only rest) refl all_bytes all
 
         pub merged_few : length after.texts < 2 ^ 32
         merged_few =
-            let few : length after.texts ≤ 4294967295 = few_texts (made_with 4096 limit) after (way.texts ++ texts_at rest) all (omega arith) in omega (arith, few)
+            let few : length after.texts ≤ 4294967295 = few_texts (made_with 4096 limit) after (line_texts (way.texts ++ texts_at only rest)) all (omega arith) in omega (arith, few)
 
-        entries_are : entries_of (distinct_of (way.texts ++ texts_at rest)) rest ≡ items_from (recoded after.texts dictionary) header.lines header.binary 1 body
+        entries_are : entries_of only (distinct_of (way.texts ++ texts_at only rest)) rest ≡ items_from (recoded after.texts (line_texts dictionary)) header.lines header.binary 1 body
         entries_are =
-            ap (λ (ts : List Text). entries_of ts rest) (sym (list_extended (made_with 4096 limit) after (way.texts ++ texts_at rest) all))
-            ∙ column_read (recoded after.texts) rest left header head dictionary body read
+            let distinct = distinct_of (way.texts ++ texts_at only rest) in
+            column_read only (recoded distinct) rest left header head dictionary body read
+            ∙ recoded_items distinct dictionary (distinct_are_bytes (way.texts ++ texts_at only rest) all_bytes) dictionary_bytes header.lines header.binary 1 body
+            ∙ ap (λ (ts : List Text). items_from (recoded ts (line_texts dictionary)) header.lines header.binary 1 body) (sym after_is)
 
         -- one column more
-        pub merging_push : (others : List ℕ) (numbers' : List ℕ) → (items_from (recoded after.texts dictionary) header.lines header.binary 1 body).1 ≡ Ok others → map entry_at numbers' ≡ map entry_at numbers ++ (items_from (recoded after.texts dictionary) header.lines header.binary 1 body).0 → Merging input others limit (column + 1) after numbers'
+        pub merging_push : (others : List ℕ) (numbers' : List ℕ) → (items_from (recoded after.texts (line_texts dictionary)) header.lines header.binary 1 body).1 ≡ Ok others → map entry_at numbers' ≡ map entry_at numbers ++ (items_from (recoded after.texts (line_texts dictionary)) header.lines header.binary 1 body).0 → Merging only input others limit (column + 1) after numbers'
         merging_push others numbers' ended added = record {
           count = suc way.count;
-          texts = way.texts ++ texts_at rest;
+          texts = way.texts ++ texts_at only rest;
           merges = (
             way.texts,
             map entry_at numbers,
@@ -243,73 +246,74 @@ module _ (input rest : List ℕ) (limit column : ℕ) (now : InternerView) (numb
           );
           admits = (way.admits, (way.texts, map entry_at numbers, rest, way.merges, admitted));
           counted = let before : way.count + 1 ≡ column = way.counted in omega (arith, before);
+          are_bytes = all_bytes;
           list = all;
         }
 
-        entry_fails : (error : ColumnError) → IsEntryError error → (items_from (recoded after.texts dictionary) header.lines header.binary 1 body).1 ≡ Err error → IsMergeError limit way.texts rest error
+        entry_fails : (error : ColumnError) → IsEntryError error → (items_from (recoded after.texts (line_texts dictionary)) header.lines header.binary 1 body).1 ≡ Err error → IsMergeError only limit way.texts rest error
         entry_fails (NotMerged error) is e = absurd is
         entry_fails error is e =
-            (entry_error (recoded (distinct_of (way.texts ++ texts_at rest))) limit rest error is admitted (ap (λ (r : ReadItems (Option ℕ)). r.1) entries_are ∙ e), λ entry. (after, all))
+            (entry_error only (recoded (distinct_of (way.texts ++ texts_at only rest))) limit rest error is admitted (ap (λ (r : ReadItems (Option ℕ)). r.1) entries_are ∙ e), λ entry. (after, all))
 
-        pub merging_entries_fail : (error : RunError) → EntriesError (items_from (recoded after.texts dictionary) header.lines header.binary 1 body) column error → MergingError input limit error
+        pub merging_entries_fail : (error : RunError) → EntriesError (items_from (recoded after.texts (line_texts dictionary)) header.lines header.binary 1 body) column error → MergingError input only limit error
         merging_entries_fail (Line error) is = is
         merging_entries_fail TooManyLines is = absurd is
         merging_entries_fail ReadFailed is = tt
         merging_entries_fail WriteFailed is = absurd is
         merging_entries_fail ReaderGone is = absurd is
-        merging_entries_fail (Column number error) is = subst (λ n. MergingError input limit (Column n error)) (sym is.0) (column_fails error (entry_fails error is.1 is.2))
+        merging_entries_fail (Column number error) is = subst (λ n. MergingError input only limit (Column n error)) (sym is.0) (column_fails error (entry_fails error is.1 is.2))
 
 -- ---- the one column
 
-written_end : (input : List ℕ) (limit : ℕ) (binary : Bool) (n : ℕ) (texts : List Text) (entries : List (Option ℕ)) (part : List ℕ) (result : Result (Unit {0}) RunError) → MergesWithin limit n input texts entries [] → length (distinct_of texts) < 2 ^ 32 → length entries < 2 ^ 64 → WritesAll (column_of binary (distinct_of texts) entries) result part → MergeEnd input limit binary part result
-written_end input limit binary n texts entries part (Ok x) merges few few' written = (n, texts, entries, merges, (few, few'), written)
-written_end input limit binary n texts entries part (Err (Line error)) merges few few' written = absurd written.0
-written_end input limit binary n texts entries part (Err TooManyLines) merges few few' written = absurd written.0
-written_end input limit binary n texts entries part (Err ReadFailed) merges few few' written = absurd written.0
-written_end input limit binary n texts entries part (Err WriteFailed) merges few few' written = inr (n, texts, entries, merges.0, written.1)
-written_end input limit binary n texts entries part (Err ReaderGone) merges few few' written = inr (n, texts, entries, merges.0, written.1)
-written_end input limit binary n texts entries part (Err (Column column error)) merges few few' written = absurd written.0
+written_end : (only : Bool) (input : List ℕ) (limit : ℕ) (binary : Bool) (n : ℕ) (texts : List Text) (entries : List (Option ℕ)) (part : List ℕ) (result : Result (Unit {0}) RunError) → MergesWithin only limit n input texts entries [] → length (distinct_of texts) < 2 ^ 32 → length entries < 2 ^ 64 → WritesAll (column_of binary (distinct_of texts) entries) result part → MergeEnd input only limit binary part result
+written_end only input limit binary n texts entries part (Ok x) merges few few' written = (n, texts, entries, merges, (few, few'), written)
+written_end only input limit binary n texts entries part (Err (Line error)) merges few few' written = absurd written.0
+written_end only input limit binary n texts entries part (Err TooManyLines) merges few few' written = absurd written.0
+written_end only input limit binary n texts entries part (Err ReadFailed) merges few few' written = absurd written.0
+written_end only input limit binary n texts entries part (Err WriteFailed) merges few few' written = inr (n, texts, entries, merges.0, written.1)
+written_end only input limit binary n texts entries part (Err ReaderGone) merges few few' written = inr (n, texts, entries, merges.0, written.1)
+written_end only input limit binary n texts entries part (Err (Column column error)) merges few few' written = absurd written.0
 
 -- the column is written, or a beginning of it
-pub merged_written : (input : List ℕ) (limit : ℕ) (binary : Bool) (list : List Text) (numbers part : List ℕ) (result : Result (Unit {0}) RunError) → AreMerged input limit list numbers → length numbers < 2 ^ 64 → WritesAll (column_of binary list (map entry_at numbers)) result part → MergeEnd input limit binary part result
-merged_written input limit binary list numbers part result are few written =
+pub merged_written : (only : Bool) (input : List ℕ) (limit : ℕ) (binary : Bool) (table list : List Text) (numbers part : List ℕ) (result : Result (Unit {0}) RunError) → table ≡ map line_of list → AreMerged input only limit list numbers → length numbers < 2 ^ 64 → WritesAll (column_of binary table (map entry_at numbers)) result part → MergeEnd input only limit binary part result
+merged_written only input limit binary table list numbers part result table_is are few written =
     let texts = are.1 in
     let entries = map entry_at numbers in
-    written_end input limit binary are.0 texts entries part result are.2 (subst (λ (ts : List Text). length ts < 2 ^ 32) are.3 are.4) (subst (λ n. n < 2 ^ 64) (sym (length-map numbers entry_at)) few)
-    (subst (λ (ts : List Text). WritesAll (column_of binary ts entries) result part) are.3 written)
+    written_end only input limit binary are.0 texts entries part result are.2 (subst (λ n. n < 2 ^ 32) (ap length are.3 ∙ length-map (distinct_of texts) text_of) are.5) (subst (λ n. n < 2 ^ 64) (sym (length-map numbers entry_at)) few)
+    (subst (λ (ts : List Text). WritesAll (column_of binary ts entries) result part) (table_back table list (distinct_of texts) table_is are.3 (distinct_are_bytes texts are.4)) written)
 
 -- columns were not merged, and nothing is written
-pub none_merged : (input : List ℕ) (limit : ℕ) (binary : Bool) (error : RunError) → MergingError input limit error → MergeEnd input limit binary [] (Err error)
-none_merged input limit binary (Line error) is = (refl, is)
-none_merged input limit binary TooManyLines is = (refl, is)
-none_merged input limit binary ReadFailed is = refl
-none_merged input limit binary WriteFailed is = absurd is
-none_merged input limit binary ReaderGone is = absurd is
-none_merged input limit binary (Column column error) is = (refl, is)
+pub none_merged : (only : Bool) (input : List ℕ) (limit : ℕ) (binary : Bool) (error : RunError) → MergingError input only limit error → MergeEnd input only limit binary [] (Err error)
+none_merged only input limit binary (Line error) is = (refl, is)
+none_merged only input limit binary TooManyLines is = (refl, is)
+none_merged only input limit binary ReadFailed is = refl
+none_merged only input limit binary WriteFailed is = absurd is
+none_merged only input limit binary ReaderGone is = absurd is
+none_merged only input limit binary (Column column error) is = (refl, is)
 
 -- there was no memory for the interner
-pub unmade : (input : List ℕ) (limit : ℕ) (error : RunError) → error ≡ Line (Refused 0 FailedAllocation) → MergingError input limit error
-unmade input limit error is = subst (MergingError input limit) (sym is) refl
+pub unmade : (only : Bool) (input : List ℕ) (limit : ℕ) (error : RunError) → error ≡ Line (Refused 0 FailedAllocation) → MergingError input only limit error
+unmade only input limit error is = subst (MergingError input only limit) (sym is) refl
 
-end_begun : (input : List ℕ) (limit : ℕ) (binary : Bool) (part : List ℕ) (result : Result (Unit {0}) RunError) → MergeEnd input limit binary part result → IsMergeBegun input binary part
-end_begun input limit binary part (Ok x) end = inr (end.0, end.1, end.2, end.3.0, ([], sym end.5 ∙ sym (append-nil part)))
-end_begun input limit binary part (Err (Line error)) end = inl end.0
-end_begun input limit binary part (Err TooManyLines) end = inl end.0
-end_begun input limit binary part (Err ReadFailed) end = inl end
-end_begun input limit binary part (Err WriteFailed) end = end
-end_begun input limit binary part (Err ReaderGone) end = end
-end_begun input limit binary part (Err (Column column error)) end = inl end.0
+end_begun : (only : Bool) (input : List ℕ) (limit : ℕ) (binary : Bool) (part : List ℕ) (result : Result (Unit {0}) RunError) → MergeEnd input only limit binary part result → IsMergeBegun input only binary part
+end_begun only input limit binary part (Ok x) end = inr (end.0, end.1, end.2, end.3.0, ([], sym end.5 ∙ sym (append-nil part)))
+end_begun only input limit binary part (Err (Line error)) end = inl end.0
+end_begun only input limit binary part (Err TooManyLines) end = inl end.0
+end_begun only input limit binary part (Err ReadFailed) end = inl end
+end_begun only input limit binary part (Err WriteFailed) end = end
+end_begun only input limit binary part (Err ReaderGone) end = end
+end_begun only input limit binary part (Err (Column column error)) end = inl end.0
 
-write_end : (input : List ℕ) (limit : ℕ) (binary : Bool) (part : List ℕ) (result : Result (Unit {0}) RunError) → IsMergeBegun input binary part → IsWriteEnd result → MergeEnd input limit binary part result
-write_end input limit binary part (Ok x) begun is = absurd is
-write_end input limit binary part (Err (Line error)) begun is = absurd is
-write_end input limit binary part (Err TooManyLines) begun is = absurd is
-write_end input limit binary part (Err ReadFailed) begun is = absurd is
-write_end input limit binary part (Err WriteFailed) begun is = begun
-write_end input limit binary part (Err ReaderGone) begun is = begun
-write_end input limit binary part (Err (Column column error)) begun is = absurd is
+write_end : (only : Bool) (input : List ℕ) (limit : ℕ) (binary : Bool) (part : List ℕ) (result : Result (Unit {0}) RunError) → IsMergeBegun input only binary part → IsWriteEnd result → MergeEnd input only limit binary part result
+write_end only input limit binary part (Ok x) begun is = absurd is
+write_end only input limit binary part (Err (Line error)) begun is = absurd is
+write_end only input limit binary part (Err TooManyLines) begun is = absurd is
+write_end only input limit binary part (Err ReadFailed) begun is = absurd is
+write_end only input limit binary part (Err WriteFailed) begun is = begun
+write_end only input limit binary part (Err ReaderGone) begun is = begun
+write_end only input limit binary part (Err (Column column error)) begun is = absurd is
 
 -- the run ends as it did before the flush, or with the error of the flush
-pub end_then : (input : List ℕ) (limit : ℕ) (binary : Bool) (part : List ℕ) (given result : Result (Unit {0}) RunError) → MergeEnd input limit binary part given → (result ≡ given) ⊎ IsWriteEnd result → MergeEnd input limit binary part result
-end_then input limit binary part given result end (inl same) = subst (MergeEnd input limit binary part) (sym same) end
-end_then input limit binary part given result end (inr is) = write_end input limit binary part result (end_begun input limit binary part given end) is
+pub end_then : (only : Bool) (input : List ℕ) (limit : ℕ) (binary : Bool) (part : List ℕ) (given result : Result (Unit {0}) RunError) → MergeEnd input only limit binary part given → (result ≡ given) ⊎ IsWriteEnd result → MergeEnd input only limit binary part result
+end_then only input limit binary part given result end (inl same) = subst (MergeEnd input only limit binary part) (sym same) end
+end_then only input limit binary part given result end (inr is) = write_end only input limit binary part result (end_begun only input limit binary part given end) is

@@ -12,7 +12,7 @@ use Rattle.lasso_parts.proofs.TextLemmas.{position_here}
 use Rattle.lasso_parts.specs.Texts.{Text, position_of}
 use Rattle.lasso_single.proofs.Distinct.{distinct_none}
 use Rattle.lasso_columns.specs.Parts.{new_texts}
-use Rattle.lasso_counts.proofs.Counted.{distinct_new}
+use Rattle.lasso_columns.proofs.Counted.{distinct_new}
 use Rattle.lasso_codes.specs.Decode.{text_or_past, null_line, line_at, decoded, Reads}
 use Rattle.lasso_codes.specs.Merge.{code_or_past, recoded, entries_of, distinct_of, Merges, MergingKeepsLines, MergedColumnsDecode, DictionariesAreDistinct}
 use Rattle.lasso_codes.specs.Reading.{ReadItems, ReadTexts, cut_entry, on_item, items_from, head_of, on_texts, on_head, texts_from, read_list, head_list, texts_at}
@@ -117,18 +117,18 @@ texts_fit : (null : Option Text) (list : List Text) (header : Header) (read : Re
 texts_fit null list header (Err error) rest rest' few found e e' = absurd (cc)
 texts_fit null list header (Ok texts) rest rest' few found e e' = items_fit null list texts.0 header.lines header.binary 1 texts.1 rest rest' few found e e'
 
-head_fit : (null : Option Text) (list : List Text) (head : Option (Header × List ℕ)) (rest rest' : List ℕ) → length list < 2 ^ 32 → AllFound list (head_list head) → (on_head (recoded list) head).1 ≡ Ok rest → (on_head (line_at null) head).1 ≡ Ok rest' → Fit null list (on_head (recoded list) head) (on_head (line_at null) head) rest rest'
-head_fit null list None rest rest' few found e e' = absurd (cc)
-head_fit null list (Some head) rest rest' few found e e' = texts_fit null list head.0 (texts_from head.0.distinct [] head.1) rest rest' few found e e'
+head_fit : (only : Bool) (null : Option Text) (list : List Text) (head : Option (Header × List ℕ)) (rest rest' : List ℕ) → length list < 2 ^ 32 → AllFound list (head_list only head) → (on_head only (recoded list) head).1 ≡ Ok rest → (on_head only (line_at null) head).1 ≡ Ok rest' → Fit null list (on_head only (recoded list) head) (on_head only (line_at null) head) rest rest'
+head_fit only null list None rest rest' few found e e' = absurd (cc)
+head_fit only null list (Some head) rest rest' few found e e' = texts_fit null list head.0 (texts_from only head.0.distinct [] head.1) rest rest' few found e e'
 
--- the texts of a dictionary are UTF-8
-read_plain : (n : ℕ) (bytes : List ℕ) (read : ReadTexts) → texts_from n [] bytes ≡ read → ArePlain (read_list read)
-read_plain n bytes (Err error) e = tt
-read_plain n bytes (Ok texts) e = texts_plain n [] bytes texts e tt
+-- the texts of a dictionary have no line feed
+read_plain : (only : Bool) (n : ℕ) (bytes : List ℕ) (read : ReadTexts) → texts_from only n [] bytes ≡ read → ArePlain only (read_list read)
+read_plain only n bytes (Err error) e = tt
+read_plain only n bytes (Ok texts) e = texts_plain only n [] bytes texts e tt
 
-head_plain : (head : Option (Header × List ℕ)) → ArePlain (head_list head)
-head_plain None = tt
-head_plain (Some head) = read_plain head.0.distinct head.1 (texts_from head.0.distinct [] head.1) refl
+head_plain : (only : Bool) (head : Option (Header × List ℕ)) → ArePlain only (head_list only head)
+head_plain only None = tt
+head_plain only (Some head) = read_plain only head.0.distinct head.1 (texts_from only head.0.distinct [] head.1) refl
 
 -- ---- all columns
 
@@ -150,41 +150,41 @@ module _ (null : Option Text) (before dictionary : List Text) where
   old_lines entries lines are =
       subst (λ (ts : List Text). AreLinesOf null ts entries lines) (sym grown) (lines_stay null (distinct_of before) (new_texts (distinct_of before) dictionary) entries lines are)
 
--- the entries stand for the lines, the texts are UTF-8, and the same bytes are left
-abbrev AllFit : Option Text → List Text → List (Option ℕ) → List Text → List ℕ → List ℕ → Type 0
-AllFit null texts entries lines rest rest' = AreLinesOf null (distinct_of texts) entries lines × ArePlain texts × (rest ≡ rest')
+-- the entries stand for the lines, the texts have no line feed, and the same bytes are left
+abbrev AllFit : Bool → Option Text → List Text → List (Option ℕ) → List Text → List ℕ → List ℕ → Type 0
+AllFit only null texts entries lines rest rest' = AreLinesOf null (distinct_of texts) entries lines × ArePlain only texts × (rest ≡ rest')
 
-none_fit : (null : Option Text) (texts : List Text) (entries : List (Option ℕ)) (lines : List Text) (input rest rest' : List ℕ) → texts ≡ [] → entries ≡ [] → lines ≡ [] → rest ≡ input → rest' ≡ input → AllFit null texts entries lines rest rest'
-none_fit null texts entries lines input rest rest' none none' none'' e e' = rw (none, none', none'') (tt, tt, e ∙ sym e')
+none_fit : (only : Bool) (null : Option Text) (texts : List Text) (entries : List (Option ℕ)) (lines : List Text) (input rest rest' : List ℕ) → texts ≡ [] → entries ≡ [] → lines ≡ [] → rest ≡ input → rest' ≡ input → AllFit only null texts entries lines rest rest'
+none_fit only null texts entries lines input rest rest' none none' none'' e e' = rw (none, none', none'') (tt, tt, e ∙ sym e')
 
-one_fits : (null : Option Text) (before : List Text) (first : List (Option ℕ)) (mid : List ℕ) (lines : List Text) (mid' rest rest' : List ℕ) → AllFit null before first lines mid mid' → length (distinct_of (before ++ texts_at mid)) < 2 ^ 32 → (entries_of (distinct_of (before ++ texts_at mid)) mid).1 ≡ Ok rest → (decoded null mid').1 ≡ Ok rest' → AllFit null (before ++ texts_at mid) (first ++ (entries_of (distinct_of (before ++ texts_at mid)) mid).0) (lines ++ (decoded null mid').0) rest rest'
-one_fits null before first mid lines mid' rest rest' so_far few e e' =
-    let list = distinct_of (before ++ texts_at mid) in
-    let here : (decoded null mid).1 ≡ Ok rest' = subst (λ bs. (decoded null bs).1 ≡ Ok rest') (sym so_far.2) e' in
-    let fit : Fit null list (entries_of list mid) (decoded null mid) rest rest' = head_fit null list (head_of mid) rest rest' few (all_found null before (texts_at mid)) e here in
-    let last : AreLinesOf null list (entries_of list mid).0 (decoded null mid').0 = subst (λ bs. AreLinesOf null list (entries_of list mid).0 (decoded null bs).0) so_far.2 fit.0 in (
-      lines_both null list first (entries_of list mid).0 lines (decoded null mid').0 (old_lines null before (texts_at mid) first lines so_far.0) last,
-      plain_both before (texts_at mid) so_far.1 (head_plain (head_of mid)),
+one_fits : (only : Bool) (null : Option Text) (before : List Text) (first : List (Option ℕ)) (mid : List ℕ) (lines : List Text) (mid' rest rest' : List ℕ) → AllFit only null before first lines mid mid' → length (distinct_of (before ++ texts_at only mid)) < 2 ^ 32 → (entries_of only (distinct_of (before ++ texts_at only mid)) mid).1 ≡ Ok rest → (decoded only null mid').1 ≡ Ok rest' → AllFit only null (before ++ texts_at only mid) (first ++ (entries_of only (distinct_of (before ++ texts_at only mid)) mid).0) (lines ++ (decoded only null mid').0) rest rest'
+one_fits only null before first mid lines mid' rest rest' so_far few e e' =
+    let list = distinct_of (before ++ texts_at only mid) in
+    let here : (decoded only null mid).1 ≡ Ok rest' = subst (λ bs. (decoded only null bs).1 ≡ Ok rest') (sym so_far.2) e' in
+    let fit : Fit null list (entries_of only list mid) (decoded only null mid) rest rest' = head_fit only null list (head_of mid) rest rest' few (all_found null before (texts_at only mid)) e here in
+    let last : AreLinesOf null list (entries_of only list mid).0 (decoded only null mid').0 = subst (λ bs. AreLinesOf null list (entries_of only list mid).0 (decoded only null bs).0) so_far.2 fit.0 in (
+      lines_both null list first (entries_of only list mid).0 lines (decoded only null mid').0 (old_lines null before (texts_at only mid) first lines so_far.0) last,
+      plain_both only before (texts_at only mid) so_far.1 (head_plain only (head_of mid)),
       fit.1,
     )
 
-all_fit : (null : Option Text) (n : ℕ) (input : List ℕ) (texts : List Text) (entries : List (Option ℕ)) (lines : List Text) (rest rest' : List ℕ) → Merges n input texts entries rest → Reads null n input lines rest' → length (distinct_of texts) < 2 ^ 32 → AllFit null texts entries lines rest rest'
-all_fit null zero input texts entries lines rest rest' m r few = none_fit null texts entries lines input rest rest' m.0 m.1 r.0 m.2 r.1
-all_fit null (suc n) input texts entries lines rest rest' m r few =
+all_fit : (only : Bool) (null : Option Text) (n : ℕ) (input : List ℕ) (texts : List Text) (entries : List (Option ℕ)) (lines : List Text) (rest rest' : List ℕ) → Merges only n input texts entries rest → Reads only null n input lines rest' → length (distinct_of texts) < 2 ^ 32 → AllFit only null texts entries lines rest rest'
+all_fit only null zero input texts entries lines rest rest' m r few = none_fit only null texts entries lines input rest rest' m.0 m.1 r.0 m.2 r.1
+all_fit only null (suc n) input texts entries lines rest rest' m r few =
     let before = m.0 in
     let first = m.1 in
     let mid = m.2 in
-    let few' : length (distinct_of (before ++ texts_at mid)) < 2 ^ 32 = subst (λ (ts : List Text). length (distinct_of ts) < 2 ^ 32) m.4 few in
-    let so_far : AllFit null before first r.0 mid r.1 = all_fit null n input before first r.0 mid r.1 m.3 r.2 (fewer null before (texts_at mid) few') in
-    let ended : (entries_of (distinct_of (before ++ texts_at mid)) mid).1 ≡ Ok rest = subst (λ (ts : List Text). (entries_of (distinct_of ts) mid).1 ≡ Ok rest) m.4 m.5 in
-    let entries_are : entries ≡ first ++ (entries_of (distinct_of (before ++ texts_at mid)) mid).0 = m.6 ∙ ap (λ (ts : List Text). first ++ (entries_of (distinct_of ts) mid).0) m.4 in
-    let fit = one_fits null before first mid r.0 r.1 rest rest' so_far few' ended r.3 in
+    let few' : length (distinct_of (before ++ texts_at only mid)) < 2 ^ 32 = subst (λ (ts : List Text). length (distinct_of ts) < 2 ^ 32) m.4 few in
+    let so_far : AllFit only null before first r.0 mid r.1 = all_fit only null n input before first r.0 mid r.1 m.3 r.2 (fewer null before (texts_at only mid) few') in
+    let ended : (entries_of only (distinct_of (before ++ texts_at only mid)) mid).1 ≡ Ok rest = subst (λ (ts : List Text). (entries_of only (distinct_of ts) mid).1 ≡ Ok rest) m.4 m.5 in
+    let entries_are : entries ≡ first ++ (entries_of only (distinct_of (before ++ texts_at only mid)) mid).0 = m.6 ∙ ap (λ (ts : List Text). first ++ (entries_of only (distinct_of ts) mid).0) m.4 in
+    let fit = one_fits only null before first mid r.0 r.1 rest rest' so_far few' ended r.3 in
     rw (m.4, entries_are, r.4) fit
 
 pub merging_keeps_lines_lem : MergingKeepsLines
-merging_keeps_lines_lem binary null n input rest more texts entries lines merges few reads =
-    let fit = all_fit null n input texts entries lines rest rest merges reads few.0 in
-    column_back binary null (distinct_of texts) entries lines more (fresh_new [] texts fit.1) fit.0 (let small = few.0 in omega (arith, small)) few.1
+merging_keeps_lines_lem only binary null n input rest more texts entries lines merges few reads =
+    let fit = all_fit only null n input texts entries lines rest rest merges reads few.0 in
+    column_back only binary null (distinct_of texts) entries lines more (fresh_new only [] texts fit.1) fit.0 (let small = few.0 in omega (arith, small)) few.1
 
 -- ---- columns that were merged can be decoded
 
@@ -214,15 +214,15 @@ texts_too : (word : Text) (list : List Text) (header : Header) (read : ReadTexts
 texts_too word list header (Err error) rest e = absurd (cc)
 texts_too word list header (Ok texts) rest e = items_too word list texts.0 header.lines header.binary 1 texts.1 rest e
 
-head_too : (word : Text) (list : List Text) (head : Option (Header × List ℕ)) (rest : List ℕ) → (on_head (recoded list) head).1 ≡ Ok rest → (on_head (line_at (Some word)) head).1 ≡ Ok rest
-head_too word list None rest e = absurd (cc)
-head_too word list (Some head) rest e = texts_too word list head.0 (texts_from head.0.distinct [] head.1) rest e
+head_too : (only : Bool) (word : Text) (list : List Text) (head : Option (Header × List ℕ)) (rest : List ℕ) → (on_head only (recoded list) head).1 ≡ Ok rest → (on_head only (line_at (Some word)) head).1 ≡ Ok rest
+head_too only word list None rest e = absurd (cc)
+head_too only word list (Some head) rest e = texts_too word list head.0 (texts_from only head.0.distinct [] head.1) rest e
 
 pub merged_columns_decode_lem : MergedColumnsDecode
-merged_columns_decode_lem word zero input rest texts entries m = ([], (refl, m.2))
-merged_columns_decode_lem word (suc n) input rest texts entries m =
-    let before = merged_columns_decode_lem word n input m.2 m.0 m.1 m.3 in
-    (before.0 ++ (decoded (Some word) m.2).0, (before.0, m.2, before.1, head_too word (distinct_of texts) (head_of m.2) rest m.5, refl))
+merged_columns_decode_lem only word zero input rest texts entries m = ([], (refl, m.2))
+merged_columns_decode_lem only word (suc n) input rest texts entries m =
+    let before = merged_columns_decode_lem only word n input m.2 m.0 m.1 m.3 in
+    (before.0 ++ (decoded only (Some word) m.2).0, (before.0, m.2, before.1, head_too only word (distinct_of texts) (head_of m.2) rest m.5, refl))
 
 -- ---- no text twice
 

@@ -8,27 +8,28 @@ use Rattle.std.proofs.Common.{ℕ, zero, suc, ◌≡◌, ◌+◌, ◌^◌, ◌<�
 use Rattle.std.specs.Prelude.{All, flat_map, decimal, slice_get, position}
 use Rattle.std.specs.Int.{w32, to_le_bytes}
 use Rattle.std.specs.List.{onto_first, position_or_len}
-use Rattle.std.specs.Str.{IsUtf8, is_utf8}
 use Rattle.std.proofs.Math.Seq.{take-append_seam}
 use Rattle.std.proofs.lemmas.Bool.Decides.{nat_tests}
 use Rattle.std.proofs.lemmas.List.{append-nil, length-map}
+use Rattle.std.proofs.lemmas.List.Elements.{All-head, All-tail, All-weaker}
 use Rattle.std.proofs.lemmas.List.Sums.{position_or_len_is}
 use Rattle.std.proofs.lemmas.Option.{slice_get_within}
 use Rattle.std.proofs.Math.Bool.{not-not}
 use Rattle.std.proofs.lemmas.Slice.Eq.{bytes_eq-Decides}
 use Rattle.std.proofs.lemmas.Nat.{from_le_bytes-to_le_bytes_4}
-use Rattle.std.proofs.lemmas.Str.{is_utf8-from_IsUtf8}
 use Rattle.lasso_parts.proofs.TextLemmas.{position_here, position_last}
 use Rattle.lasso_parts.specs.Texts.{Text, position_of}
 use Rattle.lasso_input.specs.Lines.{NoFeed, is_line_feed, lines_of}
 use Rattle.lasso_columns.specs.Parts.{new_texts}
-use Rattle.lasso_encode.proofs.Coded.{position_stays}
+use Rattle.lasso_single.proofs.Coded.{position_stays}
 use Rattle.lasso_input.proofs.FirstLines.{no_feed_both}
-use Rattle.lasso_codes.specs.Arguments.{digits_value}
-use Rattle.lasso_codes.specs.Columns.{is_null, texts_of, dictionary_of, entry_of, entry_bytes, header, header_front, column_of, column_bytes}
+use Rattle.lasso_columns.specs.Rows.{is_null, texts_of}
+use Rattle.lasso_input.specs.Numbers.{digits_value}
+use Rattle.lasso_codes.specs.Columns.{dictionary_of, entry_of, entry_bytes, header, header_front, column_of, column_bytes}
 use Rattle.lasso_codes.specs.Distinct.{with_feed}
 use Rattle.lasso_codes.specs.Decode.{DecodingGivesLines, text_or_past, null_line, line_at, decoded}
 use Rattle.lasso_codes.specs.Reading.{header_with, header_at, header_in, header_of, head_of, on_header_line, on_text, texts_from, number_entry, code_in, entry_in, cut_number, cut_entry, on_entry_line, on_item, items_from, on_head, on_texts}
+use Rattle.lasso_codes.specs.Limits.{is_let_in, IsLetIn}
 use Rattle.lasso_codes.specs.Streams.{cut_line}
 use Rattle.lasso_codes.specs.declared.entries.Entry.{Entry}
 use Rattle.lasso_codes.specs.declared.entries.Entry.TheVariants.{Null, Code}
@@ -105,18 +106,18 @@ head_back binary d n rest small small' =
 
 -- ---- the dictionary
 
--- each of the texts is UTF-8 without a line feed, and is absent from the list and from the texts before it
-abbrev pub AreFresh : List Text → List Text → Type 0
-AreFresh list [] = Unit {0}
-AreFresh list (t ∷ ts) = (is_utf8 t ≡ true) × NoFeed t × (position_of list t ≡ None) × AreFresh (list ++ t ∷ []) ts
+-- each of the texts is without a line feed, is let in, and is absent from the list and from the texts before it
+abbrev pub AreFresh : Bool → List Text → List Text → Type 0
+AreFresh only list [] = Unit {0}
+AreFresh only list (t ∷ ts) = NoFeed t × (is_let_in only t ≡ true) × (position_of list t ≡ None) × AreFresh only (list ++ t ∷ []) ts
 
-texts_back : (list texts : List Text) (rest : List ℕ) → AreFresh list texts → texts_from (length texts) list (flat_map with_feed texts ++ rest) ≡ Ok (list ++ texts, rest)
-texts_back list [] rest fresh = ap (λ (ts : List Text). Ok (ts, rest)) (sym (append-nil list))
-texts_back list (t ∷ ts) rest fresh =
+texts_back : (only : Bool) (list texts : List Text) (rest : List ℕ) → AreFresh only list texts → texts_from only (length texts) list (flat_map with_feed texts ++ rest) ≡ Ok (list ++ texts, rest)
+texts_back only list [] rest fresh = ap (λ (ts : List Text). Ok (ts, rest)) (sym (append-nil list))
+texts_back only list (t ∷ ts) rest fresh =
     let others = flat_map with_feed ts ++ rest in
     let split : flat_map with_feed (t ∷ ts) ++ rest ≡ t ++ 10 ∷ others = simp append_assoc in
-    ap (texts_from (suc (length ts)) list) split ∙ ap (λ cut. on_text cut list (texts_from (length ts))) (cut_fed t others fresh.1)
-    ∙ rw (fresh.0, fresh.2) (texts_back (list ++ t ∷ []) ts rest fresh.3 ∙ ap (λ (l : List Text). Ok (l, rest)) (append_assoc list (t ∷ []) ts))
+    ap (texts_from only (suc (length ts)) list) split ∙ ap (λ cut. on_text only cut list (texts_from only (length ts))) (cut_fed t others fresh.0)
+    ∙ rw (fresh.1, fresh.2) (texts_back only (list ++ t ∷ []) ts rest fresh.3 ∙ ap (λ (l : List Text). Ok (l, rest)) (append_assoc list (t ∷ []) ts))
 
 -- ---- entries
 
@@ -173,26 +174,26 @@ lines_back binary null list (e ∷ es) (l ∷ ls) number rest are =
 -- ---- a column
 
 -- a dictionary, and entries that stand for lines, are read back
-pub column_back : (binary : Bool) (null : Option Text) (list : List Text) (entries : List (Option ℕ)) (lines : List Text) (rest : List ℕ) → AreFresh [] list → AreLinesOf null list entries lines → length list < 2 ^ 64 → length entries < 2 ^ 64 → decoded null (column_of binary list entries ++ rest) ≡ (lines, Ok rest)
-column_back binary null list entries lines rest fresh are few few' =
+pub column_back : (only : Bool) (binary : Bool) (null : Option Text) (list : List Text) (entries : List (Option ℕ)) (lines : List Text) (rest : List ℕ) → AreFresh only [] list → AreLinesOf null list entries lines → length list < 2 ^ 64 → length entries < 2 ^ 64 → decoded only null (column_of binary list entries ++ rest) ≡ (lines, Ok rest)
+column_back only binary null list entries lines rest fresh are few few' =
     let d = length list in
     let n = length entries in
     let back = flat_map (entry_bytes binary) entries ++ rest in
     let body = flat_map with_feed list ++ back in
     let split : column_of binary list entries ++ rest ≡ header binary d n ++ body = simp append_assoc in
-    ap (decoded null) split ∙ ap (on_head (line_at null)) (head_back binary d n body few few')
-    ∙ ap (on_texts (line_at null) (record { binary = binary; distinct = d; lines = n })) (texts_back [] list back fresh)
+    ap (decoded only null) split ∙ ap (on_head only (line_at null)) (head_back binary d n body few few')
+    ∙ ap (on_texts (line_at null) (record { binary = binary; distinct = d; lines = n })) (texts_back only [] list back fresh)
     ∙ lines_back binary null list entries lines 1 rest are
 
 -- ---- the column of lines
 
-fresh_one : (list : List Text) (t : Text) (ts : List Text) → ArePlain (t ∷ ts) → (o : Option ℕ) → position_of list t ≡ o → AreFresh list (new_texts list ts) → AreFresh (list ++ t ∷ []) (new_texts (list ++ t ∷ []) ts) → AreFresh list (cond (is_some o) (new_texts list ts) (t ∷ new_texts (list ++ t ∷ []) ts))
-fresh_one list t ts plain None e same more = (plain.0, plain.1, e, more)
-fresh_one list t ts plain (Some n) e same more = same
+fresh_one : (only : Bool) (list : List Text) (t : Text) (ts : List Text) → ArePlain only (t ∷ ts) → (o : Option ℕ) → position_of list t ≡ o → AreFresh only list (new_texts list ts) → AreFresh only (list ++ t ∷ []) (new_texts (list ++ t ∷ []) ts) → AreFresh only list (cond (is_some o) (new_texts list ts) (t ∷ new_texts (list ++ t ∷ []) ts))
+fresh_one only list t ts plain None e same more = (plain.0, plain.1, e, more)
+fresh_one only list t ts plain (Some n) e same more = same
 
-pub fresh_new : (list texts : List Text) → ArePlain texts → AreFresh list (new_texts list texts)
-fresh_new list [] plain = tt
-fresh_new list (t ∷ ts) plain = fresh_one list t ts plain (position_of list t) refl (fresh_new list ts plain.2) (fresh_new (list ++ t ∷ []) ts plain.2)
+pub fresh_new : (only : Bool) (list texts : List Text) → ArePlain only texts → AreFresh only list (new_texts list texts)
+fresh_new only list [] plain = tt
+fresh_new only list (t ∷ ts) plain = fresh_one only list t ts plain (position_of list t) refl (fresh_new only list ts plain.2) (fresh_new only (list ++ t ∷ []) ts plain.2)
 
 abbrev AreFree : List (List ℕ) → Type 0
 AreFree [] = Unit {0}
@@ -210,17 +211,18 @@ lines_free : (bytes : List ℕ) → AreFree (lines_of bytes)
 lines_free [] = tt
 lines_free (b ∷ bytes) = free_one b (lines_of bytes) (is_line_feed b) refl (lines_free bytes)
 
-plain_lines : (lines : List Text) → AreFree lines → All IsUtf8 lines → ArePlain lines
-plain_lines [] free all = tt
-plain_lines (l ∷ ls) free all = (is_utf8-from_IsUtf8 l (all 0 l (omega arith)), free.0, plain_lines ls free.1 (λ k d small. all (suc k) d (omega (arith, small))))
+plain_lines : (only : Bool) (lines : List Text) → AreFree lines → All (λ l. is_let_in only l ≡ true) lines → ArePlain only lines
+plain_lines only [] free lets = tt
+plain_lines only (l ∷ ls) free lets =
+    (free.0, All-head (λ t. is_let_in only t ≡ true) l ls lets, plain_lines only ls free.1 (All-tail (λ t. is_let_in only t ≡ true) l ls lets))
 
-plain_one : (keep : Bool) (l : Text) (ls : List Text) → is_utf8 l ≡ true → NoFeed l → ArePlain ls → ArePlain (cond keep (l ∷ ls) ls)
-plain_one true l ls text free plain = (text, free, plain)
-plain_one false l ls text free plain = plain
+plain_one : (only keep : Bool) (l : Text) (ls : List Text) → NoFeed l → is_let_in only l ≡ true → ArePlain only ls → ArePlain only (cond keep (l ∷ ls) ls)
+plain_one only true l ls free let_in plain = (free, let_in, plain)
+plain_one only false l ls free let_in plain = plain
 
-plain_texts : (null : Option Text) (lines : List Text) → ArePlain lines → ArePlain (texts_of null lines)
-plain_texts null [] plain = tt
-plain_texts null (l ∷ ls) plain = plain_one (not (is_null null l)) l (texts_of null ls) plain.0 plain.1 (plain_texts null ls plain.2)
+plain_texts : (only : Bool) (null : Option Text) (lines : List Text) → ArePlain only lines → ArePlain only (texts_of null lines)
+plain_texts only null [] plain = tt
+plain_texts only null (l ∷ ls) plain = plain_one only (not (is_null null l)) l (texts_of null ls) plain.0 plain.1 (plain_texts only null ls plain.2)
 
 -- each of the lines that is not null is in the list
 abbrev StandsAs : Bool → List Text → Text → Type 0
@@ -288,16 +290,21 @@ lines_read null list (l ∷ ls) few stand =
     (one.0, one.1, lines_read null list ls few stand.1)
 
 -- the column of lines is read as these lines
-column_lines : (binary : Bool) (null : Option Text) (input rest : List ℕ) → All IsUtf8 (lines_of input) → length (lines_of input) < 2 ^ 64 → length (dictionary_of null (lines_of input)) < 2 ^ 32 → decoded null (column_bytes binary null (lines_of input) ++ rest) ≡ (lines_of input, Ok rest)
-column_lines binary null input rest texts many few =
+column_lines : (only : Bool) (binary : Bool) (null : Option Text) (input rest : List ℕ) → All (λ l. is_let_in only l ≡ true) (lines_of input) → length (lines_of input) < 2 ^ 64 → length (dictionary_of null (lines_of input)) < 2 ^ 32 → decoded only null (column_bytes binary null (lines_of input) ++ rest) ≡ (lines_of input, Ok rest)
+column_lines only binary null input rest lets many few =
     let lines = lines_of input in
     let list = dictionary_of null lines in
-    let plain : ArePlain lines = plain_lines lines (lines_free input) texts in
-    let fresh : AreFresh [] list = fresh_new [] (texts_of null lines) (plain_texts null lines plain) in
+    let plain : ArePlain only lines = plain_lines only lines (lines_free input) lets in
+    let fresh : AreFresh only [] list = fresh_new only [] (texts_of null lines) (plain_texts only null lines plain) in
     let stand : AllStand null list lines = all_stand null list lines (found_new [] (texts_of null lines)) in
-    column_back binary null list (map (entry_of null list) lines) lines rest fresh (lines_read null list lines few stand) (omega (arith, few)) (omega (arith, many, length-map lines (entry_of null list)))
+    column_back only binary null list (map (entry_of null list) lines) lines rest fresh (lines_read null list lines few stand) (omega (arith, few)) (omega (arith, many, length-map lines (entry_of null list)))
+
+let_in_too : (strict only : Bool) (line : Text) → (strict ≡ true → only ≡ true) → is_let_in only line ≡ true → is_let_in strict line ≡ true
+let_in_too false only line weaker let_in = refl
+let_in_too true only line weaker let_in = subst (λ o. is_let_in o line ≡ true) (weaker refl) let_in
 
 -- decoding what was encoded gives the lines
 pub decoding_gives_lines_lem : DecodingGivesLines
-decoding_gives_lines_lem input limit null binary part rest end =
-    ap (λ bs. decoded null (bs ++ rest)) end.1 ∙ column_lines binary null input rest end.0 end.2.1 end.2.0
+decoding_gives_lines_lem input only strict limit null binary part rest weaker end =
+    let lets = All-weaker (IsLetIn only) (λ l. is_let_in strict l ≡ true) (λ l let_in. let_in_too strict only l weaker let_in.1) (lines_of input) end.0 in
+    ap (λ bs. decoded strict null (bs ++ rest)) end.1 ∙ column_lines strict binary null input rest lets end.2.1 end.2.0

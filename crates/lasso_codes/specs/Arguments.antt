@@ -1,7 +1,7 @@
 -- How the arguments are parsed, and why they are refused.
 use Rattle.std.specs.Prelude.{ℕ, ◌+◌, ◌-◌, ◌*◌, ◌^◌, ◌<◌, ◌==◌, Bool, true, false, ◌&&◌, List, [], ◌∷◌, ◌++◌, length, take, drop, nat_le, nat_lt, Option, Some, None, Result, Ok, Err, slice_get, option_and_then, option_map, position, codes, decimal, bytes_eq, if◌then◌else◌}
-use denote.Ref.{Bor}
 use Rattle.lasso_parts.specs.Texts.{Text}
+use Rattle.lasso_input.specs.Numbers.{digits_value}
 use Rattle.lasso_codes.specs.declared.arguments.Verb.{Verb}
 use Rattle.lasso_codes.specs.declared.arguments.Verb.TheVariants.{Counts, Decode, Distinct, Encode, Merge}
 use Rattle.lasso_codes.specs.declared.arguments.Settings.{Settings}
@@ -11,23 +11,9 @@ use Rattle.lasso_codes.specs.declared.options.Setting.{Setting}
 use Rattle.lasso_codes.specs.declared.options.Setting.TheVariants.{Limit, Top, Null, Workers}
 use Rattle.lasso_codes.specs.declared.options.Reading.{Reading}
 use Rattle.lasso_codes.specs.declared.options.Meaning.{Meaning}
-use Rattle.lasso_codes.specs.declared.options.Meaning.TheVariants.{AsksHelp, IsBinary, IsQuiet, Wants, Has, Nothing}
+use Rattle.lasso_codes.specs.declared.options.Meaning.TheVariants.{AsksHelp, IsBinary, IsQuiet, IsUtf8Only, Wants, Has, Nothing}
 use Rattle.lasso_codes.specs.declared.arguments.ArgumentError.{ArgumentError}
 use Rattle.lasso_codes.specs.declared.arguments.ArgumentError.TheVariants.{NoVerb, NotVerb, NotOption, NoNumber, NoWord, NotNumber, NoWorkers, PastWorkers, NotText}
-
--- an ASCII digit
-abbrev pub is_digit : ℕ → Bool
-is_digit b = nat_le 48 b && nat_le b 57
-
--- the value of digits that follow digits of this value, if it is below 2 ^ 64
-abbrev pub digits_after : ℕ → List ℕ → Option ℕ
-digits_after value [] = Some value
-digits_after value (b ∷ bytes) =
-    if is_digit b && nat_lt (value * 10 + (b - 48)) (2 ^ 64) then digits_after (value * 10 + (b - 48)) bytes else None
-
--- the value of 1 to 20 digits
-abbrev pub digits_value : List ℕ → Option ℕ
-digits_value word = if nat_le 1 (length word) && nat_le (length word) 20 then digits_after 0 word else None
 
 -- the factor that the last byte stands for: 1024 for K, and its square and cube for M and G
 abbrev pub unit_of : Option ℕ → ℕ
@@ -55,7 +41,7 @@ abbrev pub not_verb : Text → List ℕ
 not_verb word = word ++ codes ": no such verb"
 
 abbrev pub not_option : Text → List ℕ
-not_option word = word ++ codes ": no such option"
+not_option word = word ++ codes ": not an option of this verb"
 
 abbrev pub no_number : Text → List ℕ
 no_number word = word ++ codes ": a number is missing"
@@ -144,20 +130,18 @@ abbrev pub meaning_of : Verb → Text → Meaning
 meaning_of verb word =
     if bytes_eq word (codes "--help") then AsksHelp
     else (if bytes_eq word (codes "--quiet") then IsQuiet
-    else (if is_binary verb word then IsBinary else at_equals verb word (position (λ b. b == 61) word)))
+    else (if is_binary verb word then IsBinary
+    else (if bytes_eq word (codes "--utf8") then IsUtf8Only else at_equals verb word (position (λ b. b == 61) word))))
 
 -- the equals sign is within the word
 abbrev pub IsWithin : Meaning → Text → Type 0
 IsWithin AsksHelp word = Unit {0}
 IsWithin IsBinary word = Unit {0}
 IsWithin IsQuiet word = Unit {0}
+IsWithin IsUtf8Only word = Unit {0}
 IsWithin (Wants setting) word = Unit {0}
 IsWithin (Has setting at) word = at < length word
 IsWithin Nothing word = Unit {0}
-
--- the bytes of a borrowed word
-abbrev pub word_of : Option (Bor Text) → Option Text
-word_of word = option_map (λ w. w.now) word
 
 -- the setting whose value is the next word, with its name
 abbrev pub wanted_of : Reading → Option (Setting × Text)
@@ -199,13 +183,14 @@ abbrev pub on_value : Result (Settings × Option Text) (List ℕ) → (Settings 
 on_value (Ok value) go = go value.0 value.1
 on_value (Err message) go = Err message
 
-abbrev pub on_meaning : Meaning → Asked → Asked → Asked → (Setting → Asked) → (Setting → ℕ → Asked) → Asked → Asked
-on_meaning AsksHelp help binary quiet wants has nothing = help
-on_meaning IsBinary help binary quiet wants has nothing = binary
-on_meaning IsQuiet help binary quiet wants has nothing = quiet
-on_meaning (Wants setting) help binary quiet wants has nothing = wants setting
-on_meaning (Has setting at) help binary quiet wants has nothing = has setting at
-on_meaning Nothing help binary quiet wants has nothing = nothing
+abbrev pub on_meaning : Meaning → Asked → Asked → Asked → Asked → (Setting → Asked) → (Setting → ℕ → Asked) → Asked → Asked
+on_meaning AsksHelp help binary quiet only wants has nothing = help
+on_meaning IsBinary help binary quiet only wants has nothing = binary
+on_meaning IsQuiet help binary quiet only wants has nothing = quiet
+on_meaning IsUtf8Only help binary quiet only wants has nothing = only
+on_meaning (Wants setting) help binary quiet only wants has nothing = wants setting
+on_meaning (Has setting at) help binary quiet only wants has nothing = has setting at
+on_meaning Nothing help binary quiet only wants has nothing = nothing
 
 -- the command that the rest of the words gives. So far, the settings and the null are these, and `wanted` is
 -- the setting whose value is the next word
@@ -218,6 +203,7 @@ options_of verb settings null None (word ∷ words) =
     on_meaning (meaning_of verb word) (Ok (VerbHelp verb, None))
     (options_of verb (record settings { binary = true }) null None words)
     (options_of verb (record settings { quiet = true }) null None words)
+    (options_of verb (record settings { only_utf8 = true }) null None words)
     (λ setting. options_of verb settings null (Some (setting, word)) words)
     (λ setting at. on_value (value_of settings null setting (drop (at + 1) word) word) (λ after given. options_of verb after given None words))
     (Err (not_option word))
@@ -233,7 +219,7 @@ verb_of word =
 
 -- the default settings: no limit, all lines, codes as text, one worker, and a progress line
 abbrev pub unset : Settings
-unset = record { limit = 2 ^ 64 - 1; top = 2 ^ 64 - 1; binary = false; workers = 1; quiet = false }
+unset = record { limit = 2 ^ 64 - 1; top = 2 ^ 64 - 1; binary = false; only_utf8 = false; workers = 1; quiet = false }
 
 abbrev pub on_verb : Option Verb → Text → List Text → Asked
 on_verb None word words = Err (not_verb word)

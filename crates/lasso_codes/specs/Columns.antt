@@ -1,22 +1,13 @@
 -- The bytes of a column: a header, the dictionary's lines in the order of their codes, and an entry for each
 -- line.
-use Rattle.std.specs.Prelude.{ℕ, ◌==◌, Bool, true, false, not, List, [], ◌∷◌, ◌++◌, length, map, flat_map, Option, Some, None, unwrap_or, bytes_eq, codes, decimal, if◌then◌else◌}
-use Rattle.std.specs.List.{filter}
+use Rattle.std.specs.Prelude.{ℕ, ◌==◌, Bool, true, false, List, [], ◌∷◌, ◌++◌, length, map, flat_map, Option, Some, None, unwrap_or, codes, decimal, if◌then◌else◌}
 use Rattle.std.specs.Int.{w32, to_le_bytes}
 use Rattle.lasso_parts.specs.Texts.{Text, position_of}
 use Rattle.lasso_columns.specs.Parts.{new_texts}
+use Rattle.lasso_columns.specs.Rows.{is_null, texts_of}
 use Rattle.lasso_codes.specs.Distinct.{with_feed}
 
--- ---- nulls
-
--- whether the line is a null
-abbrev pub is_null : Option Text → Text → Bool
-is_null None line = false
-is_null (Some word) line = bytes_eq word line
-
--- the lines that are not null
-abbrev pub texts_of : Option Text → List Text → List Text
-texts_of null lines = filter (λ line. not (is_null null line)) lines
+-- ---- the dictionary
 
 -- each distinct text once, in the order of first occurrences
 abbrev pub dictionary_of : Option Text → List Text → List Text

@@ -1,13 +1,15 @@
 -- What `counts` writes, and how it ends.
-use Rattle.std.specs.Prelude.{ℕ, ◌≡◌, ◌⊎◌, List, [], ◌∷◌, ◌++◌, length, map, IsPermutation, IsSorted, flat_map, take, sum_by, decimal, Vec, Result, MatchResult}
+use Rattle.std.specs.Prelude.{ℕ, ◌≡◌, ◌⊎◌, Bool, false, List, [], ◌∷◌, ◌++◌, length, map, IsPermutation, IsSorted, flat_map, take, sum_by, decimal, Vec, Result, MatchResult}
 use Rattle.lasso_parts.specs.Texts.{Text}
 use Rattle.lasso_single.specs.Interner.{InternerView}
 use Rattle.lasso_input.specs.Lines.{lines_of}
+use Rattle.lasso_input.specs.Texts.{is_own_text, text_of}
 use Rattle.lasso_columns.specs.Parts.{new_texts}
 use Rattle.lasso_columns.specs.declared.faults.LineError.{LineError}
 use Rattle.lasso_columns.specs.declared.faults.LineError.TheVariants.{Refused, NotText}
-use Rattle.lasso_counts.specs.Adding.{RefusesNew}
-use Rattle.lasso_counts.specs.Counts.{count_of, ranked_cmp}
+use Rattle.lasso_parts.specs.declared.util.LassoErrorKind.TheVariants.{FailedAllocation}
+use Rattle.lasso_columns.specs.Adding.{RefusesNew}
+use Rattle.lasso_columns.specs.Counts.{count_of, ranked_cmp}
 use Rattle.lasso_codes.specs.Distinct.{IsErrorAfter}
 use Rattle.lasso_codes.specs.Errors.{AreTooMany}
 use Rattle.lasso_codes.specs.Limits.{AreTaken}
@@ -30,19 +32,20 @@ IsCountsReport lines top report =
     (ranked : List (ℕ × Text)) × IsPermutation (counted_lines lines) ranked × IsSorted ranked_cmp ranked × (sum_by (λ pair. pair.0) ranked ≡ length lines)
     × (report ≡ flat_map count_line (take top ranked))
 
--- a refused line is absent, and when memory may run out for it is as `RefusesNew` has it
+-- the text of a refused line is absent, and when memory may run out for it is as `RefusesNew` has it; or the line is
+-- not its own text, and memory ran out
 abbrev pub RefusesNewLine : {A : Type 0} → InternerView → Vec ℕ A → Text → LineError → Type 0
-RefusesNewLine now counts line (Refused number error) = RefusesNew now counts line error
+RefusesNewLine now counts line (Refused number error) = RefusesNew now counts (text_of line) error ⊎ ((error ≡ FailedAllocation) × (is_own_text line ≡ false))
 RefusesNewLine now counts line (NotText number) = Unit {0}
 
 -- why lines were not counted
-abbrev pub CountingError : ℕ → List Text → RunError → Type 0
-CountingError limit lines (Line error) = (n : ℕ) × IsErrorAfter limit lines n error
-CountingError limit lines TooManyLines = AreTooMany (length lines)
-CountingError limit lines ReadFailed = Unit {0}
-CountingError limit lines WriteFailed = ⊥
-CountingError limit lines ReaderGone = ⊥
-CountingError limit lines (Column column error) = ⊥
+abbrev pub CountingError : Bool → ℕ → List Text → RunError → Type 0
+CountingError only limit lines (Line error) = (n : ℕ) × IsErrorAfter only limit lines n error
+CountingError only limit lines TooManyLines = AreTooMany (length lines)
+CountingError only limit lines ReadFailed = Unit {0}
+CountingError only limit lines WriteFailed = ⊥
+CountingError only limit lines ReaderGone = ⊥
+CountingError only limit lines (Column column error) = ⊥
 
 -- nothing was written, or a beginning of a report
 abbrev pub IsBegun : List Text → ℕ → List ℕ → Type 0
@@ -50,16 +53,16 @@ IsBegun lines top part = (part ≡ []) ⊎ ((whole : List ℕ) × IsCountsReport
 
 -- how a run ends with an error after it has written the part. Nothing was written unless all lines were
 -- counted
-abbrev pub CountsError : ℕ → List Text → ℕ → List ℕ → RunError → Type 0
-CountsError limit lines top part (Line error) = (part ≡ []) × CountingError limit lines (Line error)
-CountsError limit lines top part TooManyLines = (part ≡ []) × CountingError limit lines TooManyLines
-CountsError limit lines top part ReadFailed = part ≡ []
-CountsError limit lines top part WriteFailed = IsBegun lines top part
-CountsError limit lines top part ReaderGone = IsBegun lines top part
-CountsError limit lines top part (Column column error) = ⊥
+abbrev pub CountsError : Bool → ℕ → List Text → ℕ → List ℕ → RunError → Type 0
+CountsError only limit lines top part (Line error) = (part ≡ []) × CountingError only limit lines (Line error)
+CountsError only limit lines top part TooManyLines = (part ≡ []) × CountingError only limit lines TooManyLines
+CountsError only limit lines top part ReadFailed = part ≡ []
+CountsError only limit lines top part WriteFailed = IsBegun lines top part
+CountsError only limit lines top part ReaderGone = IsBegun lines top part
+CountsError only limit lines top part (Column column error) = ⊥
 
--- how a run of `counts` ends: without an error, all lines are UTF-8, a new interner with this limit takes them,
--- and the part is their report
-abbrev pub CountsEnd : List ℕ → ℕ → ℕ → List ℕ → Result (Unit {0}) RunError → Type 0
-CountsEnd input limit top part result =
-    MatchResult result (λ _. AreTaken limit (lines_of input) × IsCountsReport (lines_of input) top part) (CountsError limit (lines_of input) top part)
+-- how a run of `counts` ends: without an error, all lines are let in, a new interner with this limit takes their
+-- texts, and the part is their report
+abbrev pub CountsEnd : List ℕ → Bool → ℕ → ℕ → List ℕ → Result (Unit {0}) RunError → Type 0
+CountsEnd input only limit top part result =
+    MatchResult result (λ _. AreTaken only limit (lines_of input) × IsCountsReport (lines_of input) top part) (CountsError only limit (lines_of input) top part)

@@ -1,5 +1,5 @@
 -- What `decode` writes, and how it ends.
-use Rattle.std.specs.Prelude.{ℕ, zero, suc, ◌≡◌, ◌+◌, ◌<◌, Bool, List, [], ◌++◌, take, flat_map, Option, Some, None, Result, Ok, Err, MatchResult, slice_get}
+use Rattle.std.specs.Prelude.{true, ℕ, zero, suc, ◌≡◌, ◌+◌, ◌<◌, Bool, List, [], ◌++◌, take, flat_map, Option, Some, None, Result, Ok, Err, MatchResult, slice_get}
 use Rattle.lasso_parts.specs.Texts.{Text}
 use Rattle.lasso_parts.specs.declared.util.LassoErrorKind.TheVariants.{FailedAllocation}
 use Rattle.lasso_input.specs.Lines.{lines_of}
@@ -7,7 +7,7 @@ use Rattle.lasso_columns.specs.declared.faults.LineError.TheVariants.{Refused}
 use Rattle.lasso_codes.specs.Distinct.{with_feed}
 use Rattle.lasso_codes.specs.Encode.{EncodeEnd}
 use Rattle.lasso_codes.specs.Errors.{AreTooMany}
-use Rattle.lasso_codes.specs.Limits.{Admits}
+use Rattle.lasso_codes.specs.Limits.{line_texts, Admits}
 use Rattle.lasso_codes.specs.Reading.{Makes, ReadItems, texts_at, read_column, IsEntryError, IsColumnError}
 use Rattle.lasso_codes.specs.Streams.{Begins, WritesAll}
 use Rattle.lasso_codes.specs.declared.entries.Entry.TheVariants.{Missing, Bad, Null, Code}
@@ -37,19 +37,19 @@ line_at null list (Code code) number = text_or_past (slice_get list code) number
 
 -- the lines of the first column of the bytes, and the bytes after it; or the lines before an error. `null` is
 -- the word for a null
-abbrev pub decoded : Option Text → List ℕ → ReadItems Text
-decoded null bytes = read_column (line_at null) bytes
+abbrev pub decoded : Bool → Option Text → List ℕ → ReadItems Text
+decoded only null bytes = read_column only (line_at null) bytes
 
 -- the bytes begin with n columns, which have these lines, and the rest follows them
-abbrev pub Reads : Option Text → ℕ → List ℕ → List Text → List ℕ → Type 0
-Reads null zero bytes lines rest = (lines ≡ []) × (rest ≡ bytes)
-Reads null (suc n) bytes lines rest =
-    (before : List Text) × (mid : List ℕ) × Reads null n bytes before mid × ((decoded null mid).1 ≡ Ok rest) × (lines ≡ before ++ (decoded null mid).0)
+abbrev pub Reads : Bool → Option Text → ℕ → List ℕ → List Text → List ℕ → Type 0
+Reads only null zero bytes lines rest = (lines ≡ []) × (rest ≡ bytes)
+Reads only null (suc n) bytes lines rest =
+    (before : List Text) × (mid : List ℕ) × Reads only null n bytes before mid × ((decoded only null mid).1 ≡ Ok rest) × (lines ≡ before ++ (decoded only null mid).0)
 
 -- the first n columns of the bytes have dictionaries that a new interner with this limit takes, each one alone
-abbrev pub AdmitsEach : ℕ → Option Text → ℕ → List ℕ → Type 0
-AdmitsEach limit null zero bytes = Unit {0}
-AdmitsEach limit null (suc n) bytes = AdmitsEach limit null n bytes × ((lines : List Text) × (mid : List ℕ) × Reads null n bytes lines mid × Admits limit (texts_at mid))
+abbrev pub AdmitsEach : Bool → ℕ → Option Text → ℕ → List ℕ → Type 0
+AdmitsEach only limit null zero bytes = Unit {0}
+AdmitsEach only limit null (suc n) bytes = AdmitsEach only limit null n bytes × ((lines : List Text) × (mid : List ℕ) × Reads only null n bytes lines mid × Admits limit (line_texts (texts_at only mid)))
 
 -- ---- what is written of a column
 
@@ -81,43 +81,44 @@ WritesLines read column after part result =
 
 -- the lines of the first n columns were written, and the first m lines of the next column. A new interner with
 -- this limit takes the dictionary of each
-abbrev pub IsWhole : List ℕ → ℕ → Option Text → List ℕ → Type 0
-IsWhole input limit null part =
-    (n : ℕ) × (lines : List Text) × (rest : List ℕ) × Reads null n input lines rest × AdmitsEach limit null n input
-    × ((m : ℕ) × (0 < m → Admits limit (texts_at rest)) × (part ≡ fed_lines (lines ++ take m (decoded null rest).0)))
+abbrev pub IsWhole : List ℕ → Bool → ℕ → Option Text → List ℕ → Type 0
+IsWhole input only limit null part =
+    (n : ℕ) × (lines : List Text) × (rest : List ℕ) × Reads only null n input lines rest × AdmitsEach only limit null n input
+    × ((m : ℕ) × (0 < m → Admits limit (line_texts (texts_at only rest))) × (part ≡ fed_lines (lines ++ take m (decoded only null rest).0)))
 
 -- a beginning of these lines was written
-abbrev pub IsBegun : List ℕ → Option Text → List ℕ → Type 0
-IsBegun input null part = (n : ℕ) × (lines : List Text) × (rest : List ℕ) × Reads null n input lines rest × Begins part (fed_lines (lines ++ (decoded null rest).0))
+abbrev pub IsBegun : List ℕ → Bool → Option Text → List ℕ → Type 0
+IsBegun input only null part = (n : ℕ) × (lines : List Text) × (rest : List ℕ) × Reads only null n input lines rest × Begins part (fed_lines (lines ++ (decoded only null rest).0))
 
 -- the lines of the column that are written before the error
-abbrev pub lines_before : Option Text → List ℕ → ColumnError → List Text
-lines_before null bytes (TextRefused number error) = []
-lines_before null bytes error = (decoded null bytes).0
+abbrev pub lines_before : Bool → Option Text → List ℕ → ColumnError → List Text
+lines_before only null bytes (TextRefused number error) = []
+lines_before only null bytes error = (decoded only null bytes).0
 
 -- how a run ends with an error after it has written the part
-abbrev pub DecodeError : List ℕ → ℕ → Option Text → List ℕ → RunError → Type 0
-DecodeError input limit null part (Line error) = (error ≡ Refused 0 FailedAllocation) × IsWhole input limit null part
-DecodeError input limit null part TooManyLines =
-    (n : ℕ) × (lines : List Text) × (rest : List ℕ) × Reads null n input lines rest × AdmitsEach limit null n input × AreTooMany n × (part ≡ fed_lines lines)
-DecodeError input limit null part ReadFailed = IsWhole input limit null part
-DecodeError input limit null part WriteFailed = IsBegun input null part
-DecodeError input limit null part ReaderGone = IsBegun input null part
-DecodeError input limit null part (Column column error) =
-    (n : ℕ) × (lines : List Text) × (rest : List ℕ) × Reads null n input lines rest × AdmitsEach limit null n input × (column ≡ n + 1)
-    × IsColumnError (line_at null) limit rest error × (part ≡ fed_lines (lines ++ lines_before null rest error))
+abbrev pub DecodeError : List ℕ → Bool → ℕ → Option Text → List ℕ → RunError → Type 0
+DecodeError input only limit null part (Line error) = (error ≡ Refused 0 FailedAllocation) × IsWhole input only limit null part
+DecodeError input only limit null part TooManyLines =
+    (n : ℕ) × (lines : List Text) × (rest : List ℕ) × Reads only null n input lines rest × AdmitsEach only limit null n input × AreTooMany n × (part ≡ fed_lines lines)
+DecodeError input only limit null part ReadFailed = IsWhole input only limit null part
+DecodeError input only limit null part WriteFailed = IsBegun input only null part
+DecodeError input only limit null part ReaderGone = IsBegun input only null part
+DecodeError input only limit null part (Column column error) =
+    (n : ℕ) × (lines : List Text) × (rest : List ℕ) × Reads only null n input lines rest × AdmitsEach only limit null n input × (column ≡ n + 1)
+    × IsColumnError only (line_at null) limit rest error × (part ≡ fed_lines (lines ++ lines_before only null rest error))
 
 -- how a run of `decode` ends: without an error, the input is columns, a new interner with this limit takes the
 -- dictionary of each, and the part is their lines
-abbrev pub DecodeEnd : List ℕ → ℕ → Option Text → List ℕ → Result (Unit {0}) RunError → Type 0
-DecodeEnd input limit null part result =
-    MatchResult result (λ _. (n : ℕ) × (lines : List Text) × Reads null n input lines [] × AdmitsEach limit null n input × (part ≡ fed_lines lines))
-    (DecodeError input limit null part)
+abbrev pub DecodeEnd : List ℕ → Bool → ℕ → Option Text → List ℕ → Result (Unit {0}) RunError → Type 0
+DecodeEnd input only limit null part result =
+    MatchResult result (λ _. (n : ℕ) × (lines : List Text) × Reads only null n input lines [] × AdmitsEach only limit null n input × (part ≡ fed_lines lines))
+    (DecodeError input only limit null part)
 
 -- ---- the law
 
--- decoding what `encode` wrote for an input gives the lines of the input, whatever follows the column
+-- decoding what `encode` wrote for an input gives the lines of the input, whatever follows the column. `strict`: only
+-- UTF-8 is let in, and `encode` let in no more
 abbrev pub DecodingGivesLines : Type 0
 DecodingGivesLines =
-    (input : List ℕ) (limit : ℕ) (null : Option Text) (binary : Bool) (part rest : List ℕ)
-    → EncodeEnd input limit null binary part (Ok tt) → decoded null (part ++ rest) ≡ (lines_of input, Ok rest)
+    (input : List ℕ) (only strict : Bool) (limit : ℕ) (null : Option Text) (binary : Bool) (part rest : List ℕ)
+    → (strict ≡ true → only ≡ true) → EncodeEnd input only limit null binary part (Ok tt) → decoded strict null (part ++ rest) ≡ (lines_of input, Ok rest)

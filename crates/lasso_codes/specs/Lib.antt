@@ -1,3 +1,4 @@
+pub mod Tables
 pub mod Views
 pub mod Errors
 pub mod Streams
@@ -6,8 +7,8 @@ pub mod Distinct
 pub mod Counts
 pub mod Columns
 pub mod Encode
-pub mod Whole
 pub mod Arguments
+pub mod Endings
 pub mod Reading
 pub mod Decode
 pub mod Merge

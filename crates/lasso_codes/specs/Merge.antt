@@ -1,17 +1,19 @@
 -- What `merge` writes, and how it ends.
-use Rattle.std.specs.Prelude.{ℕ, zero, suc, ◌≡◌, ◌+◌, ◌^◌, ◌<◌, ◌⊎◌, Bool, List, [], ◌∷◌, ◌++◌, length, map, take, Option, Some, None, Result, Ok, Err, MatchResult, IsSomeAnd, slice_get}
+use Rattle.std.specs.Prelude.{ℕ, zero, suc, ◌≡◌, ◌+◌, ◌^◌, ◌<◌, ◌⊎◌, Bool, List, [], ◌∷◌, ◌++◌, length, map, take, All, Option, Some, None, Result, Ok, Err, MatchResult, IsSomeAnd, slice_get}
+use Rattle.hex.specs.Hex.{IsBytes}
 use Rattle.lasso_parts.specs.Texts.{Text, IsDistinct, position_of}
 use Rattle.lasso_parts.specs.declared.util.LassoError.{LassoError}
 use Rattle.lasso_parts.specs.declared.util.LassoErrorKind.TheVariants.{FailedAllocation}
 use Rattle.lasso_single.specs.Filling.{extend}
 use Rattle.lasso_single.specs.Interner.{InternerView, made_with}
-use Rattle.lasso_encode.specs.Encoding.{spur_at, IsRefused}
+use Rattle.lasso_single.specs.Coding.{spur_at, IsRefused}
 use Rattle.lasso_columns.specs.Parts.{new_texts}
+use Rattle.lasso_input.specs.Texts.{text_of}
 use Rattle.lasso_columns.specs.declared.faults.LineError.TheVariants.{Refused}
 use Rattle.lasso_codes.specs.Columns.{column_of, entry_at}
 use Rattle.lasso_codes.specs.Decode.{decoded, Reads}
 use Rattle.lasso_codes.specs.Errors.{AreTooMany}
-use Rattle.lasso_codes.specs.Limits.{Admits}
+use Rattle.lasso_codes.specs.Limits.{line_texts, Admits}
 use Rattle.lasso_codes.specs.Reading.{Makes, ReadItems, texts_at, read_column, IsEntryError, IsColumnError}
 use Rattle.lasso_codes.specs.Streams.{Begins}
 use Rattle.lasso_codes.specs.declared.entries.Entry.TheVariants.{Missing, Bad, Null, Code}
@@ -37,8 +39,8 @@ recoded list texts (Code code) number = code_or_past list (slice_get texts code)
 
 -- the entries of the first column of the bytes, rewritten for the list, and the bytes after it; or the
 -- entries before an error
-abbrev pub entries_of : List Text → List ℕ → ReadItems (Option ℕ)
-entries_of list bytes = read_column (recoded list) bytes
+abbrev pub entries_of : Bool → List Text → List ℕ → ReadItems (Option ℕ)
+entries_of only list bytes = read_column only (recoded list) bytes
 
 -- ---- columns as one
 
@@ -48,22 +50,22 @@ distinct_of texts = new_texts [] texts
 
 -- the bytes begin with n columns, and the rest follows them. `texts` are the texts of their dictionaries, in
 -- order. `entries` are their entries; a code is the position of its text among the distinct texts
-abbrev pub Merges : ℕ → List ℕ → List Text → List (Option ℕ) → List ℕ → Type 0
-Merges zero bytes texts entries rest = (texts ≡ []) × (entries ≡ []) × (rest ≡ bytes)
-Merges (suc n) bytes texts entries rest =
-    (before : List Text) × (first : List (Option ℕ)) × (mid : List ℕ) × Merges n bytes before first mid × (texts ≡ before ++ texts_at mid)
-    × ((entries_of (distinct_of texts) mid).1 ≡ Ok rest) × (entries ≡ first ++ (entries_of (distinct_of texts) mid).0)
+abbrev pub Merges : Bool → ℕ → List ℕ → List Text → List (Option ℕ) → List ℕ → Type 0
+Merges only zero bytes texts entries rest = (texts ≡ []) × (entries ≡ []) × (rest ≡ bytes)
+Merges only (suc n) bytes texts entries rest =
+    (before : List Text) × (first : List (Option ℕ)) × (mid : List ℕ) × Merges only n bytes before first mid × (texts ≡ before ++ texts_at only mid)
+    × ((entries_of only (distinct_of texts) mid).1 ≡ Ok rest) × (entries ≡ first ++ (entries_of only (distinct_of texts) mid).0)
 
 -- the first n columns of the bytes have dictionaries that a new interner with this limit takes, each one alone
-abbrev pub AdmitsColumns : ℕ → ℕ → List ℕ → Type 0
-AdmitsColumns limit zero bytes = Unit {0}
-AdmitsColumns limit (suc n) bytes =
-    AdmitsColumns limit n bytes × ((texts : List Text) × (entries : List (Option ℕ)) × (mid : List ℕ) × Merges n bytes texts entries mid × Admits limit (texts_at mid))
+abbrev pub AdmitsColumns : Bool → ℕ → ℕ → List ℕ → Type 0
+AdmitsColumns only limit zero bytes = Unit {0}
+AdmitsColumns only limit (suc n) bytes =
+    AdmitsColumns only limit n bytes × ((texts : List Text) × (entries : List (Option ℕ)) × (mid : List ℕ) × Merges only n bytes texts entries mid × Admits limit (line_texts (texts_at only mid)))
 
 -- the bytes begin with n columns, as `Merges` says. A new interner with this limit takes the dictionary of each,
 -- and one takes the texts of all
-abbrev pub MergesWithin : ℕ → ℕ → List ℕ → List Text → List (Option ℕ) → List ℕ → Type 0
-MergesWithin limit n bytes texts entries rest = Merges n bytes texts entries rest × AdmitsColumns limit n bytes × Admits limit texts
+abbrev pub MergesWithin : Bool → ℕ → ℕ → List ℕ → List Text → List (Option ℕ) → List ℕ → Type 0
+MergesWithin only limit n bytes texts entries rest = Merges only n bytes texts entries rest × AdmitsColumns only limit n bytes × Admits limit (line_texts texts)
 
 -- why the entries of the column with this number were not added
 abbrev pub EntriesError : ReadItems (Option ℕ) → ℕ → RunError → Type 0
@@ -91,46 +93,46 @@ AddsEntries read column left before after result =
 -- columns before
 abbrev pub IsNotMerged : ℕ → List Text → List Text → LassoError → Type 0
 IsNotMerged limit before texts error =
-    (n : ℕ) × (now : InternerView) × extend spur_at (made_with 4096 limit) (before ++ take n texts) (Ok tt) now × IsSomeAnd (slice_get texts n) (λ text. IsRefused now text error)
+    (n : ℕ) × (now : InternerView) × extend spur_at (made_with 4096 limit) (line_texts (before ++ take n texts)) (Ok tt) now × IsSomeAnd (slice_get texts n) (λ text. IsRefused now (text_of text) error)
 
 -- why the first column of the bytes was not merged. `before` are the texts of the columns before it. Before an
 -- entry that is at fault, a new interner with this limit takes those and the texts of the column
-abbrev pub IsMergeError : ℕ → List Text → List ℕ → ColumnError → Type 0
-IsMergeError limit before bytes (NotMerged error) = Admits limit (texts_at bytes) × IsNotMerged limit before (texts_at bytes) error
-IsMergeError limit before bytes error =
-    IsColumnError (recoded (distinct_of (before ++ texts_at bytes))) limit bytes error × (IsEntryError error → Admits limit (before ++ texts_at bytes))
+abbrev pub IsMergeError : Bool → ℕ → List Text → List ℕ → ColumnError → Type 0
+IsMergeError only limit before bytes (NotMerged error) = Admits limit (line_texts (texts_at only bytes)) × IsNotMerged limit before (texts_at only bytes) error
+IsMergeError only limit before bytes error =
+    IsColumnError only (recoded (distinct_of (before ++ texts_at only bytes))) limit bytes error × (IsEntryError error → Admits limit (line_texts (before ++ texts_at only bytes)))
 
 -- nothing was written, or a beginning of the merged column
-abbrev pub IsMergeBegun : List ℕ → Bool → List ℕ → Type 0
-IsMergeBegun input binary part =
-    (part ≡ []) ⊎ ((n : ℕ) × (texts : List Text) × (entries : List (Option ℕ)) × Merges n input texts entries [] × Begins part (column_of binary (distinct_of texts) entries))
+abbrev pub IsMergeBegun : List ℕ → Bool → Bool → List ℕ → Type 0
+IsMergeBegun input only binary part =
+    (part ≡ []) ⊎ ((n : ℕ) × (texts : List Text) × (entries : List (Option ℕ)) × Merges only n input texts entries [] × Begins part (column_of binary (distinct_of texts) entries))
 
 -- the list is the dictionary of the merged column, and the numbers are those of its entries
-abbrev pub AreMerged : List ℕ → ℕ → List Text → List ℕ → Type 0
-AreMerged input limit list numbers =
-    (n : ℕ) × (texts : List Text) × MergesWithin limit n input texts (map entry_at numbers) [] × (list ≡ distinct_of texts) × (length list < 2 ^ 32)
+abbrev pub AreMerged : List ℕ → Bool → ℕ → List Text → List ℕ → Type 0
+AreMerged input only limit list numbers =
+    (n : ℕ) × (texts : List Text) × MergesWithin only limit n input texts (map entry_at numbers) [] × (list ≡ line_texts (distinct_of texts)) × All IsBytes texts × (length list < 2 ^ 32)
 
 -- why columns were not merged
-abbrev pub MergingError : List ℕ → ℕ → RunError → Type 0
-MergingError input limit (Line error) = error ≡ Refused 0 FailedAllocation
-MergingError input limit TooManyLines =
-    (n : ℕ) × (texts : List Text) × (entries : List (Option ℕ)) × (rest : List ℕ) × MergesWithin limit n input texts entries rest × AreTooMany n
-MergingError input limit ReadFailed = Unit {0}
-MergingError input limit WriteFailed = ⊥
-MergingError input limit ReaderGone = ⊥
-MergingError input limit (Column column error) =
-    (n : ℕ) × (texts : List Text) × (entries : List (Option ℕ)) × (rest : List ℕ) × MergesWithin limit n input texts entries rest × (column ≡ n + 1)
-    × IsMergeError limit texts rest error
+abbrev pub MergingError : List ℕ → Bool → ℕ → RunError → Type 0
+MergingError input only limit (Line error) = error ≡ Refused 0 FailedAllocation
+MergingError input only limit TooManyLines =
+    (n : ℕ) × (texts : List Text) × (entries : List (Option ℕ)) × (rest : List ℕ) × MergesWithin only limit n input texts entries rest × AreTooMany n
+MergingError input only limit ReadFailed = Unit {0}
+MergingError input only limit WriteFailed = ⊥
+MergingError input only limit ReaderGone = ⊥
+MergingError input only limit (Column column error) =
+    (n : ℕ) × (texts : List Text) × (entries : List (Option ℕ)) × (rest : List ℕ) × MergesWithin only limit n input texts entries rest × (column ≡ n + 1)
+    × IsMergeError only limit texts rest error
 
 -- how a run ends with an error after it has written the part. Nothing was written unless all columns were
 -- merged
-abbrev pub MergeError : List ℕ → ℕ → Bool → List ℕ → RunError → Type 0
-MergeError input limit binary part (Line error) = (part ≡ []) × MergingError input limit (Line error)
-MergeError input limit binary part TooManyLines = (part ≡ []) × MergingError input limit TooManyLines
-MergeError input limit binary part ReadFailed = part ≡ []
-MergeError input limit binary part WriteFailed = IsMergeBegun input binary part
-MergeError input limit binary part ReaderGone = IsMergeBegun input binary part
-MergeError input limit binary part (Column column error) = (part ≡ []) × MergingError input limit (Column column error)
+abbrev pub MergeError : List ℕ → Bool → ℕ → Bool → List ℕ → RunError → Type 0
+MergeError input only limit binary part (Line error) = (part ≡ []) × MergingError input only limit (Line error)
+MergeError input only limit binary part TooManyLines = (part ≡ []) × MergingError input only limit TooManyLines
+MergeError input only limit binary part ReadFailed = part ≡ []
+MergeError input only limit binary part WriteFailed = IsMergeBegun input only binary part
+MergeError input only limit binary part ReaderGone = IsMergeBegun input only binary part
+MergeError input only limit binary part (Column column error) = (part ≡ []) × MergingError input only limit (Column column error)
 
 -- the codes and the number of entries fit into a column
 abbrev pub AreFew : List Text → List (Option ℕ) → Type 0
@@ -138,12 +140,12 @@ AreFew list entries = (length list < 2 ^ 32) × (length entries < 2 ^ 64)
 
 -- how a run of `merge` ends: without an error, the input is columns, they are merged within this limit, and the
 -- part is the merged column
-abbrev pub MergeEnd : List ℕ → ℕ → Bool → List ℕ → Result (Unit {0}) RunError → Type 0
-MergeEnd input limit binary part result =
+abbrev pub MergeEnd : List ℕ → Bool → ℕ → Bool → List ℕ → Result (Unit {0}) RunError → Type 0
+MergeEnd input only limit binary part result =
     MatchResult result
-    (λ _. (n : ℕ) × (texts : List Text) × (entries : List (Option ℕ)) × MergesWithin limit n input texts entries [] × AreFew (distinct_of texts) entries
+    (λ _. (n : ℕ) × (texts : List Text) × (entries : List (Option ℕ)) × MergesWithin only limit n input texts entries [] × AreFew (distinct_of texts) entries
     × (part ≡ column_of binary (distinct_of texts) entries))
-    (MergeError input limit binary part)
+    (MergeError input only limit binary part)
 
 -- ---- the laws
 
@@ -151,15 +153,15 @@ MergeEnd input limit binary part result =
 -- word a null has
 abbrev pub MergingKeepsLines : Type 0
 MergingKeepsLines =
-    (binary : Bool) (null : Option Text) (n : ℕ) (input rest more : List ℕ) (texts : List Text) (entries : List (Option ℕ)) (lines : List Text)
-    → Merges n input texts entries rest → AreFew (distinct_of texts) entries → Reads null n input lines rest
-    → decoded null (column_of binary (distinct_of texts) entries ++ more) ≡ (lines, Ok more)
+    (only binary : Bool) (null : Option Text) (n : ℕ) (input rest more : List ℕ) (texts : List Text) (entries : List (Option ℕ)) (lines : List Text)
+    → Merges only n input texts entries rest → AreFew (distinct_of texts) entries → Reads only null n input lines rest
+    → decoded only null (column_of binary (distinct_of texts) entries ++ more) ≡ (lines, Ok more)
 
 -- columns that were merged can be decoded, whichever word a null has
 abbrev pub MergedColumnsDecode : Type 0
 MergedColumnsDecode =
-    (word : Text) (n : ℕ) (input rest : List ℕ) (texts : List Text) (entries : List (Option ℕ))
-    → Merges n input texts entries rest → (lines : List Text) × Reads (Some word) n input lines rest
+    (only : Bool) (word : Text) (n : ℕ) (input rest : List ℕ) (texts : List Text) (entries : List (Option ℕ))
+    → Merges only n input texts entries rest → (lines : List Text) × Reads only (Some word) n input lines rest
 
 -- the distinct texts are distinct
 abbrev pub DictionariesAreDistinct : Type 0

@@ -1,18 +1,18 @@
 -- How a column is read from bytes: a header line, the texts of its dictionary, and its entries.
-use Rattle.std.specs.Prelude.{ℕ, zero, suc, ◌≡◌, ◌+◌, ◌-◌, ◌<◌, ◌==◌, ◌⊎◌, Bool, true, false, List, [], ◌∷◌, ◌++◌, length, take, drop, is_some, Option, Some, None, Result, Ok, Err, option_map, position, bytes_eq, if◌then◌else◌}
+use Rattle.std.specs.Prelude.{ℕ, zero, suc, ◌≡◌, ◌+◌, ◌-◌, ◌<◌, ◌==◌, ◌⊎◌, Bool, true, false, List, [], ◌∷◌, ◌++◌, length, take, drop, is_some, All, Option, Some, None, Result, Ok, Err, option_map, position, bytes_eq, if◌then◌else◌}
 use Rattle.std.specs.Int.{w32, from_le_bytes}
-use Rattle.std.specs.Str.{IsUtf8, is_utf8}
+use Rattle.lasso_input.specs.Texts.{text_of}
+use Rattle.hex.specs.Hex.{IsBytes}
 use Rattle.lasso_parts.specs.Texts.{Text, position_of}
 use Rattle.lasso_parts.specs.declared.util.LassoError.{LassoError}
-use Rattle.lasso_parts.specs.declared.util.LassoErrorKind.TheVariants.{FailedAllocation}
 use Rattle.lasso_single.specs.Filling.{extend}
 use Rattle.lasso_single.specs.Intern.{InternsIn}
 use Rattle.lasso_single.specs.Interner.{InternerView, made_with}
-use Rattle.lasso_encode.specs.Encoding.{spur_at, IsAdmitted, IsRefused}
-use Rattle.lasso_codes.specs.Arguments.{digits_value}
+use Rattle.lasso_single.specs.Coding.{spur_at, IsRefused}
+use Rattle.lasso_input.specs.Numbers.{digits_value}
 use Rattle.lasso_codes.specs.Columns.{header_front}
 use Rattle.lasso_codes.specs.Errors.{IsReadError}
-use Rattle.lasso_codes.specs.Limits.{Admits}
+use Rattle.lasso_codes.specs.Limits.{is_let_in, line_texts, Admits, IsLetIn, IsTextLackingMemory}
 use Rattle.lasso_codes.specs.Streams.{cut_line}
 use Rattle.lasso_codes.specs.declared.error.ColumnError.{ColumnError}
 use Rattle.lasso_codes.specs.declared.error.ColumnError.TheVariants.{NoHeader, NoText, NotUtf8, Doubled, TextRefused, NoEntry, NotEntry, PastTexts, IsNull, NotMerged}
@@ -78,17 +78,17 @@ HeaderError before column error = IsReadError 0 error ⊎ ((error ≡ Column col
 abbrev pub ReadTexts : Type 0
 ReadTexts = Result (List Text × List ℕ) ColumnError
 
--- a text has to be new, and UTF-8
-abbrev pub on_text : Option (Text × List ℕ) → List Text → (List Text → List ℕ → ReadTexts) → ReadTexts
-on_text None list go = Err (NoText (length list + 1))
-on_text (Some cut) list go =
-    if is_utf8 cut.0 then (if is_some (position_of list cut.0) then Err (Doubled (length list + 1)) else go (list ++ cut.0 ∷ []) cut.1)
+-- a text has to be let in and new. It is a line
+abbrev pub on_text : Bool → Option (Text × List ℕ) → List Text → (List Text → List ℕ → ReadTexts) → ReadTexts
+on_text only None list go = Err (NoText (length list + 1))
+on_text only (Some cut) list go =
+    if is_let_in only cut.0 then (if is_some (position_of list cut.0) then Err (Doubled (length list + 1)) else go (list ++ cut.0 ∷ []) cut.1)
     else Err (NotUtf8 (length list + 1))
 
 -- reads n more texts after these
-abbrev pub texts_from : ℕ → List Text → List ℕ → ReadTexts
-texts_from zero list bytes = Ok (list, bytes)
-texts_from (suc n) list bytes = on_text (cut_line bytes) list (texts_from n)
+abbrev pub texts_from : Bool → ℕ → List Text → List ℕ → ReadTexts
+texts_from only zero list bytes = Ok (list, bytes)
+texts_from only (suc n) list bytes = on_text only (cut_line bytes) list (texts_from only n)
 
 -- the texts that were read, or none
 abbrev pub read_list : ReadTexts → List Text
@@ -96,62 +96,64 @@ read_list (Err error) = []
 read_list (Ok read) = read.0
 
 -- the first n texts of a dictionary, or none if they can't be read
-abbrev pub first_texts : ℕ → List ℕ → List Text
-first_texts n bytes = read_list (texts_from n [] bytes)
+abbrev pub first_texts : Bool → ℕ → List ℕ → List Text
+first_texts only n bytes = read_list (texts_from only n [] bytes)
 
 -- the texts of a dictionary of this many texts that were read before the error: those before the text that is
 -- at fault, and all before an entry that is
-abbrev pub texts_before : ℕ → List ℕ → ColumnError → List Text
-texts_before distinct bytes NoHeader = []
-texts_before distinct bytes (NoText number) = first_texts (number - 1) bytes
-texts_before distinct bytes (NotUtf8 number) = first_texts (number - 1) bytes
-texts_before distinct bytes (Doubled number) = first_texts (number - 1) bytes
-texts_before distinct bytes error = first_texts distinct bytes
+abbrev pub texts_before : Bool → ℕ → List ℕ → ColumnError → List Text
+texts_before only distinct bytes NoHeader = []
+texts_before only distinct bytes (NoText number) = first_texts only (number - 1) bytes
+texts_before only distinct bytes (NotUtf8 number) = first_texts only (number - 1) bytes
+texts_before only distinct bytes (Doubled number) = first_texts only (number - 1) bytes
+texts_before only distinct bytes error = first_texts only distinct bytes
 
--- the text is new, and was interned
-abbrev pub AddsText : InternerView → Text → InternerView → Type 0
-AddsText old text new = IsUtf8 text × (position_of old.texts text ≡ None) × ((key : ℕ) × InternsIn {K = ℕ} spur_at old text (Ok key) new)
+-- the line is let in and new, and its text was interned
+abbrev pub AddsText : Bool → InternerView → Text → InternerView → Type 0
+AddsText only old line new = IsLetIn only line × (position_of old.texts (text_of line) ≡ None) × ((key : ℕ) × InternsIn {K = ℕ} spur_at old (text_of line) (Ok key) new)
 
--- why the text with this number was not added. Only a text that would be taken is out of memory
-abbrev pub AddError : InternerView → Text → ℕ → ColumnError → Type 0
-AddError old text number NoHeader = ⊥
-AddError old text number (NoText at) = ⊥
-AddError old text number (NotUtf8 at) = (at ≡ number) × ¬ (IsUtf8 text)
-AddError old text number (Doubled at) = (at ≡ number) × IsUtf8 text × (is_some (position_of old.texts text) ≡ true)
-AddError old text number (TextRefused at error) = (at ≡ number) × IsUtf8 text × IsRefused old text error × (error ≡ FailedAllocation → IsAdmitted old text)
-AddError old text number (NoEntry at) = ⊥
-AddError old text number (NotEntry at) = ⊥
-AddError old text number (PastTexts at) = ⊥
-AddError old text number (IsNull at) = ⊥
-AddError old text number (NotMerged error) = ⊥
+-- why the line with this number was not added. When memory may run out is as `IsTextLackingMemory` has it
+abbrev pub AddError : Bool → InternerView → Text → ℕ → ColumnError → Type 0
+AddError only old line number NoHeader = ⊥
+AddError only old line number (NoText at) = ⊥
+AddError only old line number (NotUtf8 at) = (at ≡ number) × (is_let_in only line ≡ false)
+AddError only old line number (Doubled at) = (at ≡ number) × IsLetIn only line × (is_some (position_of old.texts (text_of line)) ≡ true)
+AddError only old line number (TextRefused at error) = (at ≡ number) × IsLetIn only line × IsRefused old (text_of line) error × IsTextLackingMemory old line error
+AddError only old line number (NoEntry at) = ⊥
+AddError only old line number (NotEntry at) = ⊥
+AddError only old line number (PastTexts at) = ⊥
+AddError only old line number (IsNull at) = ⊥
+AddError only old line number (NotMerged error) = ⊥
 
--- the text with this number is refused by an interner with this limit that holds the texts before it. Only a
--- text that would be taken is out of memory
-abbrev pub IsTextRefused : ℕ → ℕ → List ℕ → ℕ → LassoError → Type 0
-IsTextRefused limit distinct bytes number error =
-    (n : ℕ) × (number ≡ n + 1) × (n < distinct) × ((list : List Text) × (rest : List ℕ) × (texts_from n [] bytes ≡ Ok (list, rest))
-    × ((line : Text) × (left : List ℕ) × (cut_line rest ≡ Some (line, left)) × IsUtf8 line
-    × ((now : InternerView) × extend spur_at (made_with 4096 limit) list (Ok tt) now × IsRefused now line error × (error ≡ FailedAllocation → IsAdmitted now line))))
+-- the text of the line with this number is refused by an interner with this limit that holds the texts of those
+-- before it. When memory may run out is as `IsTextLackingMemory` has it
+abbrev pub IsTextRefused : Bool → ℕ → ℕ → List ℕ → ℕ → LassoError → Type 0
+IsTextRefused only limit distinct bytes number error =
+    (n : ℕ) × (number ≡ n + 1) × (n < distinct) × ((list : List Text) × (rest : List ℕ) × (texts_from only n [] bytes ≡ Ok (list, rest))
+    × ((line : Text) × (left : List ℕ) × (cut_line rest ≡ Some (line, left))
+    × ((now : InternerView) × extend spur_at (made_with 4096 limit) (line_texts list) (Ok tt) now × IsRefused now (text_of line) error × IsTextLackingMemory now line error)))
 
--- this number of texts was read, and the bytes after them are left
-abbrev pub TakesTexts : Option (List ℕ) → Option (List ℕ) → ℕ → List Text → Type 0
-TakesTexts before after distinct list = (bytes : List ℕ) → before ≡ Some bytes → (rest : List ℕ) × (after ≡ Some rest) × (texts_from distinct [] bytes ≡ Ok (list, rest))
+-- this number of lines was read, these are their texts, and the bytes after them are left
+abbrev pub TakesTexts : Bool → Option (List ℕ) → Option (List ℕ) → ℕ → List Text → Type 0
+TakesTexts only before after distinct texts =
+    (bytes : List ℕ) → before ≡ Some bytes → (rest : List ℕ) × (after ≡ Some rest)
+    × ((list : List Text) × (texts_from only distinct [] bytes ≡ Ok (list, rest)) × All IsBytes list × (texts ≡ line_texts list))
 
 -- why this number of texts was not read from these bytes. A new interner with this limit takes the texts before
 -- the error
-abbrev pub IsTextError : ℕ → ℕ → List ℕ → ColumnError → Type 0
-IsTextError limit distinct bytes NoHeader = ⊥
-IsTextError limit distinct bytes (NotMerged error) = ⊥
-IsTextError limit distinct bytes (TextRefused number error) = IsTextRefused limit distinct bytes number error
-IsTextError limit distinct bytes (NoEntry number) = ⊥
-IsTextError limit distinct bytes (NotEntry number) = ⊥
-IsTextError limit distinct bytes (PastTexts number) = ⊥
-IsTextError limit distinct bytes (IsNull number) = ⊥
-IsTextError limit distinct bytes error = (texts_from distinct [] bytes ≡ Err error) × Admits limit (texts_before distinct bytes error)
+abbrev pub IsTextError : Bool → ℕ → ℕ → List ℕ → ColumnError → Type 0
+IsTextError only limit distinct bytes NoHeader = ⊥
+IsTextError only limit distinct bytes (NotMerged error) = ⊥
+IsTextError only limit distinct bytes (TextRefused number error) = IsTextRefused only limit distinct bytes number error
+IsTextError only limit distinct bytes (NoEntry number) = ⊥
+IsTextError only limit distinct bytes (NotEntry number) = ⊥
+IsTextError only limit distinct bytes (PastTexts number) = ⊥
+IsTextError only limit distinct bytes (IsNull number) = ⊥
+IsTextError only limit distinct bytes error = (texts_from only distinct [] bytes ≡ Err error) × Admits limit (line_texts (texts_before only distinct bytes error))
 
 -- why the texts of the column with this number were not read
-abbrev pub TextsError : ℕ → ℕ → ℕ → List ℕ → RunError → Type 0
-TextsError limit distinct column bytes error = IsReadError 0 error ⊎ ((reason : ColumnError) × (error ≡ Column column reason) × IsTextError limit distinct bytes reason)
+abbrev pub TextsError : Bool → ℕ → ℕ → ℕ → List ℕ → RunError → Type 0
+TextsError only limit distinct column bytes error = IsReadError 0 error ⊎ ((reason : ColumnError) × (error ≡ Column column reason) × IsTextError only limit distinct bytes reason)
 
 -- ---- entries
 
@@ -226,32 +228,32 @@ abbrev pub on_texts : {X : Type 0} → (List Text → Makes X) → Header → Re
 on_texts make header (Err error) = ([], Err error)
 on_texts make header (Ok texts) = items_from (make texts.0) header.lines header.binary 1 texts.1
 
-abbrev pub on_head : {X : Type 0} → (List Text → Makes X) → Option (Header × List ℕ) → ReadItems X
-on_head make None = ([], Err NoHeader)
-on_head make (Some head) = on_texts make head.0 (texts_from head.0.distinct [] head.1)
+abbrev pub on_head : {X : Type 0} → Bool → (List Text → Makes X) → Option (Header × List ℕ) → ReadItems X
+on_head only make None = ([], Err NoHeader)
+on_head only make (Some head) = on_texts make head.0 (texts_from only head.0.distinct [] head.1)
 
 -- the texts after a header, or none
-abbrev pub head_list : Option (Header × List ℕ) → List Text
-head_list None = []
-head_list (Some head) = first_texts head.0.distinct head.1
+abbrev pub head_list : Bool → Option (Header × List ℕ) → List Text
+head_list only None = []
+head_list only (Some head) = first_texts only head.0.distinct head.1
 
 -- the dictionary of the first column of the bytes; empty if it can't be read
-abbrev pub texts_at : List ℕ → List Text
-texts_at bytes = head_list (head_of bytes)
+abbrev pub texts_at : Bool → List ℕ → List Text
+texts_at only bytes = head_list only (head_of bytes)
 
 -- the texts after a header that were read before the error, or none
-abbrev pub head_before : Option (Header × List ℕ) → ColumnError → List Text
-head_before None error = []
-head_before (Some head) error = texts_before head.0.distinct head.1 error
+abbrev pub head_before : Bool → Option (Header × List ℕ) → ColumnError → List Text
+head_before only None error = []
+head_before only (Some head) error = texts_before only head.0.distinct head.1 error
 
 -- the items of the entries of the first column of the bytes, and the bytes after it; or the items before an
 -- error. `make` is given the dictionary
-abbrev pub read_column : {X : Type 0} → (List Text → Makes X) → List ℕ → ReadItems X
-read_column make bytes = on_head make (head_of bytes)
+abbrev pub read_column : {X : Type 0} → Bool → (List Text → Makes X) → List ℕ → ReadItems X
+read_column only make bytes = on_head only make (head_of bytes)
 
 -- why the first column of the bytes was not read. A new interner with this limit takes the texts before the error
-abbrev pub IsColumnError : {X : Type 0} → (List Text → Makes X) → ℕ → List ℕ → ColumnError → Type 0
-IsColumnError make limit bytes (TextRefused number error) =
-    (head : Header × List ℕ) × (head_of bytes ≡ Some head) × IsTextRefused limit head.0.distinct head.1 number error
-IsColumnError make limit bytes NoHeader = HasNoHeader bytes
-IsColumnError make limit bytes error = ((read_column make bytes).1 ≡ Err error) × Admits limit (head_before (head_of bytes) error)
+abbrev pub IsColumnError : {X : Type 0} → Bool → (List Text → Makes X) → ℕ → List ℕ → ColumnError → Type 0
+IsColumnError only make limit bytes (TextRefused number error) =
+    (head : Header × List ℕ) × (head_of bytes ≡ Some head) × IsTextRefused only limit head.0.distinct head.1 number error
+IsColumnError only make limit bytes NoHeader = HasNoHeader bytes
+IsColumnError only make limit bytes error = ((read_column only make bytes).1 ≡ Err error) × Admits limit (line_texts (head_before only (head_of bytes) error))

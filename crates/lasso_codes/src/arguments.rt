@@ -1,6 +1,7 @@
 //! The program's arguments: a verb and its options.
 ghost use Rattle.std.specs.Prelude.{◌≡◌, Some, Ok, Err, MatchResult, map, string_bytes};
-ghost use Rattle.lasso_codes.specs.Arguments.{argument_text, command_of, verb_of, word_of};
+ghost use Rattle.lasso_columns.specs.Rows.{word_of};
+ghost use Rattle.lasso_codes.specs.Arguments.{argument_text, command_of, verb_of};
 
 use crate::options::options_of;
 use std::fmt;
@@ -29,6 +30,8 @@ pub struct Settings {
     pub top: usize,
     /// Whether codes are written as four bytes each.
     pub binary: bool,
+    /// Whether a line that is not UTF-8 is refused.
+    pub only_utf8: bool,
     /// How many threads share the work, from 1 to 64.
     pub workers: usize,
     /// Whether no progress line is shown.
@@ -64,7 +67,7 @@ pub enum ArgumentError<'a> {
     NoVerb,
     /// The first word is neither a verb nor `--help` or `--version`.
     NotVerb(&'a str),
-    /// The verb has no such option.
+    /// The word is not an option of the verb.
     NotOption(&'a str),
     /// The option is the last word: its number is missing.
     NoNumber(&'a str),
@@ -87,7 +90,7 @@ impl fmt::Display for ArgumentError<'_> {
         match self {
             ArgumentError::NoVerb => write!(f, "no verb (see lasso_codes --help)"),
             ArgumentError::NotVerb(word) => write!(f, "{word}: no such verb"),
-            ArgumentError::NotOption(word) => write!(f, "{word}: no such option"),
+            ArgumentError::NotOption(word) => write!(f, "{word}: not an option of this verb"),
             ArgumentError::NoNumber(word) => write!(f, "{word}: a number is missing"),
             ArgumentError::NoWord(word) => write!(f, "{word}: a word is missing"),
             ArgumentError::NotNumber(word) => write!(f, "{word}: not a number below 2^64"),

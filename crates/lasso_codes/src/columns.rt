@@ -9,16 +9,13 @@ ghost use Rattle.lasso_columns.specs.declared.faults.LineError.TheVariants.{Refu
 ghost use Rattle.lasso_parts.specs.declared.util.LassoErrorKind.TheVariants.{FailedAllocation};
 
 use crate::error::RunError;
+use crate::line_table::LineTable;
 use crate::output::{write_bytes, write_line, write_number};
 use crate::streams::Output;
 use itoa::Buffer;
-use lasso::index::Texts;
-use lasso::{LassoError, LassoErrorKind, SpurRodeo};
-use lasso_columns::LineError;
+use lasso::{LassoError, LassoErrorKind};
+use lasso_columns::{LineError, NULL};
 use std::io::Write;
-
-/// The number of a null. It is never a code.
-pub const NULL: u32 = u32::MAX;
 
 /// The start of the header of a column whose entries are lines.
 pub const TEXT_HEADER: &[u8] = b"lasso-codes 1 text ";
@@ -42,25 +39,25 @@ pub fn append(numbers: &mut Vec<u32>, entry: u32, number: usize) -> Result<(), L
     Ok(())
 }
 
-/// Writes the column whose dictionary is the interner's texts. `numbers` has an entry for each line: its
+/// Writes the column whose dictionary is the lines of the table. `numbers` has an entry for each line: its
 /// code, or `NULL`.
 ///
 /// # Errors
 /// As `write_bytes`.
 pub fn write_column<W: Write + Drop>(
     output: &mut Output<W>,
-    rodeo: &SpurRodeo,
+    table: &LineTable<'_>,
     numbers: &[u32],
     binary: bool,
 ) -> Result<(), RunError>
-    ensures written { Writes output.old.written output.new.written (WritesAll (column_of binary rodeo.now.texts (map entry_at numbers.now)) result) }
+    ensures written { Writes output.old.written output.new.written (WritesAll (column_of binary table.now (map entry_at numbers.now)) result) }
     ensures writes { output.new.failures ≡ output.old.failures + failed_writes result }
     ensures gone { output.new.gone ≡ output.old.gone + gone_readers result }
 {
-    let distinct = rodeo.len();
+    let distinct = table.len();
     let lines = numbers.len();
     write_header(output, binary, distinct as u64, lines as u64)?;
-    write_texts(output, rodeo)?;
+    write_lines(output, table)?;
     write_entries(output, binary, numbers)
 }
 
@@ -107,14 +104,17 @@ fn write_number_and<W: Write + Drop>(
     write_bytes(output, after)
 }
 
-// Writes each text as a line.
-fn write_texts<W: Write + Drop>(output: &mut Output<W>, rodeo: &SpurRodeo) -> Result<(), RunError>
-    ensures written { Writes output.old.written output.new.written (WritesAll (flat_map with_feed rodeo.now.texts) result) }
+// Writes each line with a line feed.
+fn write_lines<W: Write + Drop>(
+    output: &mut Output<W>,
+    table: &LineTable<'_>,
+) -> Result<(), RunError>
+    ensures written { Writes output.old.written output.new.written (WritesAll (flat_map with_feed table.now) result) }
     ensures writes { output.new.failures ≡ output.old.failures + failed_writes result }
     ensures gone { output.new.gone ≡ output.old.gone + gone_readers result }
 {
-    for position in 0..rodeo.len() {
-        write_line(output, rodeo.text_at(position).as_bytes())?;
+    for position in 0..table.len() {
+        write_line(output, table.at(position))?;
     }
     Ok(())
 }

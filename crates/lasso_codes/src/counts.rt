@@ -1,14 +1,15 @@
 //! Counts the lines.
-ghost use Rattle.std.specs.Prelude.{◌≡◌, ◌+◌, ◌-◌, ◌^◌, ◌<◌, ◌≤◌, ◌++◌, ◌∷◌, [], ℕ, List, Some, Ok, Err, OnOk, IfOk, IfErr, MatchResult, All, IsUtf8, length, drop, map, sum, flat_map, vec_len};
+ghost use Rattle.std.specs.Prelude.{◌≡◌, ◌+◌, ◌-◌, ◌^◌, ◌<◌, ◌≤◌, ◌++◌, ◌∷◌, [], ℕ, List, Some, Ok, Err, OnOk, IfOk, IfErr, MatchResult, length, drop, map, sum, flat_map, vec_len};
 ghost use Rattle.lasso_parts.specs.Texts.{Text};
 ghost use Rattle.lasso_single.specs.Filling.{extend};
 ghost use Rattle.lasso_single.specs.Intern.{InternsIn};
 ghost use Rattle.lasso_single.specs.Interner.{InternerView, made_with};
-ghost use Rattle.lasso_encode.specs.Encoding.{spur_at};
-ghost use Rattle.lasso_columns.specs.Faults.{IsFaultOf};
+ghost use Rattle.lasso_single.specs.Coding.{spur_at};
 ghost use Rattle.lasso_input.specs.Lines.{lines_of};
-ghost use Rattle.lasso_counts.specs.Counts.{AreCounts, pair_of};
+ghost use Rattle.lasso_input.specs.Texts.{text_of};
+ghost use Rattle.lasso_columns.specs.Counts.{AreCounts, pair_of};
 ghost use Rattle.lasso_codes.specs.Counts.{CountsEnd, CountingError, RefusesNewLine, count_line};
+ghost use Rattle.lasso_codes.specs.Limits.{line_texts, AreLetIn, IsLetIn, IsLineFault};
 ghost use Rattle.lasso_codes.specs.Stages.{Counting};
 ghost use Rattle.lasso_codes.specs.Streams.{Writes, WritesAll};
 ghost use Rattle.lasso_codes.specs.Errors.{failed_reads, failed_writes, gone_readers, FailsWriting, IsWriteEnd, IsDataError, IsInputError};
@@ -17,13 +18,14 @@ use crate::arguments::Settings;
 use crate::error::RunError;
 use crate::input::next_line;
 use crate::interner::new_rodeo;
-use crate::lines::taken;
+use crate::line_table::LineTable;
+use crate::lines::{TextRule, taken, text_in};
 use crate::output::{end_flushed, write_bytes, write_line, write_number};
+use crate::ranking::{RankedLine, by_frequency};
 use crate::streams::{Input, Output};
-use crate::whole::{read_whole, text_lines};
 use lasso::{MemoryLimits, SpurRodeo};
 use lasso_columns::LineError;
-use lasso_counts::{Ranked, by_frequency, count_in_parts, count_next};
+use lasso_columns::counts::{count_codes, count_next};
 use lasso_input::{Line, Stretch};
 use lasso_single::batch::Batch;
 use std::alloc::Global;
@@ -32,11 +34,11 @@ use std::io::{Read, Write};
 use std::thread::Threads;
 
 /// Counts the lines, and writes each distinct line after its count, the most frequent first. Lines with equal
-/// counts are in the order of their bytes. At most `top` lines are written. With several workers, the whole
-/// input is read first, and each worker counts a part of the lines.
+/// counts are in the order of their bytes. At most `top` lines are written. Several workers encode blocks of the
+/// input, as `encode_stream` says, and then the codes are counted.
 ///
 /// # Errors
-/// A line that is refused or is not UTF-8, a failed read, or out of memory: nothing is written. After a
+/// A line that is refused or not let in, a failed read, or out of memory: nothing is written. After a
 /// failed write, a beginning of the list was written.
 pub fn counts<H: AllocGlobal + Threads + Sync, R: Read + Drop, W: Write + Drop>(
     rt: &H,
@@ -45,13 +47,13 @@ pub fn counts<H: AllocGlobal + Threads + Sync, R: Read + Drop, W: Write + Drop>(
     settings: Settings,
 ) -> Result<(), RunError>
     ensures report { (bytes : List ℕ) → input.old.left ≡ Some bytes →
-        Writes output.old.written output.new.written (λ part. CountsEnd bytes settings.limit settings.top part result) }
+        Writes output.old.written output.new.written (λ part. CountsEnd bytes settings.only_utf8 settings.limit settings.top part result) }
     ensures flushed { ¬ (IsWriteEnd result) → output.new.pending ≡ [] }
     ensures reads { ¬ (result ≡ Err RunError.WriteFailed) → input.new.failures ≡ input.old.failures + failed_reads result }
     ensures writes { output.new.failures ≡ output.old.failures + failed_writes result }
     ensures gone { ¬ (result ≡ Err RunError.WriteFailed) → output.new.gone ≡ output.old.gone + gone_readers result }
     ensures write_failed { result ≡ Err RunError.WriteFailed → FailsWriting input.old input.new output.old output.new (λ error. (bytes : List ℕ) → input.old.left ≡ Some bytes →
-        Writes output.old.written output.new.written (λ part. CountsEnd bytes settings.limit settings.top part (Err error))) }
+        Writes output.old.written output.new.written (λ part. CountsEnd bytes settings.only_utf8 settings.limit settings.top part (Err error))) }
 {
     let result = write_counts(rt, input, output, settings);
     end_flushed(output, result)
@@ -65,15 +67,16 @@ fn write_counts<H: AllocGlobal + Threads + Sync, R: Read + Drop, W: Write + Drop
     settings: Settings,
 ) -> Result<(), RunError>
     ensures report { (bytes : List ℕ) → input.old.left ≡ Some bytes →
-        Writes output.old.written output.new.written (λ part. CountsEnd bytes settings.limit settings.top part result) }
+        Writes output.old.written output.new.written (λ part. CountsEnd bytes settings.only_utf8 settings.limit settings.top part result) }
     ensures reads { input.new.failures ≡ input.old.failures + failed_reads result }
     ensures writes { output.new.failures ≡ output.old.failures + failed_writes result }
     ensures gone { output.new.gone ≡ output.old.gone + gone_readers result }
 {
     let mut rodeo = new_rodeo(rt.alloc(), MemoryLimits::new(settings.limit))?;
     let mut counts = Vec::new(rt.alloc());
-    count_all(rt, input, &mut rodeo, &mut counts, settings.workers)?;
-    let Ok(ranked) = by_frequency(rt.alloc(), &rodeo, &counts) else {
+    count_all(rt, input, &mut rodeo, &mut counts, settings)?;
+    let table = LineTable::new(rt.alloc(), &rodeo)?;
+    let Ok(ranked) = by_frequency(rt.alloc(), &table, &counts) else {
         return Err(RunError::no_memory(0));
     };
     let most = ranked.len().min(settings.top);
@@ -86,28 +89,32 @@ fn count_all<H: AllocGlobal + Threads + Sync, R: Read + Drop>(
     input: &mut Input<R>,
     rodeo: &mut SpurRodeo,
     counts: &mut Vec<u64>,
-    workers: usize,
+    settings: Settings,
 ) -> Result<(), RunError>
     requires no_texts { rodeo.old.texts ≡ [] }
     requires no_counts { counts.old.items ≡ [] }
     ensures counted { OnOk result ((bytes : List ℕ) → input.old.left ≡ Some bytes →
-        All IsUtf8 (lines_of bytes) × AreCounts (lines_of bytes) rodeo.new.texts counts.new.items) }
-    ensures interned { OnOk result ((bytes : List ℕ) → input.old.left ≡ Some bytes → extend spur_at rodeo.old (lines_of bytes) (Ok tt) rodeo.new) }
-    ensures lengths { vec_len counts.new ≡ length rodeo.new.texts }
+        AreLetIn settings.only_utf8 (lines_of bytes) × AreCounts (line_texts (lines_of bytes)) rodeo.new.texts counts.new.items) }
+    ensures interned { OnOk result ((bytes : List ℕ) → input.old.left ≡ Some bytes → extend spur_at rodeo.old (line_texts (lines_of bytes)) (Ok tt) rodeo.new) }
+    ensures lengths { OnOk result (vec_len counts.new ≡ length rodeo.new.texts) }
     ensures error { IfErr result (λ error. (bytes : List ℕ) → input.old.left ≡ Some bytes →
-        (limit : ℕ) → rodeo.old ≡ made_with 4096 limit → CountingError limit (lines_of bytes) error) }
+        (limit : ℕ) → rodeo.old ≡ made_with 4096 limit → CountingError settings.only_utf8 limit (lines_of bytes) error) }
     ensures faults { IfErr result IsInputError }
     ensures reads { input.new.failures ≡ input.old.failures + failed_reads result }
 {
-    if workers < 2 {
-        return count_lines(rt.alloc(), input, rodeo, counts);
+    let rule = TextRule {
+        alloc: rt.alloc(),
+        only_utf8: settings.only_utf8,
+    };
+    if settings.workers < 2 {
+        return count_lines(rule, input, rodeo, counts);
     }
-    count_whole(rt, input, rodeo, counts, workers)
+    count_stream(rt, rule, input, rodeo, counts, settings.workers)
 }
 
 // Counts all lines, one after another.
 fn count_lines<R: Read + Drop>(
-    alloc: Global,
+    rule: TextRule,
     input: &mut Input<R>,
     rodeo: &mut SpurRodeo,
     counts: &mut Vec<u64>,
@@ -115,26 +122,26 @@ fn count_lines<R: Read + Drop>(
     requires no_texts { rodeo.old.texts ≡ [] }
     requires no_counts { counts.old.items ≡ [] }
     ensures counted { OnOk result ((bytes : List ℕ) → input.old.left ≡ Some bytes →
-        All IsUtf8 (lines_of bytes) × AreCounts (lines_of bytes) rodeo.new.texts counts.new.items) }
-    ensures interned { OnOk result ((bytes : List ℕ) → input.old.left ≡ Some bytes → extend spur_at rodeo.old (lines_of bytes) (Ok tt) rodeo.new) }
+        AreLetIn rule.only_utf8 (lines_of bytes) × AreCounts (line_texts (lines_of bytes)) rodeo.new.texts counts.new.items) }
+    ensures interned { OnOk result ((bytes : List ℕ) → input.old.left ≡ Some bytes → extend spur_at rodeo.old (line_texts (lines_of bytes)) (Ok tt) rodeo.new) }
     ensures lengths { vec_len counts.new ≡ length rodeo.new.texts }
     ensures error { IfErr result (λ error. (bytes : List ℕ) → input.old.left ≡ Some bytes →
-        (limit : ℕ) → rodeo.old ≡ made_with 4096 limit → CountingError limit (lines_of bytes) error) }
+        (limit : ℕ) → rodeo.old ≡ made_with 4096 limit → CountingError rule.only_utf8 limit (lines_of bytes) error) }
     ensures faults { IfErr result IsInputError }
     ensures reads { input.new.failures ≡ input.old.failures + failed_reads result }
 {
     let mut batch = Batch::new();
-    let mut line = Vec::new(alloc);
+    let mut line = Vec::new(rule.alloc);
     let mut number = 1;
     while number < usize::MAX {
         let shown = input.buffered();
-        let (next, used) = count_stretch(rodeo, &mut batch, counts, shown, number)?;
+        let (next, used) = count_stretch(rule, rodeo, &mut batch, counts, shown, number)?;
         input.consume(used);
         if !next_line(input, &mut line, next)? {
             return Ok(());
         }
         let whole = Line::untested(&line);
-        if let Err(error) = count_line(rodeo, &mut batch, counts, &whole, next) {
+        if let Err(error) = count_line(rule, rodeo, &mut batch, counts, &whole, next) {
             return Err(RunError::Line(error));
         }
         number = next + 1;
@@ -145,6 +152,7 @@ fn count_lines<R: Read + Drop>(
 // Counts the lines that end in the stretch; `first` is the number of the first one. Returns the number of the
 // line after them, and the position where it begins.
 fn count_stretch(
+    rule: TextRule,
     rodeo: &mut SpurRodeo,
     batch: &mut Batch,
     counts: &mut Vec<u64>,
@@ -154,14 +162,14 @@ fn count_stretch(
     requires lengths { vec_len counts.old ≡ length rodeo.old.texts }
     requires total { sum counts.old.items + 1 ≡ first }
     ensures counted { IfOk result (λ at. (input later : List ℕ) (start : InternerView) →
-        Counting input (stretch.now ++ later) first start rodeo.old counts.old.items → Counting input (drop at.1 stretch.now ++ later) at.0 start rodeo.new counts.new.items) }
+        Counting input (stretch.now ++ later) rule.only_utf8 first start rodeo.old counts.old.items → Counting input (drop at.1 stretch.now ++ later) rule.only_utf8 at.0 start rodeo.new counts.new.items) }
     ensures lengths { vec_len counts.new ≡ length rodeo.new.texts }
     ensures total { IfOk result (λ at. sum counts.new.items + 1 ≡ at.0) }
     ensures more { IfOk result (λ at. first ≤ at.0) }
     ensures number { IfOk result (λ at. at.0 < 2 ^ 64 - 1) }
     ensures within { IfOk result (λ at. at.1 ≤ length stretch.now) }
     ensures error { IfErr result (λ error. (input later : List ℕ) (limit : ℕ) →
-        Counting input (stretch.now ++ later) first (made_with 4096 limit) rodeo.old counts.old.items → CountingError limit (lines_of input) error) }
+        Counting input (stretch.now ++ later) rule.only_utf8 first (made_with 4096 limit) rodeo.old counts.old.items → CountingError rule.only_utf8 limit (lines_of input) error) }
     ensures faults { IfErr result IsDataError }
 {
     let mut lines = Stretch::new(stretch);
@@ -170,7 +178,7 @@ fn count_stretch(
         let Some(line) = lines.next_ended() else {
             return Ok((number, taken(stretch, &lines)));
         };
-        if let Err(error) = count_line(rodeo, batch, counts, &line, number) {
+        if let Err(error) = count_line(rule, rodeo, batch, counts, &line, number) {
             return Err(RunError::Line(error));
         }
     }
@@ -179,6 +187,7 @@ fn count_stretch(
 
 // Counts the line with this number, the next text of `batch`.
 fn count_line(
+    rule: TextRule,
     rodeo: &mut SpurRodeo,
     batch: &mut Batch,
     counts: &mut Vec<u64>,
@@ -187,25 +196,24 @@ fn count_line(
 ) -> Result<(), LineError>
     requires lengths { vec_len counts.old ≡ length rodeo.old.texts }
     requires fits { sum counts.old.items < 2 ^ 64 - 1 }
-    ensures interned { OnOk result (IsUtf8 line.now × ((key : ℕ) × InternsIn {K = ℕ} spur_at rodeo.old line.now (Ok key) rodeo.new)) }
-    ensures counted { OnOk result ((texts : List Text) → AreCounts texts rodeo.old.texts counts.old.items → AreCounts (texts ++ line.now ∷ []) rodeo.new.texts counts.new.items) }
+    ensures interned { OnOk result (IsLetIn rule.only_utf8 line.now × ((key : ℕ) × InternsIn {K = ℕ} spur_at rodeo.old (text_of line.now) (Ok key) rodeo.new)) }
+    ensures counted { OnOk result ((texts : List Text) → AreCounts texts rodeo.old.texts counts.old.items → AreCounts (texts ++ text_of line.now ∷ []) rodeo.new.texts counts.new.items) }
     ensures total { OnOk result (sum counts.new.items ≡ sum counts.old.items + 1) }
     ensures lengths { vec_len counts.new ≡ length rodeo.new.texts }
-    ensures error { IfErr result (IsFaultOf rodeo.old line.now number) }
+    ensures error { IfErr result (IsLineFault rule.only_utf8 rodeo.old line.now number) }
     ensures memory { IfErr result (RefusesNewLine rodeo.old counts.new line.now) }
 {
-    let Ok(text) = line.text() else {
-        return Err(LineError::NotText(number));
-    };
-    match count_next(rodeo, text, batch, counts) {
+    let text = text_in(rule, line, number)?;
+    match count_next(rodeo, text.as_str(), batch, counts) {
         Ok(()) => Ok(()),
         Err(error) => Err(LineError::Refused(number, error)),
     }
 }
 
-// Reads the whole input, and counts its lines with several workers.
-fn count_whole<H: AllocGlobal + Threads + Sync, R: Read + Drop>(
+// Encodes all lines with several workers, and counts their codes.
+fn count_stream<H: AllocGlobal + Threads + Sync, R: Read + Drop>(
     rt: &H,
+    rule: TextRule,
     input: &mut Input<R>,
     rodeo: &mut SpurRodeo,
     counts: &mut Vec<u64>,
@@ -214,30 +222,27 @@ fn count_whole<H: AllocGlobal + Threads + Sync, R: Read + Drop>(
     requires no_texts { rodeo.old.texts ≡ [] }
     requires no_counts { counts.old.items ≡ [] }
     ensures counted { OnOk result ((bytes : List ℕ) → input.old.left ≡ Some bytes →
-        All IsUtf8 (lines_of bytes) × AreCounts (lines_of bytes) rodeo.new.texts counts.new.items) }
-    ensures interned { OnOk result ((bytes : List ℕ) → input.old.left ≡ Some bytes → extend spur_at rodeo.old (lines_of bytes) (Ok tt) rodeo.new) }
-    ensures lengths { vec_len counts.new ≡ length rodeo.new.texts }
+        AreLetIn rule.only_utf8 (lines_of bytes) × AreCounts (line_texts (lines_of bytes)) rodeo.new.texts counts.new.items) }
+    ensures interned { OnOk result ((bytes : List ℕ) → input.old.left ≡ Some bytes → extend spur_at rodeo.old (line_texts (lines_of bytes)) (Ok tt) rodeo.new) }
+    ensures lengths { OnOk result (vec_len counts.new ≡ length rodeo.new.texts) }
     ensures error { IfErr result (λ error. (bytes : List ℕ) → input.old.left ≡ Some bytes →
-        (limit : ℕ) → rodeo.old ≡ made_with 4096 limit → CountingError limit (lines_of bytes) error) }
+        (limit : ℕ) → rodeo.old ≡ made_with 4096 limit → CountingError rule.only_utf8 limit (lines_of bytes) error) }
     ensures faults { IfErr result IsInputError }
     ensures reads { input.new.failures ≡ input.old.failures + failed_reads result }
 {
-    let whole = read_whole(rt.alloc(), input)?;
-    let lines = text_lines(rt.alloc(), &whole)?;
-    match count_in_parts(rt, rodeo, &lines.texts, counts, workers) {
-        Ok(()) if lines.is_complete => Ok(()),
-        Ok(()) => Err(RunError::Line(LineError::NotText(lines.texts.len() + 1))),
-        Err(refused) => Err(RunError::Line(LineError::Refused(
-            refused.position + 1,
-            refused.error,
-        ))),
-    }
+    let mut codes = Vec::new(rt.alloc());
+    input.encode_stream(rt, rule, rodeo, &mut codes, None, workers)?;
+    let Ok(()) = counts.resize(rodeo.len(), 0) else {
+        return Err(RunError::no_memory(0));
+    };
+    count_codes(&codes, counts);
+    Ok(())
 }
 
 // Writes each count and its text as a line.
 fn write_ranked<W: Write + Drop>(
     output: &mut Output<W>,
-    ranked: &[Ranked<'_>],
+    ranked: &[RankedLine<'_>],
 ) -> Result<(), RunError>
     ensures written { Writes output.old.written output.new.written (WritesAll (flat_map count_line (map pair_of ranked.now)) result) }
     ensures writes { output.new.failures ≡ output.old.failures + failed_writes result }
@@ -250,13 +255,16 @@ fn write_ranked<W: Write + Drop>(
 }
 
 // Writes the count, a space, the text and a line feed.
-fn write_count<W: Write + Drop>(output: &mut Output<W>, ranked: &Ranked<'_>) -> Result<(), RunError>
+fn write_count<W: Write + Drop>(
+    output: &mut Output<W>,
+    ranked: &RankedLine<'_>,
+) -> Result<(), RunError>
     ensures written { Writes output.old.written output.new.written (WritesAll (count_line (pair_of ranked.now)) result) }
     ensures writes { output.new.failures ≡ output.old.failures + failed_writes result }
     ensures gone { output.new.gone ≡ output.old.gone + gone_readers result }
 {
-    let (Reverse(count), text) = *ranked;
+    let (Reverse(count), line) = *ranked;
     write_number(output, count)?;
     write_bytes(output, b" ")?;
-    write_line(output, text.as_bytes())
+    write_line(output, line)
 }

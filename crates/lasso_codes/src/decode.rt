@@ -1,6 +1,6 @@
 //! Decodes columns into their lines.
 ghost use Rattle.std.specs.Prelude.{◌≡◌, ◌+◌, ◌-◌, ◌≤◌, ◌++◌, [], ℕ, List, Option, Some, Err, IfOk, IfErr, drop, length};
-ghost use Rattle.lasso_codes.specs.Arguments.{word_of};
+ghost use Rattle.lasso_columns.specs.Rows.{word_of};
 ghost use Rattle.lasso_codes.specs.Decode.{line_at, DecodeEnd, DecodingError, WritesEntry, WritesLines};
 ghost use Rattle.lasso_codes.specs.Errors.{failed_reads, failed_writes, gone_readers, FailsWriting, IsWriteEnd, IsOutputError};
 ghost use Rattle.lasso_codes.specs.Reading.{items_from, ReadItems};
@@ -11,61 +11,63 @@ ghost use Rattle.lasso_codes.specs.Streams.{Writes};
 use crate::entries::{Entry, first_entry, line_at, next_entry};
 use crate::error::RunError;
 use crate::interner::new_rodeo;
+use crate::line_table::LineTable;
+use crate::lines::TextRule;
 use crate::output::{end_flushed, write_line};
 use crate::reading::{Header, next_header, read_texts};
 use crate::streams::{Input, Output};
-use lasso::{MemoryLimits, SpurRodeo};
-use std::alloc::Global;
+use lasso::MemoryLimits;
 use std::io::{Read, Write};
 
 /// Decodes the columns of the input, and writes their lines, each with a line feed. A null is written as
 /// `null`.
 ///
 /// # Errors
-/// A damaged column, a null if `null` is `None`, a text that is refused, a failed read, or out of memory: the
+/// A damaged column, a null if `null` is `None`, a text that is refused or not let in, a failed read, or out of memory: the
 /// lines before it were written. After a failed write, a beginning of the lines was written.
 pub fn decode<R: Read + Drop, W: Write + Drop>(
-    alloc: Global,
+    rule: TextRule,
     input: &mut Input<R>,
     output: &mut Output<W>,
     limits: MemoryLimits,
     null: Option<&[u8]>,
 ) -> Result<(), RunError>
     ensures report { (bytes : List ℕ) → input.old.left ≡ Some bytes →
-        Writes output.old.written output.new.written (λ part. DecodeEnd bytes limits (word_of null.entry) part result) }
+        Writes output.old.written output.new.written (λ part. DecodeEnd bytes rule.only_utf8 limits (word_of null.entry) part result) }
     ensures flushed { ¬ (IsWriteEnd result) → output.new.pending ≡ [] }
     ensures reads { ¬ (result ≡ Err RunError.WriteFailed) → input.new.failures ≡ input.old.failures + failed_reads result }
     ensures writes { output.new.failures ≡ output.old.failures + failed_writes result }
     ensures gone { ¬ (result ≡ Err RunError.WriteFailed) → output.new.gone ≡ output.old.gone + gone_readers result }
     ensures write_failed { result ≡ Err RunError.WriteFailed → FailsWriting input.old input.new output.old output.new (λ error. (bytes : List ℕ) → input.old.left ≡ Some bytes →
-        Writes output.old.written output.new.written (λ part. DecodeEnd bytes limits (word_of null.entry) part (Err error))) }
+        Writes output.old.written output.new.written (λ part. DecodeEnd bytes rule.only_utf8 limits (word_of null.entry) part (Err error))) }
 {
-    let result = write_decoded(alloc, input, output, limits, null);
+    let result = write_decoded(rule, input, output, limits, null);
     end_flushed(output, result)
 }
 
 // Writes the lines of each column. The last bytes stay in the buffer.
 fn write_decoded<R: Read + Drop, W: Write + Drop>(
-    alloc: Global,
+    rule: TextRule,
     input: &mut Input<R>,
     output: &mut Output<W>,
     limits: MemoryLimits,
     null: Option<&[u8]>,
 ) -> Result<(), RunError>
     ensures report { (bytes : List ℕ) → input.old.left ≡ Some bytes →
-        Writes output.old.written output.new.written (λ part. DecodeEnd bytes limits (word_of null.entry) part result) }
+        Writes output.old.written output.new.written (λ part. DecodeEnd bytes rule.only_utf8 limits (word_of null.entry) part result) }
     ensures reads { input.new.failures ≡ input.old.failures + failed_reads result }
     ensures writes { output.new.failures ≡ output.old.failures + failed_writes result }
     ensures gone { output.new.gone ≡ output.old.gone + gone_readers result }
 {
-    let mut line = Vec::new(alloc);
+    let mut line = Vec::new(rule.alloc);
     for column in 1..usize::MAX {
         let Some(header) = next_header(input, &mut line, column)? else {
             return Ok(());
         };
-        let mut rodeo = new_rodeo(alloc, limits)?;
-        read_texts(input, &mut line, &mut rodeo, header.distinct, column)?;
-        write_lines(input, output, &mut line, &rodeo, header, null, column)?;
+        let mut rodeo = new_rodeo(rule.alloc, limits)?;
+        read_texts(rule, input, &mut line, &mut rodeo, header.distinct, column)?;
+        let table = LineTable::new(rule.alloc, &rodeo)?;
+        write_lines(input, output, &mut line, &table, header, null, column)?;
     }
     Err(RunError::TooManyLines)
 }
@@ -75,13 +77,13 @@ fn write_lines<R: Read + Drop, W: Write + Drop>(
     input: &mut Input<R>,
     output: &mut Output<W>,
     line: &mut Vec<u8>,
-    rodeo: &SpurRodeo,
+    table: &LineTable<'_>,
     header: Header,
     null: Option<&[u8]>,
     column: usize,
 ) -> Result<(), RunError>
     ensures written { (bytes : List ℕ) → input.old.left ≡ Some bytes →
-        Writes output.old.written output.new.written (λ part. WritesLines (items_from (line_at (word_of null.entry) rodeo.now.texts) header.lines header.binary 1 bytes)
+        Writes output.old.written output.new.written (λ part. WritesLines (items_from (line_at (word_of null.entry) table.now) header.lines header.binary 1 bytes)
         column input.new.left part result) }
     ensures reads { input.new.failures ≡ input.old.failures + failed_reads result }
     ensures writes { output.new.failures ≡ output.old.failures + failed_writes result }
@@ -90,13 +92,13 @@ fn write_lines<R: Read + Drop, W: Write + Drop>(
     let mut count = 0;
     while count < header.lines {
         let shown = input.buffered();
-        let (next, used) = write_stretch(output, rodeo, header, null, column, shown, count)?;
+        let (next, used) = write_stretch(output, table, header, null, column, shown, count)?;
         input.consume(used);
         if next == header.lines {
             return Ok(());
         }
         let entry = next_entry(input, line, header.binary)?;
-        write_entry_line(output, rodeo, null, column, entry, next + 1)?;
+        write_entry_line(output, table, null, column, entry, next + 1)?;
         count = next + 1;
     }
     Ok(())
@@ -106,7 +108,7 @@ fn write_lines<R: Read + Drop, W: Write + Drop>(
 // entries before the next one, and the position where that begins.
 fn write_stretch<W: Write + Drop>(
     output: &mut Output<W>,
-    rodeo: &SpurRodeo,
+    table: &LineTable<'_>,
     header: Header,
     null: Option<&[u8]>,
     column: usize,
@@ -115,12 +117,12 @@ fn write_stretch<W: Write + Drop>(
 ) -> Result<(usize, usize), RunError>
     requires { count ≤ header.lines }
     ensures written { IfOk result (λ at. (read : ReadItems Text) (later : List ℕ) (before : Option (List ℕ)) →
-        Writes before output.old.written (LinesAhead (items_from (line_at (word_of null.entry) rodeo.now.texts) (header.lines - count) header.binary (count + 1) (stretch.now ++ later)) read) →
-        Writes before output.new.written (LinesAhead (items_from (line_at (word_of null.entry) rodeo.now.texts) (header.lines - at.0) header.binary (at.0 + 1) (drop at.1 stretch.now ++ later)) read)) }
+        Writes before output.old.written (LinesAhead (items_from (line_at (word_of null.entry) table.now) (header.lines - count) header.binary (count + 1) (stretch.now ++ later)) read) →
+        Writes before output.new.written (LinesAhead (items_from (line_at (word_of null.entry) table.now) (header.lines - at.0) header.binary (at.0 + 1) (drop at.1 stretch.now ++ later)) read)) }
     ensures more { IfOk result (λ at. (count ≤ at.0) × (at.0 ≤ header.lines)) }
     ensures within { IfOk result (λ at. at.1 ≤ length stretch.now) }
     ensures error { IfErr result (λ error. (read : ReadItems Text) (later : List ℕ) (before : Option (List ℕ)) →
-        Writes before output.old.written (LinesAhead (items_from (line_at (word_of null.entry) rodeo.now.texts) (header.lines - count) header.binary (count + 1) (stretch.now ++ later)) read) →
+        Writes before output.old.written (LinesAhead (items_from (line_at (word_of null.entry) table.now) (header.lines - count) header.binary (count + 1) (stretch.now ++ later)) read) →
         Writes before output.new.written (λ part. DecodingError read column part error)) }
     ensures faults { IfErr result IsOutputError }
     ensures writes { output.new.failures ≡ output.old.failures + failed_writes result }
@@ -131,7 +133,7 @@ fn write_stretch<W: Write + Drop>(
         let Some((entry, len)) = first_entry(&stretch[used..], header.binary) else {
             return Ok((position, used));
         };
-        write_entry_line(output, rodeo, null, column, entry, position + 1)?;
+        write_entry_line(output, table, null, column, entry, position + 1)?;
         used += len;
     }
     Ok((header.lines, used))
@@ -141,18 +143,18 @@ fn write_stretch<W: Write + Drop>(
 #[inline]
 fn write_entry_line<W: Write + Drop>(
     output: &mut Output<W>,
-    rodeo: &SpurRodeo,
+    table: &LineTable<'_>,
     null: Option<&[u8]>,
     column: usize,
     entry: Entry,
     number: usize,
 ) -> Result<(), RunError>
-    ensures written { Writes output.old.written output.new.written (WritesEntry (line_at (word_of null.entry) rodeo.now.texts entry number) column result) }
+    ensures written { Writes output.old.written output.new.written (WritesEntry (line_at (word_of null.entry) table.now entry number) column result) }
     ensures faults { IfErr result IsOutputError }
     ensures writes { output.new.failures ≡ output.old.failures + failed_writes result }
     ensures gone { output.new.gone ≡ output.old.gone + gone_readers result }
 {
-    match line_at(rodeo, null, entry, number) {
+    match line_at(table, null, entry, number) {
         Ok(decoded) => write_line(output, decoded),
         Err(error) => Err(RunError::Column(column, error)),
     }

@@ -8,60 +8,59 @@ ghost use Rattle.lasso_codes.specs.Errors.{failed_reads, failed_writes, gone_rea
 use crate::error::RunError;
 use crate::input::next_line;
 use crate::interner::new_rodeo;
-use crate::lines::{intern_line, taken};
+use crate::lines::{TextRule, intern_line, taken};
 use crate::output::{end_flushed, write_line};
 use crate::streams::{Input, Output};
 use lasso::{MemoryLimits, SpurRodeo};
 use lasso_input::{Line, Stretch};
 use lasso_single::batch::Batch;
-use std::alloc::Global;
 use std::io::{Read, Write};
 
 /// Writes each distinct line once, where it first occurs, with a line feed. The output is flushed before a
 /// read that may wait, and before each return.
 ///
 /// # Errors
-/// The first line that is refused or is not UTF-8, a failed read, or out of memory: the distinct lines before
+/// The first line that is refused or not let in, a failed read, or out of memory: the distinct lines before
 /// it were written. After a failed write, a beginning of the distinct lines was written.
 pub fn distinct<R: Read + Drop, W: Write + Drop>(
-    alloc: Global,
+    rule: TextRule,
     input: &mut Input<R>,
     output: &mut Output<W>,
     limits: MemoryLimits,
 ) -> Result<(), RunError>
     ensures report { (bytes : List ℕ) → input.old.left ≡ Some bytes →
-        Writes output.old.written output.new.written (λ part. DistinctEnd bytes limits input.new.left part result) }
+        Writes output.old.written output.new.written (λ part. DistinctEnd bytes rule.only_utf8 limits input.new.left part result) }
     ensures flushed { ¬ (IsWriteEnd result) → output.new.pending ≡ [] }
     ensures reads { ¬ (result ≡ Err RunError.WriteFailed) → input.new.failures ≡ input.old.failures + failed_reads result }
     ensures writes { output.new.failures ≡ output.old.failures + failed_writes result }
     ensures gone { ¬ (result ≡ Err RunError.WriteFailed) → output.new.gone ≡ output.old.gone + gone_readers result }
     ensures write_failed { result ≡ Err RunError.WriteFailed → FailsWriting input.old input.new output.old output.new (λ error. (bytes : List ℕ) → input.old.left ≡ Some bytes →
-        Writes output.old.written output.new.written (λ part. DistinctEnd bytes limits input.new.left part (Err error))) }
+        Writes output.old.written output.new.written (λ part. DistinctEnd bytes rule.only_utf8 limits input.new.left part (Err error))) }
 {
-    let result = write_distinct(alloc, input, output, limits);
+    let result = write_distinct(rule, input, output, limits);
     end_flushed(output, result)
 }
 
 // Writes the distinct lines. The last bytes may stay in the buffer.
 fn write_distinct<R: Read + Drop, W: Write + Drop>(
-    alloc: Global,
+    rule: TextRule,
     input: &mut Input<R>,
     output: &mut Output<W>,
     limits: MemoryLimits,
 ) -> Result<(), RunError>
     ensures report { (bytes : List ℕ) → input.old.left ≡ Some bytes →
-        Writes output.old.written output.new.written (λ part. DistinctEnd bytes limits input.new.left part result) }
+        Writes output.old.written output.new.written (λ part. DistinctEnd bytes rule.only_utf8 limits input.new.left part result) }
     ensures reads { input.new.failures ≡ input.old.failures + failed_reads result }
     ensures writes { output.new.failures ≡ output.old.failures + failed_writes result }
     ensures gone { output.new.gone ≡ output.old.gone + gone_readers result }
 {
-    let mut rodeo = new_rodeo(alloc, limits)?;
+    let mut rodeo = new_rodeo(rule.alloc, limits)?;
     let mut batch = Batch::new();
-    let mut line = Vec::new(alloc);
+    let mut line = Vec::new(rule.alloc);
     let mut number = 1;
     while number < usize::MAX {
         let shown = input.buffered();
-        let (next, used) = pass_stretch(&mut rodeo, &mut batch, shown, number, output)?;
+        let (next, used) = pass_stretch(rule, &mut rodeo, &mut batch, shown, number, output)?;
         input.consume(used);
         // The next line is not in the buffer as a whole, so reading it may wait.
         output.flush()?;
@@ -69,7 +68,7 @@ fn write_distinct<R: Read + Drop, W: Write + Drop>(
             return Ok(());
         }
         let whole = Line::untested(&line);
-        pass_line(&mut rodeo, &mut batch, &whole, next, output)?;
+        pass_line(rule, &mut rodeo, &mut batch, &whole, next, output)?;
         number = next + 1;
     }
     Err(RunError::TooManyLines)
@@ -78,6 +77,7 @@ fn write_distinct<R: Read + Drop, W: Write + Drop>(
 // Interns the lines that end in the stretch, and writes the new ones; `first` is the number of the first
 // line. Returns the number of the line after them, and the position where it begins.
 fn pass_stretch<W: Write + Drop>(
+    rule: TextRule,
     rodeo: &mut SpurRodeo,
     batch: &mut Batch,
     stretch: &[u8],
@@ -85,14 +85,14 @@ fn pass_stretch<W: Write + Drop>(
     output: &mut Output<W>,
 ) -> Result<(usize, usize), RunError>
     ensures passed { IfOk result (λ at. (input later : List ℕ) (limit : ℕ) (before : Option (List ℕ)) →
-        Writes before output.old.written (OnTheWay input limit (stretch.now ++ later) first rodeo.old) →
-        Writes before output.new.written (OnTheWay input limit (drop at.1 stretch.now ++ later) at.0 rodeo.new)) }
+        Writes before output.old.written (OnTheWay input rule.only_utf8 limit (stretch.now ++ later) first rodeo.old) →
+        Writes before output.new.written (OnTheWay input rule.only_utf8 limit (drop at.1 stretch.now ++ later) at.0 rodeo.new)) }
     ensures more { IfOk result (λ at. first ≤ at.0) }
     ensures number { IfOk result (λ at. at.0 < 2 ^ 64 - 1) }
     ensures within { IfOk result (λ at. at.1 ≤ length stretch.now) }
     ensures error { IfErr result (λ error. (input later : List ℕ) (limit : ℕ) (before after : Option (List ℕ)) →
-        Writes before output.old.written (OnTheWay input limit (stretch.now ++ later) first rodeo.old) →
-        Writes before output.new.written (λ part. DistinctEnd input limit after part (Err error))) }
+        Writes before output.old.written (OnTheWay input rule.only_utf8 limit (stretch.now ++ later) first rodeo.old) →
+        Writes before output.new.written (λ part. DistinctEnd input rule.only_utf8 limit after part (Err error))) }
     ensures faults { IfErr result IsOutputError }
     ensures writes { output.new.failures ≡ output.old.failures + failed_writes result }
     ensures gone { output.new.gone ≡ output.old.gone + gone_readers result }
@@ -103,25 +103,26 @@ fn pass_stretch<W: Write + Drop>(
         let Some(line) = lines.next_ended() else {
             return Ok((number, taken(stretch, &lines)));
         };
-        pass_line(rodeo, batch, &line, number, output)?;
+        pass_line(rule, rodeo, batch, &line, number, output)?;
     }
     Err(RunError::TooManyLines)
 }
 
 // Interns the line with this number, the next text of `batch`, and writes it if it is new.
 fn pass_line<W: Write + Drop>(
+    rule: TextRule,
     rodeo: &mut SpurRodeo,
     batch: &mut Batch,
     line: &Line<'_>,
     number: usize,
     output: &mut Output<W>,
 ) -> Result<(), RunError>
-    ensures written { Writes output.old.written output.new.written (λ part. PassesLine rodeo.old line.now number part rodeo.new result) }
+    ensures written { Writes output.old.written output.new.written (λ part. PassesLine rule.only_utf8 rodeo.old line.now number part rodeo.new result) }
     ensures faults { IfErr result IsOutputError }
     ensures writes { output.new.failures ≡ output.old.failures + failed_writes result }
     ensures gone { output.new.gone ≡ output.old.gone + gone_readers result }
 {
-    match intern_line(rodeo, batch, line, number) {
+    match intern_line(rule, rodeo, batch, line, number) {
         Ok(true) => write_line(output, line.bytes()),
         Ok(false) => Ok(()),
         Err(error) => Err(RunError::Line(error)),

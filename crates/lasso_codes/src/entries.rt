@@ -1,18 +1,16 @@
 //! Reads the entries of a column.
 ghost use Rattle.std.specs.Prelude.{◌≡◌, ◌+◌, ◌≤◌, ◌++◌, ℕ, List, true, Some, Ok, Err, IfOk, IfErr, IfSome, MatchResult, drop, length};
-ghost use Rattle.lasso_codes.specs.Arguments.{word_of};
+ghost use Rattle.lasso_columns.specs.Rows.{word_of};
 ghost use Rattle.lasso_codes.specs.Decode.{line_at};
 ghost use Rattle.lasso_codes.specs.Reading.{cut_entry, cut_number, entry_in, number_entry, TakesEntry};
 ghost use Rattle.lasso_codes.specs.Errors.{failed_reads, IsReadError};
 
-use crate::columns::NULL;
 use crate::error::{ColumnError, RunError};
 use crate::input::{Cut, next_whole_line};
-use crate::numbers::parse_digits;
+use crate::line_table::LineTable;
 use crate::streams::Input;
-use lasso::SpurRodeo;
-use lasso::index::Texts;
-use lasso_input::find_newline;
+use lasso_columns::NULL;
+use lasso_input::{find_newline, parse_digits};
 use std::io::Read;
 
 /// An entry of a column, as it is read.
@@ -124,19 +122,19 @@ fn entry_in(line: &[u8]) -> Entry
     }
 }
 
-/// The line of the entry with this number: the text of its code, or `null` for a null.
+/// The line of the entry with this number: that of its code, or `null` for a null.
 ///
 /// # Errors
 /// The entry is missing, is not a code, or its code is past the texts. Or it is a null, and `null` is `None`.
 pub fn line_at<'a>(
-    rodeo: &'a SpurRodeo,
+    table: &'a LineTable<'_>,
     null: Option<&'a [u8]>,
     entry: Entry,
     number: usize,
 ) -> Result<&'a [u8], ColumnError>
     ensures { MatchResult result
-        (λ line. line_at (word_of null.entry) rodeo.now.texts entry number ≡ Ok line.now)
-        (λ error. line_at (word_of null.entry) rodeo.now.texts entry number ≡ Err error) }
+        (λ line. line_at (word_of null.entry) table.now entry number ≡ Ok line.now)
+        (λ error. line_at (word_of null.entry) table.now entry number ≡ Err error) }
 {
     match entry {
         Entry::Missing => Err(ColumnError::NoEntry(number)),
@@ -146,10 +144,10 @@ pub fn line_at<'a>(
             None => Err(ColumnError::IsNull(number)),
         },
         Entry::Code(code) => {
-            if code >= rodeo.len() {
+            if code >= table.len() {
                 return Err(ColumnError::PastTexts(number));
             }
-            Ok(rodeo.text_at(code).as_bytes())
+            Ok(table.at(code))
         }
     }
 }

@@ -76,7 +76,7 @@ impl fmt::Display for ColumnError {
             ColumnError::Doubled(number) => write!(f, "text {number} comes twice"),
             ColumnError::TextRefused(number, error) => write!(f, "text {number}: {error}"),
             ColumnError::NoEntry(number) => write!(f, "entry {number} is missing"),
-            ColumnError::NotEntry(number) => write!(f, "entry {number} is no code"),
+            ColumnError::NotEntry(number) => write!(f, "entry {number} is not a code"),
             ColumnError::PastTexts(number) => write!(f, "entry {number} is past the texts"),
             ColumnError::IsNull(number) => write!(
                 f,

@@ -29,7 +29,8 @@ Lines that came equally often are in the order of their bytes.
 
   --limit N    the most bytes that the distinct lines may take
   --top N      write at most N lines
-  --workers N  read the whole input, and count by 1 to 64 threads
+  --workers N  count by 1 to 64 threads; pays for long input whose lines repeat
+  --utf8       refuse a line that is not UTF-8
   --quiet      show no progress on a terminal
 
 N is a number below 2^64, or one with K, M or G after it, as 64K for 65536.
@@ -42,6 +43,7 @@ Writes the lines of columns, one or several one after another.
 
   --limit N    the most bytes that the texts of a column may take
   --null WORD  write a null as WORD; without it, a null is a fault
+  --utf8       refuse a text that is not UTF-8
   --quiet      show no progress on a terminal
 
 N is a number below 2^64, or one with K, M or G after it, as 64K for 65536.
@@ -53,6 +55,7 @@ usage: lasso_codes distinct [OPTION..] < INPUT > OUTPUT
 Writes each distinct line once, where it first came.
 
   --limit N  the most bytes that the distinct lines may take
+  --utf8     refuse a line that is not UTF-8
   --quiet    show no progress on a terminal
 
 N is a number below 2^64, or one with K, M or G after it, as 64K for 65536.
@@ -67,7 +70,8 @@ which is the position of the line among the distinct ones, from 0.
   --limit N    the most bytes that the distinct lines may take
   --null WORD  a line that is WORD is a null: it is no text of the column
   --binary     write codes as four bytes each, the least first
-  --workers N  read the whole input, and encode by 1 to 64 threads
+  --workers N  encode by 1 to 64 threads; pays for long input whose lines repeat
+  --utf8       refuse a line that is not UTF-8
   --quiet      show no progress on a terminal
 
 N is a number below 2^64, or one with K, M or G after it, as 64K for 65536.
@@ -80,6 +84,7 @@ Writes one column of the lines of columns, one or several one after another.
 
   --limit N  the most bytes that the texts of all columns may take
   --binary   write codes as four bytes each, the least first
+  --utf8     refuse a text that is not UTF-8
   --quiet    show no progress on a terminal
 
 N is a number below 2^64, or one with K, M or G after it, as 64K for 65536.

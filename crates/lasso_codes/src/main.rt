@@ -2,9 +2,11 @@
 //! as a column; and it decodes and merges columns.
 #![tactic(auto)]
 
-ghost use Rattle.std.specs.Prelude.{◌≡◌};
-ghost use Rattle.std.specs.Process.{exit_status};
-ghost use Rattle.lasso_codes.specs.Errors.{status_of};
+ghost use Rattle.std.specs.Prelude.{◌≡◌, ℕ, List, Option, Ok, Err, map, string_bytes};
+ghost use Rattle.lasso_parts.specs.Texts.{Text};
+ghost use Rattle.lasso_codes.specs.Arguments.{command_of};
+ghost use Rattle.lasso_codes.specs.Endings.{IsRefusal, IsRunOf};
+ghost use Rattle.lasso_codes.specs.declared.arguments.Command.{Command};
 
 pub mod arguments;
 pub mod columns;
@@ -12,13 +14,14 @@ pub mod counts;
 pub mod decode;
 pub mod distinct;
 pub mod encode;
+pub mod ending;
 pub mod entries;
 pub mod error;
-pub mod failures;
 pub mod help;
 pub mod input;
 pub mod interner;
 pub mod laws;
+pub mod line_table;
 pub mod lines;
 pub mod merge;
 pub mod numbers;
@@ -26,13 +29,13 @@ pub mod options;
 pub mod output;
 pub mod program;
 pub mod progress;
+pub mod ranking;
 pub mod reading;
 pub mod streams;
-pub mod whole;
 
 use arguments::{ArgumentError, Request, command_of};
-use error::RunError;
-use program::{BUFFER_SIZE, run_request};
+use ending::{Ending, end};
+use program::{BUFFER_SIZE, Ran, run};
 use progress::{Terminals, Watched, shows_progress};
 use std::alloc::AllocError;
 use std::io::{BufReader, BufWriter, ErrorKind, IsTerminal};
@@ -41,21 +44,10 @@ use std::rt::{Clock, Env};
 use std::thread::Threads;
 use std::{env, io};
 
-// The exit status for bad arguments.
-const BAD_ARGUMENTS: u8 = 3;
-
 fn main(rt: HostRuntime) -> ExitCode {
-    let words = match argument_words(&rt) {
-        Ok(Some(words)) => words,
-        Ok(None) => return refuse(&rt, &ArgumentError::NotText),
-        Err(error) => return end(&rt, &error),
-    };
-    match command_of(&words) {
-        Ok(request) => match run_program(&rt, &request, terminals(&rt)) {
-            Ok(()) => ExitCode::SUCCESS,
-            Err(error) => end(&rt, &error),
-        },
-        Err(error) => refuse(&rt, &error),
+    match argument_words(&rt) {
+        Ok(words) => end(&rt, &run_words(&rt, &words, terminals(&rt))),
+        Err(ending) => end(&rt, &ending),
     }
 }
 
@@ -68,60 +60,58 @@ fn terminals(rt: &HostRuntime) -> Terminals {
     }
 }
 
-// Runs the request over standard input and output. A progress line that it shows is wiped before it returns.
-fn run_program<R: AllocGlobal + Input + Print + Eprint + Clock + Threads + Sync>(
+// Runs what the words ask for, unless they are refused.
+fn run_words<'a, R: AllocGlobal + Input + Print + Eprint + Clock + Threads + Sync>(
     rt: &R,
-    request: &Request<'_>,
+    words: &'a [String],
     terminals: Terminals,
-) -> Result<(), RunError> {
+) -> Ending<'a>
+    ensures refused { (text : List ℕ) → command_of (map string_bytes words.now) ≡ Err text → IsRefusal text result }
+    ensures run { (asked : Command × Option Text) → command_of (map string_bytes words.now) ≡ Ok asked → IsRunOf asked result }
+{
+    match command_of(words) {
+        Ok(request) => Ending::Ran(run_program(rt, &request, terminals)),
+        Err(error) => Ending::Refused(error),
+    }
+}
+
+// Runs the request over standard input and output. A progress line that it shows is wiped before it returns.
+fn run_program<'a, R: AllocGlobal + Input + Print + Eprint + Clock + Threads + Sync>(
+    rt: &R,
+    request: &Request<'a>,
+    terminals: Terminals,
+) -> Ran<'a>
+    ensures { result.request ≡ request.now }
+{
     let is_shown = shows_progress(request.command, terminals);
     let watched = Watched::new(rt.reader(), rt, is_shown);
     let Ok(reader) = BufReader::with_capacity(rt.alloc(), BUFFER_SIZE, watched) else {
-        return Err(RunError::no_memory(0));
+        return Ran::no_memory(request);
     };
     let Ok(writer) = BufWriter::with_capacity(rt.alloc(), BUFFER_SIZE, io::writer(rt)) else {
-        return Err(RunError::no_memory(0));
+        return Ran::no_memory(request);
     };
     let mut input = streams::Input::new(reader);
     let mut output = streams::Output::new(writer);
-    let ended = run_request(rt, request, &mut input, &mut output);
+    let ran = run(rt, request, &mut input, &mut output);
     input.into_inner().wipe();
     // Dropping the writer would write what a failed write left in the buffer. Nothing is tried again.
     let (_writer, _left) = output.into_parts();
-    ended
+    ran
 }
 
-// Prints why the arguments are refused.
-fn refuse<R: Eprint>(rt: &R, error: &ArgumentError<'_>) -> ExitCode
-    ensures { exit_status result ≡ 3 }
-{
-    let _ = eprintln!(rt; "{error}");
-    ExitCode::from(BAD_ARGUMENTS)
-}
-
-// Prints why the run ended, unless the reader of the output is gone.
-fn end<R: Eprint>(rt: &R, error: &RunError) -> ExitCode
-    ensures { exit_status result ≡ status_of error.now }
-{
-    if *error != RunError::ReaderGone {
-        let _ = eprintln!(rt; "{error}");
-    }
-    ExitCode::from(error.status())
-}
-
-// The words after the program's name. `None` if one is not UTF-8.
-fn argument_words<R: AllocGlobal + Env>(rt: &R) -> Result<Option<Vec<String>>, RunError> {
+// The words after the program's name, or how the program ends if one is not UTF-8 or out of memory.
+fn argument_words<R: AllocGlobal + Env>(rt: &R) -> Result<Vec<String>, Ending<'static>> {
     let mut all = match env::args(rt) {
         Ok(all) => all,
         Err(error) if error.kind() == ErrorKind::OutOfMemory => return Err(no_memory(AllocError)),
-        Err(_) => return Ok(None),
+        Err(_) => return Err(Ending::Refused(ArgumentError::NotText)),
     };
     let _program = all.next();
-    let words = all.collect(rt.alloc()).map_err(no_memory)?;
-    Ok(Some(words))
+    all.collect(rt.alloc()).map_err(no_memory)
 }
 
-// Out of memory outside of a line.
-fn no_memory(_: AllocError) -> RunError {
-    RunError::no_memory(0)
+// Out of memory for the arguments.
+fn no_memory(_: AllocError) -> Ending<'static> {
+    Ending::NoMemory
 }

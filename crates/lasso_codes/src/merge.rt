@@ -2,7 +2,7 @@
 ghost use Rattle.std.specs.Prelude.{◌≡◌, ◌+◌, ◌-◌, ◌<◌, ◌≤◌, ◌^◌, ◌++◌, ◌∷◌, [], ℕ, List, drop, length, Option, Some, Ok, Err, OnOk, IfOk, IfErr, MatchResult};
 ghost use Rattle.lasso_parts.specs.Texts.{Text};
 ghost use Rattle.lasso_single.specs.Interner.{made_with};
-ghost use Rattle.lasso_encode.specs.Codes.{AreCodes};
+ghost use Rattle.lasso_single.specs.Codes.{AreCodes};
 ghost use Rattle.lasso_columns.specs.declared.faults.LineError.TheVariants.{Refused};
 ghost use Rattle.lasso_parts.specs.declared.util.LassoErrorKind.TheVariants.{FailedAllocation};
 ghost use Rattle.lasso_codes.specs.Columns.{entry_at};
@@ -12,67 +12,69 @@ ghost use Rattle.lasso_codes.specs.Stages.{EntriesAhead};
 ghost use Rattle.lasso_codes.specs.Reading.{items_from, ReadItems};
 ghost use Rattle.lasso_codes.specs.Streams.{Writes};
 
-use crate::columns::{NULL, append, write_column};
+use crate::columns::{append, write_column};
 use crate::entries::{Entry, first_entry, next_entry};
 use crate::error::{ColumnError, RunError};
 use crate::interner::new_rodeo;
+use crate::line_table::LineTable;
+use crate::lines::TextRule;
 use crate::output::end_flushed;
 use crate::reading::{Header, next_header, read_texts};
 use crate::streams::{Input, Output};
 use lasso::{MemoryLimits, SpurRodeo};
-use lasso_columns::merge as merge_texts;
-use std::alloc::Global;
+use lasso_columns::{NULL, merge as merge_texts};
 use std::io::{Read, Write};
 
 /// Reads the columns of the input, and then writes one column with one dictionary, which has the lines of
 /// all.
 ///
 /// # Errors
-/// A damaged column, a text that is refused, a failed read, or out of memory: nothing is written. After a
+/// A damaged column, a text that is refused or not let in, a failed read, or out of memory: nothing is written. After a
 /// failed write, a beginning of the column was written.
 pub fn merge<R: Read + Drop, W: Write + Drop>(
-    alloc: Global,
+    rule: TextRule,
     input: &mut Input<R>,
     output: &mut Output<W>,
     limits: MemoryLimits,
     binary: bool,
 ) -> Result<(), RunError>
     ensures report { (bytes : List ℕ) → input.old.left ≡ Some bytes →
-        Writes output.old.written output.new.written (λ part. MergeEnd bytes limits binary part result) }
+        Writes output.old.written output.new.written (λ part. MergeEnd bytes rule.only_utf8 limits binary part result) }
     ensures flushed { ¬ (IsWriteEnd result) → output.new.pending ≡ [] }
     ensures reads { ¬ (result ≡ Err RunError.WriteFailed) → input.new.failures ≡ input.old.failures + failed_reads result }
     ensures writes { output.new.failures ≡ output.old.failures + failed_writes result }
     ensures gone { ¬ (result ≡ Err RunError.WriteFailed) → output.new.gone ≡ output.old.gone + gone_readers result }
     ensures write_failed { result ≡ Err RunError.WriteFailed → FailsWriting input.old input.new output.old output.new (λ error. (bytes : List ℕ) → input.old.left ≡ Some bytes →
-        Writes output.old.written output.new.written (λ part. MergeEnd bytes limits binary part (Err error))) }
+        Writes output.old.written output.new.written (λ part. MergeEnd bytes rule.only_utf8 limits binary part (Err error))) }
 {
-    let result = write_merged(alloc, input, output, limits, binary);
+    let result = write_merged(rule, input, output, limits, binary);
     end_flushed(output, result)
 }
 
 // Merges the columns and writes the merged one. The last bytes stay in the buffer.
 fn write_merged<R: Read + Drop, W: Write + Drop>(
-    alloc: Global,
+    rule: TextRule,
     input: &mut Input<R>,
     output: &mut Output<W>,
     limits: MemoryLimits,
     binary: bool,
 ) -> Result<(), RunError>
     ensures report { (bytes : List ℕ) → input.old.left ≡ Some bytes →
-        Writes output.old.written output.new.written (λ part. MergeEnd bytes limits binary part result) }
+        Writes output.old.written output.new.written (λ part. MergeEnd bytes rule.only_utf8 limits binary part result) }
     ensures reads { input.new.failures ≡ input.old.failures + failed_reads result }
     ensures writes { output.new.failures ≡ output.old.failures + failed_writes result }
     ensures gone { output.new.gone ≡ output.old.gone + gone_readers result }
 {
-    let mut rodeo = new_rodeo(alloc, limits)?;
-    let mut numbers = Vec::new(alloc);
-    merge_columns(alloc, input, &mut rodeo, &mut numbers, limits)?;
-    write_column(output, &rodeo, &numbers, binary)
+    let mut rodeo = new_rodeo(rule.alloc, limits)?;
+    let mut numbers = Vec::new(rule.alloc);
+    merge_columns(rule, input, &mut rodeo, &mut numbers, limits)?;
+    let table = LineTable::new(rule.alloc, &rodeo)?;
+    write_column(output, &table, &numbers, binary)
 }
 
 // Interns the texts of each column, and appends its entries with the codes of these.
 fn merge_columns<R: Read + Drop>(
-    alloc: Global,
+    rule: TextRule,
     input: &mut Input<R>,
     rodeo: &mut SpurRodeo,
     numbers: &mut Vec<u32>,
@@ -80,19 +82,19 @@ fn merge_columns<R: Read + Drop>(
 ) -> Result<(), RunError>
     requires made { rodeo.old ≡ made_with 4096 limits }
     requires no_numbers { numbers.old.items ≡ [] }
-    ensures merged { OnOk result ((bytes : List ℕ) → input.old.left ≡ Some bytes → AreMerged bytes limits rodeo.new.texts numbers.new.items) }
-    ensures error { IfErr result (λ error. (bytes : List ℕ) → input.old.left ≡ Some bytes → MergingError bytes limits error) }
+    ensures merged { OnOk result ((bytes : List ℕ) → input.old.left ≡ Some bytes → AreMerged bytes rule.only_utf8 limits rodeo.new.texts numbers.new.items) }
+    ensures error { IfErr result (λ error. (bytes : List ℕ) → input.old.left ≡ Some bytes → MergingError bytes rule.only_utf8 limits error) }
     ensures faults { IfErr result IsInputError }
     ensures reads { input.new.failures ≡ input.old.failures + failed_reads result }
 {
-    let mut line = Vec::new(alloc);
+    let mut line = Vec::new(rule.alloc);
     for column in 1..usize::MAX {
         let Some(header) = next_header(input, &mut line, column)? else {
             return Ok(());
         };
-        let mut texts = new_rodeo(alloc, limits)?;
-        read_texts(input, &mut line, &mut texts, header.distinct, column)?;
-        match merge_texts(alloc, rodeo, &texts.into_reader()) {
+        let mut texts = new_rodeo(rule.alloc, limits)?;
+        read_texts(rule, input, &mut line, &mut texts, header.distinct, column)?;
+        match merge_texts(rule.alloc, rodeo, &texts.into_reader()) {
             Ok(table) => add_numbers(input, &mut line, numbers, &table, header, column)?,
             Err(error) => return Err(RunError::Column(column, ColumnError::NotMerged(error))),
         }

@@ -1,6 +1,8 @@
 //! Parses numbers.
 ghost use Rattle.std.specs.Prelude.{◌≡◌, ◌-◌, length, slice_get};
-ghost use Rattle.lasso_codes.specs.Arguments.{digits_value, number_of, unit_of};
+ghost use Rattle.lasso_codes.specs.Arguments.{number_of, unit_of};
+
+use lasso_input::parse_digits;
 
 /// Parses 1 to 20 digits, and after them nothing, `K`, `M` or `G`, which multiply by 1024, its square and its
 /// cube. `None` for other words, and for numbers that are not below 2^64.
@@ -26,23 +28,4 @@ fn unit_of(word: &[u8]) -> usize
         Some(b'G') => 1024 * 1024 * 1024,
         _ => 1,
     }
-}
-
-/// Parses 1 to 20 digits. `None` for other words, and for numbers that are not below 2^64.
-pub fn parse_digits(digits: &[u8]) -> Option<usize>
-    ensures { result ≡ digits_value digits.now }
-{
-    if digits.is_empty() || digits.len() > 20 {
-        return None;
-    }
-    let mut value = 0usize;
-    for digit in digits {
-        if !digit.is_ascii_digit() {
-            return None;
-        }
-        value = value
-            .checked_mul(10)?
-            .checked_add(usize::from(*digit - b'0'))?;
-    }
-    Some(value)
 }

@@ -1,7 +1,8 @@
 //! The options of a verb.
 ghost use Rattle.std.specs.Prelude.{◌≡◌, ◌+◌, ◌≤◌, ◌∷◌, List, None, Some, Ok, Err, IfSome, IsSome, MatchOption, MatchResult, drop, length, map, string_bytes};
 ghost use Rattle.lasso_parts.specs.Texts.{Text};
-ghost use Rattle.lasso_codes.specs.Arguments.{IsWithin, argument_text, is_binary, meaning_of, no_value, not_number, number_of, options_of, setting_of, takes_binary, takes_null, takes_workers, unset, value_of, wanted_of, word_of, workers_of};
+ghost use Rattle.lasso_columns.specs.Rows.{word_of};
+ghost use Rattle.lasso_codes.specs.Arguments.{IsWithin, argument_text, is_binary, meaning_of, no_value, not_number, number_of, options_of, setting_of, takes_binary, takes_null, takes_workers, unset, value_of, wanted_of, workers_of};
 
 use crate::arguments::{ArgumentError, Command, Request, Settings, Verb};
 use crate::numbers::parse_number;
@@ -28,6 +29,8 @@ enum Meaning {
     IsBinary,
     // Shows no progress line.
     IsQuiet,
+    // Lets in only lines that are UTF-8.
+    IsUtf8Only,
     // A setting whose value is the next word.
     Wants(Setting),
     // A setting whose value follows the `=` at this position.
@@ -58,6 +61,7 @@ pub fn options_of(verb: Verb, words: &[String]) -> Result<Request<'_>, ArgumentE
             limit: usize::MAX,
             top: usize::MAX,
             binary: false,
+            only_utf8: false,
             workers: 1,
             quiet: false,
         },
@@ -98,7 +102,7 @@ fn no_value<'a>(setting: Setting, word: &'a str) -> ArgumentError<'a>
 // Reads one more word. Returns `None` if it is `--help`.
 fn read_word<'a>(
     verb: Verb,
-    reading: Reading<'a>,
+    mut reading: Reading<'a>,
     word: &'a str,
 ) -> Result<Option<Reading<'a>>, ArgumentError<'a>>
     ensures { (words : List Text) → let asked = options_of verb reading.entry.settings (word_of reading.entry.null) (wanted_of reading.entry) (word.now ∷ words) in MatchResult result
@@ -109,28 +113,15 @@ fn read_word<'a>(
         return with_value(reading, setting, word, 0);
     }
     match meaning_of(verb, word) {
-        Meaning::AsksHelp => Ok(None),
-        Meaning::IsBinary => Ok(Some(Reading {
-            settings: Settings {
-                binary: true,
-                ..reading.settings
-            },
-            ..reading
-        })),
-        Meaning::IsQuiet => Ok(Some(Reading {
-            settings: Settings {
-                quiet: true,
-                ..reading.settings
-            },
-            ..reading
-        })),
-        Meaning::Wants(setting) => Ok(Some(Reading {
-            wanted: Some((setting, word)),
-            ..reading
-        })),
-        Meaning::Has(setting, at) => with_value(reading, setting, word, at + 1),
-        Meaning::Nothing => Err(ArgumentError::NotOption(word)),
+        Meaning::AsksHelp => return Ok(None),
+        Meaning::IsBinary => reading.settings.binary = true,
+        Meaning::IsQuiet => reading.settings.quiet = true,
+        Meaning::IsUtf8Only => reading.settings.only_utf8 = true,
+        Meaning::Wants(setting) => reading.wanted = Some((setting, word)),
+        Meaning::Has(setting, at) => return with_value(reading, setting, word, at + 1),
+        Meaning::Nothing => return Err(ArgumentError::NotOption(word)),
     }
+    Ok(Some(reading))
 }
 
 // The meaning of the word as an option of the verb.
@@ -146,6 +137,9 @@ fn meaning_of(verb: Verb, word: &str) -> Meaning
     }
     if is_binary(verb, word) {
         return Meaning::IsBinary;
+    }
+    if word == "--utf8" {
+        return Meaning::IsUtf8Only;
     }
     let bytes = word.as_bytes();
     match memchr(b'=', bytes) {

@@ -1,14 +1,16 @@
 //! The program without its streams: runs a request over a reader and a writer.
 ghost use Rattle.std.specs.Prelude.{◌≡◌, ◌+◌, ℕ, List, [], Some, Err, IfErr};
-ghost use Rattle.lasso_codes.specs.Arguments.{word_of};
+ghost use Rattle.lasso_columns.specs.Rows.{word_of};
 ghost use Rattle.lasso_codes.specs.Counts.{CountsEnd};
 ghost use Rattle.lasso_codes.specs.Decode.{DecodeEnd};
 ghost use Rattle.lasso_codes.specs.Distinct.{DistinctEnd};
 ghost use Rattle.lasso_codes.specs.Encode.{EncodeEnd};
 ghost use Rattle.lasso_codes.specs.Errors.{failed_reads, failed_writes, gone_readers, FailsWriting, IsWriteEnd, IsWriteError};
 ghost use Rattle.lasso_codes.specs.Merge.{MergeEnd};
-ghost use Rattle.lasso_codes.specs.Requests.{RequestEnd};
+ghost use Rattle.lasso_codes.specs.Requests.{RequestEnd, VerbEnd};
 ghost use Rattle.lasso_codes.specs.Streams.{Writes};
+ghost use Rattle.lasso_columns.specs.declared.faults.LineError.TheVariants.{Refused};
+ghost use Rattle.lasso_parts.specs.declared.util.LassoErrorKind.TheVariants.{FailedAllocation};
 ghost use Rattle.lasso_codes.specs.declared.arguments.Settings.{Settings};
 ghost use Rattle.lasso_codes.specs.declared.arguments.Command.TheVariants.{Help, VerbHelp, Version, Run};
 ghost use Rattle.lasso_codes.specs.declared.arguments.Verb.{Verb};
@@ -21,6 +23,7 @@ use crate::distinct::distinct;
 use crate::encode::encode;
 use crate::error::RunError;
 use crate::help::{HELP, VERSION, verb_help};
+use crate::lines::TextRule;
 use crate::merge::merge;
 use crate::output::write_bytes;
 use crate::streams::{Input, Output};
@@ -30,6 +33,55 @@ use std::thread::Threads;
 
 /// The size of the reader's buffer and of the writer's buffer, in bytes.
 pub const BUFFER_SIZE: usize = 65536;
+
+/// A request that was run, and how that ended. Only this module makes one, so that none is made without a run.
+#[derive(Drop)]
+pub struct Ran<'a> {
+    request: Request<'a>,
+    ended: Result<(), RunError>,
+}
+
+impl<'a> Ran<'a> {
+    /// Out of memory for the buffers of the streams.
+    pub fn no_memory(request: &Request<'a>) -> Self
+        ensures request { result.request ≡ request.now }
+        ensures ended { result.ended ≡ Err (RunError.Line (Refused 0 FailedAllocation)) }
+    {
+        Ran {
+            request: *request,
+            ended: Err(RunError::no_memory(0)),
+        }
+    }
+
+    /// How the run ended.
+    pub fn ended(&self) -> &Result<(), RunError>
+        ensures { result.now ≡ self.now.ended }
+    {
+        &self.ended
+    }
+}
+
+/// Runs the request as `run_request` does.
+pub fn run<'a, H: AllocGlobal + Threads + Sync, R: Read + Drop, W: Write + Drop>(
+    rt: &H,
+    request: &Request<'a>,
+    input: &mut Input<R>,
+    output: &mut Output<W>,
+) -> Ran<'a>
+    ensures request { result.request ≡ request.now }
+    ensures report { (verb : Verb) (settings : Settings) (bytes : List ℕ) → request.now.command ≡ Run verb settings → input.old.left ≡ Some bytes →
+        Writes output.old.written output.new.written (λ part. VerbEnd verb settings (word_of request.now.null) bytes input.new.left part result.ended) }
+    ensures flushed { ¬ (IsWriteEnd result.ended) → output.new.pending ≡ [] }
+    ensures reads { ¬ (result.ended ≡ Err RunError.WriteFailed) → input.new.failures ≡ input.old.failures + failed_reads result.ended }
+    ensures writes { output.new.failures ≡ output.old.failures + failed_writes result.ended }
+    ensures gone { ¬ (result.ended ≡ Err RunError.WriteFailed) → output.new.gone ≡ output.old.gone + gone_readers result.ended }
+{
+    let ended = run_request(rt, request, input, output);
+    Ran {
+        request: *request,
+        ended,
+    }
+}
 
 /// Runs the verb, or writes a help text and reads nothing.
 ///
@@ -42,15 +94,15 @@ pub fn run_request<H: AllocGlobal + Threads + Sync, R: Read + Drop, W: Write + D
     output: &mut Output<W>,
 ) -> Result<(), RunError>
     ensures distinct { (settings : Settings) (bytes : List ℕ) → request.now.command ≡ Run Distinct settings → input.old.left ≡ Some bytes →
-        Writes output.old.written output.new.written (λ part. DistinctEnd bytes settings.limit input.new.left part result) }
+        Writes output.old.written output.new.written (λ part. DistinctEnd bytes settings.only_utf8 settings.limit input.new.left part result) }
     ensures counts { (settings : Settings) (bytes : List ℕ) → request.now.command ≡ Run Counts settings → input.old.left ≡ Some bytes →
-        Writes output.old.written output.new.written (λ part. CountsEnd bytes settings.limit settings.top part result) }
+        Writes output.old.written output.new.written (λ part. CountsEnd bytes settings.only_utf8 settings.limit settings.top part result) }
     ensures decode { (settings : Settings) (bytes : List ℕ) → request.now.command ≡ Run Decode settings → input.old.left ≡ Some bytes →
-        Writes output.old.written output.new.written (λ part. DecodeEnd bytes settings.limit (word_of request.now.null) part result) }
+        Writes output.old.written output.new.written (λ part. DecodeEnd bytes settings.only_utf8 settings.limit (word_of request.now.null) part result) }
     ensures encode { (settings : Settings) (bytes : List ℕ) → request.now.command ≡ Run Encode settings → input.old.left ≡ Some bytes →
-        Writes output.old.written output.new.written (λ part. EncodeEnd bytes settings.limit (word_of request.now.null) settings.binary part result) }
+        Writes output.old.written output.new.written (λ part. EncodeEnd bytes settings.only_utf8 settings.limit (word_of request.now.null) settings.binary part result) }
     ensures merge { (settings : Settings) (bytes : List ℕ) → request.now.command ≡ Run Merge settings → input.old.left ≡ Some bytes →
-        Writes output.old.written output.new.written (λ part. MergeEnd bytes settings.limit settings.binary part result) }
+        Writes output.old.written output.new.written (λ part. MergeEnd bytes settings.only_utf8 settings.limit settings.binary part result) }
     ensures help { request.now.command ≡ Help → input.new ≡ input.old }
     ensures verb_help { (verb : Verb) → request.now.command ≡ VerbHelp verb → input.new ≡ input.old }
     ensures version { request.now.command ≡ Version → input.new ≡ input.old }
@@ -68,12 +120,16 @@ pub fn run_request<H: AllocGlobal + Threads + Sync, R: Read + Drop, W: Write + D
         Command::Version => show(output, VERSION),
         Command::Run(verb, settings) => {
             let limits = MemoryLimits::new(settings.limit);
+            let rule = TextRule {
+                alloc: rt.alloc(),
+                only_utf8: settings.only_utf8,
+            };
             match verb {
                 Verb::Counts => counts(rt, input, output, settings),
-                Verb::Decode => decode(rt.alloc(), input, output, limits, null),
-                Verb::Distinct => distinct(rt.alloc(), input, output, limits),
+                Verb::Decode => decode(rule, input, output, limits, null),
+                Verb::Distinct => distinct(rule, input, output, limits),
                 Verb::Encode => encode(rt, input, output, settings, null),
-                Verb::Merge => merge(rt.alloc(), input, output, limits, settings.binary),
+                Verb::Merge => merge(rule, input, output, limits, settings.binary),
             }
         }
     }

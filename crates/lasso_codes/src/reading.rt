@@ -2,8 +2,8 @@
 ghost use Rattle.std.specs.Prelude.{◌≡◌, ◌+◌, ◌≤◌, ◌-◌, ◌++◌, ◌∷◌, [], ℕ, List, Some, Ok, IfOk, IfErr, OnOk, MatchResult, drop, length};
 ghost use Rattle.lasso_single.specs.Filling.{extend};
 ghost use Rattle.lasso_single.specs.Interner.{InternerView, made_with};
-ghost use Rattle.lasso_encode.specs.Encoding.{spur_at};
-ghost use Rattle.lasso_codes.specs.Arguments.{word_of};
+ghost use Rattle.lasso_single.specs.Coding.{spur_at};
+ghost use Rattle.lasso_columns.specs.Rows.{word_of};
 ghost use Rattle.lasso_codes.specs.Stages.{Reading};
 ghost use Rattle.lasso_codes.specs.Reading.{after_front, header_in, header_of, header_with, AddError, AddsText, HeaderError, TakesHeader, TakesTexts, TextsError};
 ghost use Rattle.lasso_codes.specs.Errors.{failed_reads, IsDataError, IsInputError};
@@ -11,12 +11,11 @@ ghost use Rattle.lasso_codes.specs.Errors.{failed_reads, IsDataError, IsInputErr
 use crate::columns::{BINARY_HEADER, TEXT_HEADER};
 use crate::error::{ColumnError, RunError};
 use crate::input::{Cut, next_whole_line};
-use crate::lines::{intern_line, taken};
-use crate::numbers::parse_digits;
+use crate::lines::{TextRule, intern_line, taken};
 use crate::streams::Input;
 use lasso::SpurRodeo;
 use lasso_columns::LineError;
-use lasso_input::{Line, Stretch};
+use lasso_input::{Line, Stretch, parse_digits};
 use lasso_single::batch::Batch;
 use memchr::memchr;
 use std::io::Read;
@@ -60,8 +59,9 @@ pub fn next_header<R: Read + Drop>(
 /// buffer for the bytes of a text.
 ///
 /// # Errors
-/// The reader failed, out of memory, or a text is missing, comes twice, is not UTF-8 or is refused.
+/// The reader failed, out of memory, or a text is missing, not let in, comes twice or is refused.
 pub fn read_texts<R: Read + Drop>(
+    rule: TextRule,
     input: &mut Input<R>,
     line: &mut Vec<u8>,
     rodeo: &mut SpurRodeo,
@@ -69,10 +69,10 @@ pub fn read_texts<R: Read + Drop>(
     column: usize,
 ) -> Result<(), RunError>
     requires { rodeo.old.texts ≡ [] }
-    ensures taken { OnOk result (TakesTexts input.old.left input.new.left distinct rodeo.new.texts) }
+    ensures taken { OnOk result (TakesTexts rule.only_utf8 input.old.left input.new.left distinct rodeo.new.texts) }
     ensures list { OnOk result (extend spur_at rodeo.old rodeo.new.texts (Ok tt) rodeo.new) }
     ensures error { IfErr result (λ error. (bytes : List ℕ) → input.old.left ≡ Some bytes →
-        (limit : ℕ) → rodeo.old ≡ made_with 4096 limit → TextsError limit distinct column bytes error) }
+        (limit : ℕ) → rodeo.old ≡ made_with 4096 limit → TextsError rule.only_utf8 limit distinct column bytes error) }
     ensures faults { IfErr result IsInputError }
     ensures reads { input.new.failures ≡ input.old.failures + failed_reads result }
 {
@@ -80,7 +80,7 @@ pub fn read_texts<R: Read + Drop>(
     let mut count = 0;
     while count < distinct {
         let shown = input.buffered();
-        let (next, used) = add_texts(rodeo, &mut batch, shown, distinct, count, column)?;
+        let (next, used) = add_texts(rule, rodeo, &mut batch, shown, distinct, count, column)?;
         input.consume(used);
         if next == distinct {
             return Ok(());
@@ -89,7 +89,7 @@ pub fn read_texts<R: Read + Drop>(
         match next_whole_line(input, line)? {
             Cut::Whole => {
                 let whole = Line::untested(line);
-                if let Err(error) = add_text(rodeo, &mut batch, &whole, number) {
+                if let Err(error) = add_text(rule, rodeo, &mut batch, &whole, number) {
                     return Err(RunError::Column(column, error));
                 }
             }
@@ -105,6 +105,7 @@ pub fn read_texts<R: Read + Drop>(
 // Interns the texts that end in the stretch. `count` texts came before. Returns the number of texts before
 // the next one, and the position where that begins.
 fn add_texts(
+    rule: TextRule,
     rodeo: &mut SpurRodeo,
     batch: &mut Batch,
     stretch: &[u8],
@@ -113,12 +114,12 @@ fn add_texts(
     column: usize,
 ) -> Result<(usize, usize), RunError>
     requires { count ≤ distinct }
-    ensures added { IfOk result (λ at. (bytes later : List ℕ) → Reading bytes (stretch.now ++ later) count rodeo.old → Reading bytes (drop at.1 stretch.now ++ later) at.0 rodeo.new) }
+    ensures added { IfOk result (λ at. (bytes later : List ℕ) → Reading rule.only_utf8 bytes (stretch.now ++ later) count rodeo.old → Reading rule.only_utf8 bytes (drop at.1 stretch.now ++ later) at.0 rodeo.new) }
     ensures list { OnOk result ((start : InternerView) → extend spur_at start rodeo.old.texts (Ok tt) rodeo.old → extend spur_at start rodeo.new.texts (Ok tt) rodeo.new) }
     ensures more { IfOk result (λ at. (count ≤ at.0) × (at.0 ≤ distinct)) }
     ensures within { IfOk result (λ at. at.1 ≤ length stretch.now) }
-    ensures error { IfErr result (λ error. (bytes later : List ℕ) (limit : ℕ) → Reading bytes (stretch.now ++ later) count rodeo.old →
-        extend spur_at (made_with 4096 limit) rodeo.old.texts (Ok tt) rodeo.old → TextsError limit distinct column bytes error) }
+    ensures error { IfErr result (λ error. (bytes later : List ℕ) (limit : ℕ) → Reading rule.only_utf8 bytes (stretch.now ++ later) count rodeo.old →
+        extend spur_at (made_with 4096 limit) rodeo.old.texts (Ok tt) rodeo.old → TextsError rule.only_utf8 limit distinct column bytes error) }
     ensures faults { IfErr result IsDataError }
 {
     let mut lines = Stretch::new(stretch);
@@ -126,23 +127,24 @@ fn add_texts(
         let Some(line) = lines.next_ended() else {
             return Ok((position, taken(stretch, &lines)));
         };
-        if let Err(error) = add_text(rodeo, batch, &line, position + 1) {
+        if let Err(error) = add_text(rule, rodeo, batch, &line, position + 1) {
             return Err(RunError::Column(column, error));
         }
     }
     Ok((distinct, taken(stretch, &lines)))
 }
 
-// Interns the text with this number, which has to be new. Texts that are new need no look ahead.
+// Interns the text of the line with this number, which has to be new. Texts that are new need no look ahead.
 fn add_text(
+    rule: TextRule,
     rodeo: &mut SpurRodeo,
     batch: &mut Batch,
     line: &Line<'_>,
     number: usize,
 ) -> Result<(), ColumnError>
-    ensures { MatchResult result (λ _. AddsText rodeo.old line.now rodeo.new) (AddError rodeo.old line.now number) }
+    ensures { MatchResult result (λ _. AddsText rule.only_utf8 rodeo.old line.now rodeo.new) (AddError rule.only_utf8 rodeo.old line.now number) }
 {
-    match intern_line(rodeo, batch, line, number) {
+    match intern_line(rule, rodeo, batch, line, number) {
         Ok(true) => Ok(()),
         Ok(false) => Err(ColumnError::Doubled(number)),
         Err(LineError::NotText(_)) => Err(ColumnError::NotUtf8(number)),
@@ -185,15 +187,11 @@ fn header_in(binary: bool, numbers: &[u8]) -> Option<Header>
 fn header_with(binary: bool, distinct: Option<usize>, lines: Option<usize>) -> Option<Header>
     ensures { result ≡ header_with binary distinct lines }
 {
-    match distinct {
-        Some(distinct) => match lines {
-            Some(lines) => Some(Header {
-                binary,
-                distinct,
-                lines,
-            }),
-            None => None,
-        },
-        None => None,
-    }
+    let distinct = distinct?;
+    let lines = lines?;
+    Some(Header {
+        binary,
+        distinct,
+        lines,
+    })
 }

@@ -3,22 +3,32 @@
 //! No contract can say that a call of the inner reader or writer returned an error. So each of the two types
 //! counts the errors that it gets, in one method, `failed`, and only the methods of this file can call it: the
 //! others see the counts by their contracts, and can't change them.
-ghost use Rattle.std.specs.Prelude.{◌≡◌, ◌+◌, ◌<◌, ◌≤◌, ℕ, List, ◌++◌, Some, IfOk, Err, IfErr, IfSome, OnOk, OnErr, [], drop, length, vec_len};
+ghost use Rattle.std.specs.Prelude.{◌≡◌, ◌+◌, ◌<◌, ◌≤◌, ℕ, All, List, ◌++◌, Some, IfOk, Err, IfErr, IfSome, OnOk, OnErr, [], drop, length, vec_len};
 ghost use Rattle.std.specs.Io.{WritesAtMost};
 ghost use Rattle.std.specs.Io.BufRead.{DropsThrough, take_through};
 ghost use Rattle.std.specs.Io.Buffered.{reader_buffer, reader_remaining, writer_buffer, writer_contents};
 ghost use Rattle.std.specs.Io.KnownBytes.{IsAtEnd, Keeps, WriteAppends, append_known, prepend_known};
 ghost use Rattle.std.specs.IoError.{error_kind};
-ghost use Rattle.lasso_codes.specs.Errors.{failed_reads, failed_writes, gone_readers, IsReadError, IsWriteError};
+ghost use Rattle.hex.specs.Hex.{IsBytes};
+ghost use Rattle.lasso_input.specs.Lines.{lines_of};
+ghost use Rattle.lasso_columns.specs.Rows.{word_of, EncodesRows};
+ghost use Rattle.lasso_columns.specs.Texts.{texts_by};
+ghost use Rattle.lasso_columns.specs.declared.line_texts.LineTexts.TheVariants.{OfBytes};
+ghost use Rattle.lasso_codes.specs.Encode.{StopsEncoding};
+ghost use Rattle.lasso_codes.specs.Errors.{failed_reads, failed_writes, gone_readers, IsInputError, IsReadError, IsWriteError};
 ghost use Rattle.lasso_codes.specs.Streams.{LosesPart, TakesByte};
 ghost use Rattle.lasso_columns.specs.declared.faults.LineError.TheVariants.{Refused};
 ghost use Rattle.lasso_parts.specs.declared.util.LassoErrorKind.TheVariants.{FailedAllocation};
 
 use crate::error::RunError;
-use crate::failures::Failures;
+use crate::lines::TextRule;
+use lasso::SpurRodeo;
+use lasso_columns::{LineTexts, Rounds, StreamError, encode_stream_by};
+use lasso_input::failures::Failures;
 use std::io;
 use std::io::{BufRead, BufReader, BufWriter, ErrorKind, Read, Write};
 use std::marker::Model;
+use std::thread::Threads;
 
 /// A reader with a buffer, which counts its failed reads.
 ///
@@ -98,18 +108,38 @@ impl<R: Read + Drop> Input<R> {
         }
     }
 
-    /// Reads all bytes that are left, and appends them to `whole`.
+    /// Encodes the lines that are left by up to `workers` threads, as `lasso_columns::encode_stream_by` says.
+    /// Appends an entry for each: its code, or `NULL`. `null` is the text of a null.
     ///
     /// # Errors
-    /// The reader failed, or out of memory, with the line number 0.
-    pub fn read_to_end(&mut self, whole: &mut Vec<u8>) -> Result<(), RunError>
-        ensures bytes { OnOk result (IfSome self.old.left (λ xs. whole.new.items ≡ whole.old.items ++ xs)) }
-        ensures errors { IfErr result (IsReadError 0) }
+    /// A line that is refused or not let in; else the reader failed, or out of memory at the line after those
+    /// that have entries.
+    pub fn encode_stream<H: AllocGlobal + Threads + Sync>(
+        &mut self,
+        rt: &H,
+        rule: TextRule,
+        rodeo: &mut SpurRodeo,
+        entries: &mut Vec<u32>,
+        null: Option<&[u8]>,
+        workers: usize,
+    ) -> Result<(), RunError>
+        ensures rows { OnOk result ((bytes : List ℕ) → self.old.left ≡ Some bytes →
+            EncodesRows (word_of null.entry) rodeo.old (texts_by (OfBytes rule.only_utf8) (lines_of bytes)) [] entries.old.items rodeo.new entries.new.items) }
+        ensures bytes { OnOk result ((bytes : List ℕ) → self.old.left ≡ Some bytes → All IsBytes (lines_of bytes)) }
+        ensures stops { IfErr result (λ error. (bytes : List ℕ) → self.old.left ≡ Some bytes →
+            StopsEncoding rule.only_utf8 (word_of null.entry) rodeo.old (lines_of bytes) entries.old.items rodeo.new entries.new error) }
+        ensures faults { IfErr result IsInputError }
         ensures reads { self.new.failures ≡ self.old.failures + failed_reads result }
     {
-        match self.inner.read_to_end(whole) {
-            Ok(_) => Ok(()),
-            Err(error) => Err(self.failed_unless_full(&error, 0)),
+        let rounds = Rounds::new(workers);
+        let by = LineTexts::OfBytes(rule.only_utf8);
+        let outcome = encode_stream_by(rt, &mut self.inner, rodeo, null, entries, rounds, by);
+        let Err(error) = outcome else {
+            return Ok(());
+        };
+        match error {
+            StreamError::Line(error) => Err(RunError::Line(error)),
+            StreamError::Read(error) => Err(self.failed_unless_full(&error, entries.len() + 1)),
         }
     }
 

@@ -8,8 +8,8 @@ use Rattle.std.specs.Prelude.{All}
 use Rattle.std.specs.Str.{IsUtf8}
 use Rattle.std.proofs.lemmas.List.Elements.{All-nil, All-push}
 use Rattle.lasso_parts.specs.Texts.{Text, position_of, key_of}
-use Rattle.lasso_encode.specs.Encoding.{spur_at}
-use Rattle.lasso_encode.proofs.Encoded.{found_at}
+use Rattle.lasso_single.specs.Coding.{spur_at}
+use Rattle.lasso_single.proofs.Encoded.{found_at}
 use Rattle.lasso_input.specs.Lines.{lines_of}
 use Rattle.lasso_columns.specs.Parts.{new_texts}
 use Rattle.lasso_columns.specs.Rows.{is_null, texts_of, IsEntryAs, AreEntries}

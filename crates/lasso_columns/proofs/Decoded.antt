@@ -9,8 +9,8 @@ use Rattle.std.specs.Prelude.{slice_get}
 use Rattle.std.proofs.lemmas.Bool.{false≢true}
 use Rattle.std.proofs.lemmas.List.{append-nil, length-append, length-map, length-take-le, map_push, take_more}
 use Rattle.lasso_parts.specs.Texts.{Text}
-use Rattle.lasso_encode.proofs.Coded.{map_some_length, map_some_push}
-use Rattle.lasso_encode.specs.Codes.{AddsTexts, StandFor}
+use Rattle.lasso_single.proofs.Coded.{map_some_length, map_some_push}
+use Rattle.lasso_single.specs.Codes.{AddsTexts, StandFor}
 
 -- no text yet
 pub none_decoded : (list : List Text) (codes : List ℕ) (before : List (Bor Text)) → AddsTexts list (take 0 codes) before before

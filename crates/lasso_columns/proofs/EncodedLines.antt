@@ -11,8 +11,8 @@ use Rattle.std.proofs.lemmas.List.Elements.{All-nil, All-push}
 use Rattle.lasso_parts.specs.Texts.{Text, position_of}
 use Rattle.lasso_single.specs.Intern.{InternsIn}
 use Rattle.lasso_single.specs.Interner.{InternerView}
-use Rattle.lasso_encode.proofs.Encoded.{Encoded, encoded_push, encoded_still, encoded_are, encoded_length, next_at}
-use Rattle.lasso_encode.specs.Encoding.{spur_at, encoded_texts}
+use Rattle.lasso_single.proofs.Encoded.{Encoded, encoded_push, encoded_still, encoded_are, encoded_length, next_at}
+use Rattle.lasso_single.specs.Coding.{spur_at, encoded_texts}
 use Rattle.lasso_columns.specs.Faults.{IsFaultOf, IsNextFault}
 use Rattle.lasso_input.specs.Lines.{lines_of}
 use Rattle.lasso_columns.specs.declared.faults.LineError.{LineError}

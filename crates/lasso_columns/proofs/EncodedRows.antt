@@ -14,8 +14,8 @@ use Rattle.lasso_single.specs.Intern.{InternsIn}
 use Rattle.lasso_single.specs.Interner.{InternerView}
 use Rattle.lasso_single.proofs.Filled.{accepted, extend_push}
 use Rattle.lasso_single.proofs.KeyLists.{list_left, key_left}
-use Rattle.lasso_encode.specs.Encoding.{spur_at, IsRefused, MayLackMemory}
-use Rattle.lasso_encode.proofs.Encoded.{interned_at}
+use Rattle.lasso_single.specs.Coding.{spur_at, IsRefused, MayLackMemory}
+use Rattle.lasso_single.proofs.Encoded.{interned_at}
 use Rattle.lasso_columns.specs.Parts.{new_texts}
 use Rattle.lasso_columns.specs.Rows.{is_null, texts_of, IsEntryAs, AreEntries, IsRowAs, IsRow, IsRefusedRow, EncodesRows}
 use Rattle.lasso_columns.proofs.PartLists.{list_extended, extend_append}

@@ -4,6 +4,7 @@ pub mod EncodedRows
 pub mod PlacedBlocks
 pub mod PlacedEntries
 pub mod StreamLines
+pub mod TextLines
 pub mod PutBlocks
 pub mod Streamed
 pub mod EncodedLines
@@ -14,7 +15,11 @@ pub mod Rewritten
 pub mod LayoutLaws
 pub mod Written
 pub mod Readings
+pub mod Counted
+pub mod Rest
+pub mod Added
+pub mod Ranks
 -- the lemmas about codes and about lines
-pub use Rattle.lasso_encode.proofs.Coded
-pub use Rattle.lasso_encode.proofs.Encoded
+pub use Rattle.lasso_single.proofs.Coded
+pub use Rattle.lasso_single.proofs.Encoded
 pub use Rattle.lasso_input.proofs.FirstLines

@@ -19,11 +19,11 @@ use Rattle.lasso_single.specs.Interner.{InternerView}
 use Rattle.lasso_single.proofs.Filled.{accepted}
 use Rattle.lasso.proofs.Calling.{list_interned}
 use Rattle.lasso.proofs.Interned.{position_with_last}
-use Rattle.lasso_encode.proofs.Coded.{position_stays, map_some_at, map_some_length, map_some_both, codes_longer}
-use Rattle.lasso_encode.specs.Codes.{AreCodes, AddsCodes}
-use Rattle.lasso_encode.specs.Encoding.{spur_at, encoded_texts}
+use Rattle.lasso_single.proofs.Coded.{position_stays, map_some_at, map_some_length, map_some_both, codes_longer}
+use Rattle.lasso_single.specs.Codes.{AreCodes, AddsCodes}
+use Rattle.lasso_single.specs.Coding.{spur_at, encoded_texts}
 use Rattle.lasso_columns.specs.Parts.{new_texts, IsEncoded, AddsRewritten}
-use Rattle.lasso_encode.proofs.Encoded.{Encoded, encoded_length, next_at}
+use Rattle.lasso_single.proofs.Encoded.{Encoded, encoded_length, next_at}
 
 -- ---- an interner that has a text
 

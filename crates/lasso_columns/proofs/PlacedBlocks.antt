@@ -18,10 +18,10 @@ use Rattle.lasso_parts.specs.declared.util.LassoErrorKind.TheVariants.{FailedAll
 use Rattle.lasso_single.specs.Filling.{extend}
 use Rattle.lasso_single.specs.Interner.{InternerView}
 use Rattle.lasso_single.proofs.Filled.{accepted}
-use Rattle.lasso_encode.specs.Codes.{AreCodes}
-use Rattle.lasso_encode.specs.Encoding.{spur_at, IsRefused, IsAdmitted}
-use Rattle.lasso_encode.proofs.Coded.{map_some_at}
-use Rattle.lasso_encode.proofs.Encoded.{key_kept, position_of_key}
+use Rattle.lasso_single.specs.Codes.{AreCodes}
+use Rattle.lasso_single.specs.Coding.{spur_at, IsRefused, IsAdmitted}
+use Rattle.lasso_single.proofs.Coded.{map_some_at}
+use Rattle.lasso_single.proofs.Encoded.{key_kept, position_of_key}
 use Rattle.lasso_columns.specs.Parts.{new_texts}
 use Rattle.lasso_columns.specs.Rows.{is_null, texts_of, IsEntryAs, AreEntries, EncodesRows, IsRefusedRow, StopsAtRow}
 use Rattle.lasso_columns.specs.Blocks.{IsBlock, AreTextLines, placed, AddsPlaced, block_end}

@@ -3,7 +3,7 @@ use Rattle.std.proofs.Common.{ℕ, ◌≡◌, ◌+◌, ◌<◌, ◌≤◌, List,
 use Rattle.std.specs.Prelude.{slice_get}
 use Rattle.std.proofs.lemmas.List.{length_push, take_more, take_all}
 use Rattle.std.proofs.lemmas.Option.{slice_get_past, slice_get-get_or}
-use Rattle.lasso_encode.proofs.Coded.{map_some_push}
+use Rattle.lasso_single.proofs.Coded.{map_some_push}
 use Rattle.lasso_columns.specs.Blocks.{placed, AddsPlaced}
 
 -- the first i entries were appended

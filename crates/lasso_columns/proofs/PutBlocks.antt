@@ -47,6 +47,10 @@ block_later null old mid all rest before middle lines base added entries is_comp
     let same : take base old.texts ≡ take base mid.texts = sym (ap (take base) grown ∙ take-append-le base old.texts more is.0) in
     (inside, subst (λ (ts : List Text). IsBlock null ts lines added entries is_complete) same is.1)
 
+-- nothing was made
+pub none_made : {A : Type 0} (null : Option Text) (list : List Text) (blocks : List (Vec ℕ A)) → AreBlocksFor null list blocks []
+none_made null list blocks i block bytes at at' = absurd (cc)
+
 -- what was made beside the list
 pub made_for : {A : Type 0} (null : Option Text) (list : List Text) (blocks : List (Vec ℕ A)) (made : List (Option Block)) → ((i : ℕ) (d : Option Block) (e : Vec ℕ A) → i < length blocks → IfSome (slice_index_or made i d) (λ block. IsBlock null list (lines_of (slice_index_or blocks i e).items) block.added block.entries.items block.is_complete × (block.base ≡ length list))) → AreBlocksFor null list blocks made
 made_for {A} null list blocks made each i block bytes at at' =

@@ -11,8 +11,8 @@ use Rattle.std.proofs.Math.ListN.{drop_of_length-le}
 use Rattle.std.proofs.Math.Seq.{take-append_seam, drop-append_seam}
 use Rattle.std.proofs.lemmas.Option.{slice_get-get_or, slice_get_within, slice_get_past}
 use Rattle.lasso_parts.specs.Texts.{Text}
-use Rattle.lasso_encode.proofs.Coded.{codes_stand}
-use Rattle.lasso_encode.specs.Codes.{AreCodes, StandFor}
+use Rattle.lasso_single.proofs.Coded.{codes_stand}
+use Rattle.lasso_single.specs.Codes.{AreCodes, StandFor}
 use Rattle.lasso_columns.specs.Parts.{AddsRewritten}
 
 inside_at : (list texts : List Text) (codes : List ℕ) → StandFor list codes texts → (k d : ℕ) → k < length codes → get_or codes k d < length list

@@ -11,9 +11,9 @@ use Rattle.std.proofs.lemmas.List.Elements.{filter-append}
 use Rattle.std.proofs.lemmas.List.Folds.{prefix_len-append}
 use Rattle.std.proofs.lemmas.List.Sums.{prefix_len-le-length}
 use Rattle.lasso_parts.specs.Texts.{Text, position_of}
-use Rattle.lasso_encode.specs.Encoding.{spur_at}
-use Rattle.lasso_encode.proofs.Coded.{position_stays}
-use Rattle.lasso_encode.proofs.Encoded.{key_kept}
+use Rattle.lasso_single.specs.Coding.{spur_at}
+use Rattle.lasso_single.proofs.Coded.{position_stays}
+use Rattle.lasso_single.proofs.Encoded.{key_kept}
 use Rattle.lasso_columns.specs.Rows.{is_null, texts_of, IsEntryAs, AreEntries}
 
 -- the key of a text is that of its position, which is less than the entry of a null

@@ -23,10 +23,10 @@ use Rattle.lasso_log.proofs.Legal.{totals_append, list_grows}
 use Rattle.lasso_log.proofs.Lengths.{texts_past}
 use Rattle.lasso_shared.specs.Batches.{CallsEach, AddsInterned, StopsAtText}
 use Rattle.lasso_shared.proofs.CallerLaws.{tells_keys}
-use Rattle.lasso_encode.proofs.Coded.{codes_past, map_some_both}
-use Rattle.lasso_encode.proofs.Encoded.{found_at}
-use Rattle.lasso_encode.specs.Codes.{AreCodes}
-use Rattle.lasso_encode.specs.Encoding.{spur_at}
+use Rattle.lasso_single.proofs.Coded.{codes_past, map_some_both}
+use Rattle.lasso_single.proofs.Encoded.{found_at}
+use Rattle.lasso_single.specs.Codes.{AreCodes}
+use Rattle.lasso_single.specs.Coding.{spur_at}
 use Rattle.lasso_columns.specs.Sharing.{IsRefusalIn}
 
 grown : (o : Totals) (before past after : History) → before ++ past ≡ after → IsPrefix (totals o before).texts (totals o after).texts

@@ -2,7 +2,7 @@
 --
 -- Each block ends with a line feed, or with the input. So the lines of the bytes are those of the block, and
 -- then those of the bytes after it.
-use Rattle.std.proofs.Common.{ℕ, ◌≡◌, ◌<◌, ◌==◌, inl, inr, Bool, true, false, cond, List, [], ◌∷◌, ◌++◌, take, drop, length, Option, Some, None, IfSome, Result, Ok, Err, OnErr, refl, sym, ap, subst, ◌∙◌, arith, append_assoc, append-nil}
+use Rattle.std.proofs.Common.{ℕ, ◌≡◌, ◌<◌, ◌==◌, inl, inr, Bool, true, false, cond, List, [], ◌∷◌, ◌++◌, take, drop, length, Option, Some, None, IfSome, Result, Ok, Err, refl, sym, ap, subst, ◌∙◌, arith, append_assoc, append-nil}
 use Rattle.std.specs.Prelude.{if◌then◌else◌, Vec}
 use Rattle.std.specs.List.{onto_first}
 use Rattle.std.specs.Io.BufRead.{take_through, drop_through, DropsThrough}
@@ -11,8 +11,8 @@ use Rattle.std.proofs.lemmas.Bool.Decides.{nat_tests}
 use Rattle.std.proofs.lemmas.Grind.{flat_map-append}
 use Rattle.std.proofs.lemmas.List.{take-append-drop}
 use Rattle.lasso_parts.specs.Texts.{Text}
-use Rattle.lasso_input.specs.Lines.{lines_of, is_line_feed}
-use Rattle.lasso_columns.specs.Streams.{EndsLine, Follow, IsFront, ReadsBlocks, ReadsLines, lines_in}
+use Rattle.lasso_input.specs.Lines.{lines_of, is_line_feed, NoFeed}
+use Rattle.lasso_columns.specs.Streams.{AreUnread, CutsLast, EndsLine, Follow, ReadsBlocks, ReadsLines, lines_in}
 
 -- ---- where lines end
 
@@ -94,23 +94,14 @@ consumed_kept (Some bytes) None after taken first kept = absurd first
 consumed_kept (Some bytes) (Some left) None taken first kept = absurd kept
 consumed_kept (Some bytes) (Some left) (Some rest) taken first kept = first ∙ ap (λ (bs : List ℕ). taken ++ bs) (sym kept)
 
--- what was taken is the front
-pub front_taken : (before after : Option (List ℕ)) (taken : List ℕ) → Consumes before after taken → IsFront before taken
-front_taken before after taken consumed bytes e = let is = taken_known before after taken bytes consumed e in (is.0, is.2)
-
 -- ---- one block
-
--- what holds after an error
-pub after_err : {T E : Type 0} (P : Type 0) (r : Result T E) → P → OnErr r P
-after_err P (Ok x) holds = tt
-after_err P (Err e) holds = holds
 
 -- all bytes were read
 pub lines_read_all : (E : Type 0) (before after : Option (List ℕ)) (block : List ℕ) → Consumes before after block → IsAtEnd after → ReadsLines {E = E} before after [] block (Ok false)
 lines_read_all E before after block consumed end bytes e =
     let is = taken_known before after block bytes consumed e in
     let none : is.0 ≡ [] = nothing_left after is.0 is.1 end in
-    ([], ap lines_of (is.2 ∙ ap (λ (bs : List ℕ). block ++ bs) none ∙ append-nil block) ∙ sym (append-nil (lines_of block)), refl)
+    ([], ap lines_of (is.2 ∙ ap (λ (bs : List ℕ). block ++ bs) none ∙ append-nil block) ∙ sym (append-nil (lines_of block)), (is.1 ∙ ap (λ (bs : List ℕ). Some bs) none, refl))
   where
     nothing_left : (after : Option (List ℕ)) (rest : List ℕ) → after ≡ Some rest → IsAtEnd after → rest ≡ []
     nothing_left None rest e end = absurd (cc)
@@ -123,12 +114,17 @@ lines_read_on before mid after front block more consumed told bytes e =
     let rest = told is.0 is.1 in
     (rest.0, ap lines_of is.2 ∙ rest.1, rest.2)
 
--- a read failed, and the block was cut
-pub lines_read_short : {E : Type 0} (before after : Option (List ℕ)) (front block : List ℕ) (error : E) → IsFront before front → ((rest : List ℕ) → (more : List Text) × (lines_of (front ++ rest) ≡ lines_of block ++ more)) → ReadsLines before after [] block (Err error)
-lines_read_short before after front block error taken cut bytes e =
-    let is = taken bytes e in
-    let lines = cut is.0 in
-    (lines.0, ap lines_of is.1 ∙ lines.1, tt)
+-- a read failed after bytes were taken, and the block was cut: what was removed has no line feed
+pub lines_unread : {E : Type 0} (before after : Option (List ℕ)) (front taken whole block : List ℕ) (error : E) → Consumes before after taken → whole ≡ front ++ taken → CutsLast whole block → ReadsLines before after front block (Err error)
+lines_unread before after front taken whole block error consumed is cut bytes e =
+    let left = taken_known before after taken bytes consumed e in
+    let begun = cut.0 in
+    let rest = left.0 in (
+      lines_of (begun ++ rest),
+      ap (λ (bs : List ℕ). lines_of (front ++ bs)) left.2 ∙ ap lines_of (sym (append_assoc front taken rest)) ∙ ap (λ (bs : List ℕ). lines_of (bs ++ rest)) (sym is ∙ cut.1)
+          ∙ ap lines_of (append_assoc block begun rest) ∙ ended_join block (begun ++ rest) cut.3,
+      (begun, rest, left.1, cut.2, refl),
+    )
 
 known_some : (P : List ℕ → Type 0) (known : Option (List ℕ)) (bytes : List ℕ) → known ≡ Some bytes → IfSome known P → P bytes
 known_some P None bytes e holds = absurd (cc)
@@ -141,15 +137,9 @@ line_read E before after front block taken left bytes e =
     let rest : after ≡ Some (drop_through 10 bytes) = known_some (λ xs. after ≡ Some (drop_through 10 xs)) before bytes e left in
     (lines_of (drop_through 10 bytes), through_join front bytes ∙ ap (λ (bs : List ℕ). lines_of bs ++ lines_of (drop_through 10 bytes)) (sym grown), (drop_through 10 bytes, rest, refl))
 
--- a read of the rest of a line failed, and the bytes before it were cut
-pub line_read_short : {E : Type 0} (before after : Option (List ℕ)) (front block : List ℕ) (error : E) → ((rest : List ℕ) → (more : List Text) × (lines_of (front ++ rest) ≡ lines_of block ++ more)) → ReadsLines before after front block (Err error)
-line_read_short before after front block error cut bytes e = let lines = cut bytes in (lines.0, lines.1, tt)
-
--- bytes are cut after a line feed
-pub cut_ended : (bytes : List ℕ) (count : ℕ) → EndsLine (take count bytes) → (rest : List ℕ) → (more : List Text) × (lines_of (bytes ++ rest) ≡ lines_of (take count bytes) ++ more)
-cut_ended bytes count ended rest =
-    let left = drop count bytes ++ rest in
-    (lines_of left, ap (λ (bs : List ℕ). lines_of (bs ++ rest)) (sym (take-append-drop count bytes)) ∙ ap lines_of (append_assoc (take count bytes) (drop count bytes) rest) ∙ ended_join (take count bytes) left ended)
+-- bytes are cut after the last line feed
+pub cut_ended : (bytes : List ℕ) (count : ℕ) → EndsLine (take count bytes) → NoFeed (drop count bytes) → CutsLast bytes (take count bytes)
+cut_ended bytes count ended begun = (drop count bytes, sym (take-append-drop count bytes), begun, ended)
 
 -- ---- blocks one after another
 
@@ -180,6 +170,12 @@ reading_goes_on before after blocks more told is bytes e =
     let left = subst (λ m. Follow m after lines.0) is lines.2 in
     (left.0, left.1, lines.1 ∙ ap (λ (ls : List Text). lines_in blocks ++ ls) left.2)
 
--- there was no memory for the block
-pub reading_stops : {A E : Type 0} (before mid after : Option (List ℕ)) (blocks : List (Vec ℕ A)) (error : E) → ReadSoFar before mid blocks → ReadsBlocks before after blocks (Err error)
-reading_stops before mid after blocks error so_far bytes e = let is = so_far bytes e in (lines_of is.0, is.2, tt)
+-- there was no memory for the next block
+pub reading_stops : {A E : Type 0} (before after : Option (List ℕ)) (blocks : List (Vec ℕ A)) (error : E) → ReadSoFar before after blocks → ReadsBlocks before after blocks (Err error)
+reading_stops before after blocks error so_far bytes e = let is = so_far bytes e in (lines_of is.0, is.2, ([], is.0, is.1, tt, refl))
+
+-- the lines that follow were not read as a whole
+pub follow_unread : {E : Type 0} (more : Result Bool E) (left : Option (List ℕ)) (lines : List Text) → Follow more left lines → AreUnread left lines
+follow_unread (Ok true) left lines follow = ([], follow.0, follow.1, tt, follow.2)
+follow_unread (Ok false) left lines follow = ([], [], follow.0, tt, follow.1)
+follow_unread (Err error) left lines follow = follow

@@ -1,10 +1,10 @@
 -- When the errors of lines and of codes occur, and what these and the errors of dictionaries print.
-use Rattle.std.specs.Prelude.{ℕ, ◌≡◌, ◌+◌, ◌-◌, ◌<◌, List, ◌++◌, length, None, Some, IsSomeAnd, Vec, slice_get, codes, decimal}
+use Rattle.std.specs.Prelude.{ℕ, ◌≡◌, ◌+◌, ◌-◌, ◌<◌, List, ◌++◌, length, None, Some, IsSomeAnd, Vec, slice_get, codes, decimal, nat_eq, if◌then◌else◌}
 use Rattle.std.specs.Str.{IsUtf8}
 use Rattle.lasso_parts.specs.Errors.{error_text, kind_text}
 use Rattle.lasso_parts.specs.Texts.{Text}
 use Rattle.lasso_single.specs.Interner.{InternerView}
-use Rattle.lasso_encode.specs.Encoding.{IsRefused, MayLackMemory}
+use Rattle.lasso_single.specs.Coding.{IsRefused, MayLackMemory}
 use Rattle.lasso_columns.specs.declared.faults.LineError.{LineError}
 use Rattle.lasso_columns.specs.declared.faults.LineError.TheVariants.{Refused, NotText}
 use Rattle.lasso_columns.specs.declared.faults.DecodeError.{DecodeError}
@@ -16,26 +16,27 @@ use Rattle.lasso_columns.specs.declared.faults.WriteError.TheVariants as write_f
 
 -- what the error of a line prints
 abbrev pub line_error_text : LineError → List ℕ
-line_error_text (Refused line error) = codes "line " ++ (decimal line ++ (codes ": " ++ error_text error))
+line_error_text (Refused line error) =
+    if nat_eq line 0 then error_text error else codes "line " ++ (decimal line ++ (codes ": " ++ error_text error))
 line_error_text (NotText line) = codes "line " ++ (decimal line ++ codes ": not UTF-8")
 
 -- what the error of decoding prints
 abbrev pub decode_error_text : DecodeError → List ℕ
-decode_error_text (NoText position code) = codes "Code " ++ (decimal code ++ (codes " at position " ++ (decimal position ++ codes " has no text")))
+decode_error_text (NoText position code) = codes "code " ++ (decimal code ++ (codes " at position " ++ (decimal position ++ codes " has no text")))
 decode_error_text NoMemory = codes "Failed to allocate memory"
 
 -- what the error of writing a dictionary prints
 abbrev pub write_error_text : WriteError → List ℕ
-write_error_text (write_faults.TooManyBytes at) = codes "Text " ++ (decimal at ++ codes " ends past the greatest offset")
+write_error_text (write_faults.TooManyBytes at) = codes "text " ++ (decimal at ++ codes " ends past the greatest offset")
 write_error_text write_faults.NoMemory = codes "Failed to allocate memory"
 
 -- what the error of reading one prints
 abbrev pub read_error_text : ReadError → List ℕ
-read_error_text (read_faults.OffsetsFall at) = codes "Text " ++ (decimal at ++ codes " ends before it begins")
-read_error_text (read_faults.OffsetPastBytes at) = codes "Text " ++ (decimal at ++ codes " has an offset past the bytes")
-read_error_text (read_faults.NotText at) = codes "Text " ++ (decimal at ++ codes " is not UTF-8")
-read_error_text (read_faults.Doubled at) = codes "Text " ++ (decimal at ++ codes " is there already")
-read_error_text (read_faults.Refused at kind) = codes "Text " ++ (decimal at ++ (codes ": " ++ kind_text kind))
+read_error_text (read_faults.OffsetsFall at) = codes "text " ++ (decimal at ++ codes " ends before it begins")
+read_error_text (read_faults.OffsetPastBytes at) = codes "text " ++ (decimal at ++ codes " has an offset past the bytes")
+read_error_text (read_faults.NotText at) = codes "text " ++ (decimal at ++ codes " is not UTF-8")
+read_error_text (read_faults.Doubled at) = codes "text " ++ (decimal at ++ codes " is there already")
+read_error_text (read_faults.Refused at kind) = codes "text " ++ (decimal at ++ (codes ": " ++ kind_text kind))
 
 -- the line of this number is refused, or it is not UTF-8
 abbrev pub IsFaultOf : InternerView → Text → ℕ → LineError → Type 0

@@ -4,10 +4,13 @@ pub mod Sharing
 pub mod Parts
 pub mod Rows
 pub mod Blocks
+pub mod Texts
 pub mod Streams
 pub mod Layout
 pub mod Dictionaries
+pub mod Counts
+pub mod Adding
 -- the definitions of codes and of lines, so that a caller's crate names `lasso_columns` alone
-pub use Rattle.lasso_encode.specs.Codes
-pub use Rattle.lasso_encode.specs.Encoding
+pub use Rattle.lasso_single.specs.Codes
+pub use Rattle.lasso_single.specs.Coding
 pub use Rattle.lasso_input.specs.Lines

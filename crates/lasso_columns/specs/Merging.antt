@@ -5,7 +5,7 @@ use Rattle.lasso_parts.specs.declared.util.LassoError.{LassoError}
 use Rattle.lasso_parts.specs.declared.util.LassoErrorKind.TheVariants.{FailedAllocation}
 use Rattle.lasso_single.specs.Filling.{extend}
 use Rattle.lasso_single.specs.Interner.{InternerView}
-use Rattle.lasso_encode.specs.Encoding.{spur_at, IsAdmitted}
+use Rattle.lasso_single.specs.Coding.{spur_at, IsAdmitted}
 
 -- When memory may run out for a list's next text, if there is room for its code: the text is absent and
 -- admitted.

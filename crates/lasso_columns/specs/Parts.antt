@@ -1,7 +1,7 @@
 -- Texts that are encoded in parts, each with a list of its own.
 use Rattle.std.specs.Prelude.{◌≡◌, ℕ, List, [], ◌∷◌, ◌++◌, cond, is_some, length, map, take, None, Some, IfSome, slice_get}
 use Rattle.lasso_parts.specs.Texts.{Text, position_of}
-use Rattle.lasso_encode.specs.Codes.{AreCodes}
+use Rattle.lasso_single.specs.Codes.{AreCodes}
 
 -- the texts that the list lacks, each once, in the order of their first occurrences
 abbrev pub new_texts : List Text → List Text → List Text

@@ -7,8 +7,8 @@ use Rattle.lasso_log.specs.History.{History, Totals, totals, IsLegal}
 use Rattle.lasso_log.specs.Notes.{history}
 use Rattle.lasso_log.specs.Replies.{Copied, Intern, Interned, MayReply}
 use Rattle.lasso_log.specs.Views.{InternerId, SnapshotView, list_of}
-use Rattle.lasso_encode.specs.Codes.{AreCodes, AddsCodes}
-use Rattle.lasso_encode.specs.Encoding.{spur_at}
+use Rattle.lasso_single.specs.Codes.{AreCodes, AddsCodes}
+use Rattle.lasso_single.specs.Coding.{spur_at}
 
 -- the codes of the texts were appended: their positions in the list that one legal history of a shared
 -- interner leads to

@@ -6,9 +6,9 @@ ghost use Rattle.lasso_input.specs.Lines.{lines_of};
 
 use crate::rows::{NULL, is_null};
 use lasso::{LassoResult, Rodeo, Spur, SpurRodeo, SpurRodeoReader};
-use lasso_encode::intern_code;
 use lasso_input::Stretch;
 use lasso_single::batch::{Batch, get_next};
+use lasso_single::coding::intern_code;
 use std::alloc::{AllocError, Allocator, Global};
 use std::hash::BuildHasher;
 use std::thread::{Threads, map_indices};

@@ -1,6 +1,6 @@
 //! Decodes codes to texts.
 ghost use Rattle.std.specs.Prelude.{◌≡◌, ◌+◌, ◌-◌, OnOk, IfErr, length, take, vec_len};
-ghost use Rattle.lasso_encode.specs.Codes.{AddsTexts};
+ghost use Rattle.lasso_single.specs.Codes.{AddsTexts};
 ghost use Rattle.lasso_columns.specs.Faults.{IsFaultAt};
 
 use crate::faults::DecodeError;

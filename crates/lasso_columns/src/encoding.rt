@@ -3,16 +3,16 @@ ghost use Rattle.std.specs.Prelude.{◌≡◌, ℕ, ◌+◌, ◌∷◌, ◌++◌
 ghost use Rattle.lasso_parts.specs.Texts.{position_of};
 ghost use Rattle.lasso_single.specs.Filling.{extend};
 ghost use Rattle.lasso_single.specs.Intern.{InternsIn};
-ghost use Rattle.lasso_encode.specs.Codes.{AddsCodes};
-ghost use Rattle.lasso_encode.specs.Encoding.{spur_at, encoded_texts};
+ghost use Rattle.lasso_single.specs.Codes.{AddsCodes};
+ghost use Rattle.lasso_single.specs.Coding.{spur_at, encoded_texts};
 ghost use Rattle.lasso_columns.specs.Faults.{IsFaultOf, IsNextFault, LineMayLackMemory, NextLineMayLackMemory};
 ghost use Rattle.lasso_input.specs.Lines.{lines_of};
 
 use crate::faults::LineError;
 use lasso::{Rodeo, Spur};
-use lasso_encode::encode_next;
 use lasso_input::{Line, Stretch};
 use lasso_single::batch::Batch;
+use lasso_single::coding::encode_next;
 use std::alloc::Allocator;
 use std::hash::BuildHasher;
 

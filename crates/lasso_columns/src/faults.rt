@@ -22,6 +22,7 @@ impl fmt::Display for LineError {
 
     fn fmt<W: fmt::Write>(&self, f: &mut fmt::Formatter<W>) -> fmt::Result {
         match self {
+            LineError::Refused(line, error) if *line == 0 => write!(f, "{error}"),
             LineError::Refused(line, error) => write!(f, "line {line}: {error}"),
             LineError::NotText(line) => write!(f, "line {line}: not UTF-8"),
         }
@@ -50,7 +51,7 @@ impl fmt::Display for DecodeError {
     fn fmt<W: fmt::Write>(&self, f: &mut fmt::Formatter<W>) -> fmt::Result {
         match self {
             DecodeError::NoText { position, code } => {
-                write!(f, "Code {code} at position {position} has no text")
+                write!(f, "code {code} at position {position} has no text")
             }
             DecodeError::NoMemory => f.write_str("Failed to allocate memory"),
         }
@@ -73,7 +74,7 @@ impl fmt::Display for WriteError {
 
     fn fmt<W: fmt::Write>(&self, f: &mut fmt::Formatter<W>) -> fmt::Result {
         match self {
-            WriteError::TooManyBytes(at) => { write!(f, "Text {at} ends past the greatest offset") }
+            WriteError::TooManyBytes(at) => { write!(f, "text {at} ends past the greatest offset") }
             WriteError::NoMemory => f.write_str("Failed to allocate memory"),
         }
     }
@@ -120,11 +121,11 @@ impl fmt::Display for ReadError {
 
     fn fmt<W: fmt::Write>(&self, f: &mut fmt::Formatter<W>) -> fmt::Result {
         match self {
-            ReadError::OffsetsFall(at) => write!(f, "Text {at} ends before it begins"),
-            ReadError::OffsetPastBytes(at) => write!(f, "Text {at} has an offset past the bytes"),
-            ReadError::NotText(at) => write!(f, "Text {at} is not UTF-8"),
-            ReadError::Doubled(at) => write!(f, "Text {at} is there already"),
-            ReadError::Refused(at, kind) => write!(f, "Text {at}: {kind}"),
+            ReadError::OffsetsFall(at) => write!(f, "text {at} ends before it begins"),
+            ReadError::OffsetPastBytes(at) => write!(f, "text {at} has an offset past the bytes"),
+            ReadError::NotText(at) => write!(f, "text {at} is not UTF-8"),
+            ReadError::Doubled(at) => write!(f, "text {at} is there already"),
+            ReadError::Refused(at, kind) => write!(f, "text {at}: {kind}"),
         }
     }
 }

@@ -1,5 +1,5 @@
 //! The laws of codes and of dictionaries. Each is the contract of a function that does nothing.
-ghost use Rattle.lasso_encode.specs.Codes.{DecodingGivesTexts, CodesTellTexts, RewritingKeepsTexts};
+ghost use Rattle.lasso_single.specs.Codes.{DecodingGivesTexts, CodesTellTexts, RewritingKeepsTexts};
 ghost use Rattle.lasso_columns.specs.Dictionaries.{LayoutsByHand, ReadingUndoesWriting};
 
 /// Decoding gives back the encoded texts, also after more texts were appended to the list.

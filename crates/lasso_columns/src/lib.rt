@@ -6,11 +6,13 @@
 #![tactic(auto)]
 
 mod blocks;
+pub mod counts;
 mod decoding;
 mod encoding;
 mod faults;
 pub mod laws;
 mod layout;
+mod line_texts;
 mod merging;
 mod parts;
 mod reading;
@@ -25,13 +27,14 @@ pub use blocks::{Block, encode_block, encode_blocks};
 pub use decoding::decode;
 pub use encoding::encode_lines;
 pub use faults::{DecodeError, LineError, ReadError, WriteError};
-pub use lasso_encode::encode;
+pub use lasso_single::coding::encode;
 pub use layout::{Layout, Offset};
+pub use line_texts::LineTexts;
 pub use merging::merge;
 pub use parts::encode_in_parts;
 pub use reading::{append_dictionary, read_dictionary};
 pub use rounds::{put_block, put_blocks};
 pub use rows::{NULL, encode_rows, is_null};
 pub use sharing::{encode_shared, encode_shared_as};
-pub use stream::{Rounds, StreamError, encode_stream};
+pub use stream::{Rounds, StreamError, encode_stream, encode_stream_by};
 pub use writing::{Dictionary, write_dictionary};

@@ -1,14 +1,14 @@
 //! Merges the texts of one interner into another.
 ghost use Rattle.std.specs.Prelude.{◌≡◌, ℕ, ◌≤◌, [], Ok, OnOk, IfOk, IfErr, IsSomeAnd, slice_get, take, length, vec_capacity};
 ghost use Rattle.lasso_single.specs.Filling.{extend};
-ghost use Rattle.lasso_encode.specs.Codes.{AreCodes, StandFor};
-ghost use Rattle.lasso_encode.specs.Encoding.{spur_at, IsRefused};
+ghost use Rattle.lasso_single.specs.Codes.{AreCodes, StandFor};
+ghost use Rattle.lasso_single.specs.Coding.{spur_at, IsRefused};
 ghost use Rattle.lasso_columns.specs.Merging.{MayLackMemoryWithRoom, MayLackMemoryMerging};
 
 use lasso::index::Texts;
 use lasso::{LassoResult, Rodeo, RodeoReader, Spur};
-use lasso_encode::encode_next;
 use lasso_single::batch::{Batch, TOGETHER, look_ahead};
+use lasso_single::coding::encode_next;
 use std::alloc::{Allocator, Global};
 use std::hash::BuildHasher;
 

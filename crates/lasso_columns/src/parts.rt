@@ -2,13 +2,13 @@
 ghost use Rattle.std.specs.Prelude.{◌≡◌, ℕ, ◌+◌, ◌<◌, ◌≤◌, Ok, OnOk, IfErr, IfSome, All, length, map, slice_get, slice_index, vec_len, vec_capacity};
 ghost use Rattle.std.specs.List.{AllWithin};
 ghost use Rattle.lasso_single.specs.Filling.{extend};
-ghost use Rattle.lasso_encode.specs.Codes.{AddsCodes};
-ghost use Rattle.lasso_encode.specs.Encoding.{spur_at, encoded_texts, IsNextRefused, MayLackMemoryNext};
+ghost use Rattle.lasso_single.specs.Codes.{AddsCodes};
+ghost use Rattle.lasso_single.specs.Coding.{spur_at, encoded_texts, IsNextRefused, MayLackMemoryNext};
 ghost use Rattle.lasso_columns.specs.Parts.{IsEncoded, AddsRewritten};
 
 use crate::merging::encode_list;
 use lasso::{LassoResult, Rodeo, Spur, SpurRodeoReader};
-use lasso_encode::encode;
+use lasso_single::coding::encode;
 use std::alloc::{Allocator, Global};
 use std::hash::BuildHasher;
 use std::thread::{Threads, for_each_mut, map_chunks};

@@ -1,9 +1,8 @@
 //! Reads blocks of a stream, each of which ends at the end of a line.
-ghost use Rattle.std.specs.Prelude.{◌≡◌, ◌<◌, ◌≤◌, ◌++◌, ℕ, List, [], Some, OnOk, OnErr, IfOk, false, length, take, vec_len};
+ghost use Rattle.std.specs.Prelude.{◌≡◌, ◌<◌, ◌≤◌, [], IfOk, false, drop, length, take, vec_len};
 ghost use Rattle.std.specs.Io.KnownBytes.{Consumes, IsAtEnd};
-ghost use Rattle.lasso_parts.specs.Texts.{Text};
-ghost use Rattle.lasso_columns.specs.Streams.{EndsLine, IsFront, ReadsBlocks, ReadsLines};
-ghost use Rattle.lasso_input.specs.Lines.{lines_of};
+ghost use Rattle.lasso_columns.specs.Streams.{CutsLast, EndsLine, ReadsBlocks, ReadsLines};
+ghost use Rattle.lasso_input.specs.Lines.{NoFeed};
 
 use std::alloc::Global;
 use std::io;
@@ -42,14 +41,16 @@ pub(crate) fn read_blocks<I: BufRead>(
 {
     let mut blocks = Vec::new(alloc);
     for _ in 0..count {
-        let mut block = Vec::new(alloc);
-        let more = read_block(input, chunk, &mut block, size.max(1));
-        if blocks.push(block).is_err() {
+        // Room for the block is reserved before it is read.
+        if blocks.reserve(1).is_err() {
             return Blocks {
                 blocks,
                 more: Err(io::Error::from(ErrorKind::OutOfMemory)),
             };
         }
+        let mut block = Vec::new(alloc);
+        let more = read_block(input, chunk, &mut block, size.max(1));
+        blocks.push_reserved(block);
         let Ok(true) = more else {
             return Blocks { blocks, more };
         };
@@ -82,7 +83,8 @@ fn read_block<I: BufRead>(
     }
 }
 
-// Reads at least `size` bytes. Returns whether more may follow.
+// Reads at least `size` bytes. Returns whether more may follow. If a read fails, the block has all bytes that
+// were read.
 fn fill<I: BufRead>(
     input: &mut I,
     chunk: &mut [u8],
@@ -91,17 +93,21 @@ fn fill<I: BufRead>(
 ) -> io::Result<bool>
     requires chunk { 0 < length chunk.old }
     requires empty { block.old.items ≡ [] }
-    ensures taken { OnOk result (Consumes (I.remaining input.old) (I.remaining input.new) block.new.items) }
+    ensures taken { Consumes (I.remaining input.old) (I.remaining input.new) block.new.items }
     ensures end { IfOk result (λ more. more ≡ false → IsAtEnd (I.remaining input.new)) }
-    ensures front { OnErr result (IsFront (I.remaining input.old) block.new.items) }
 {
     for _ in 0..u64::MAX {
         if block.len() >= size {
             return Ok(true);
         }
+        block.reserve(chunk.len())?;
         match input.read(chunk) {
             Ok(0) => return Ok(false),
-            Ok(count) => block.extend_from_slice(&chunk[..count])?,
+            Ok(count) => {
+                let Ok(()) = block.extend_from_slice(&chunk[..count]) else {
+                    unreachable!();
+                };
+            }
             Err(error) if error.kind() == ErrorKind::Interrupted => {}
             Err(error) => return Err(error),
         }
@@ -113,11 +119,9 @@ fn fill<I: BufRead>(
 fn end_line<I: BufRead>(input: &mut I, block: &mut Vec<u8>) -> io::Result<bool>
     ensures { ReadsLines (I.remaining input.old) (I.remaining input.new) block.old.items block.new.items result }
 {
-    let filled = block.len();
     match input.read_until(b'\n', block) {
         Ok(_) => Ok(true),
         Err(error) => {
-            block.truncate(filled);
             cut_last_line(block);
             Err(error)
         }
@@ -126,7 +130,7 @@ fn end_line<I: BufRead>(input: &mut I, block: &mut Vec<u8>) -> io::Result<bool>
 
 // Removes the bytes after the last line feed.
 fn cut_last_line(block: &mut Vec<u8>)
-    ensures { (rest : List ℕ) → (more : List Text) × (lines_of (block.old.items ++ rest) ≡ lines_of block.new.items ++ more) }
+    ensures { CutsLast block.old.items block.new.items }
 {
     let count = ended_len(block);
     block.truncate(count);
@@ -136,6 +140,7 @@ fn cut_last_line(block: &mut Vec<u8>)
 fn ended_len(bytes: &[u8]) -> usize
     ensures within { result ≤ length bytes.now }
     ensures ended { EndsLine (take result bytes.now) }
+    ensures begun { NoFeed (drop result bytes.now) }
 {
     let mut count = bytes.len();
     while count > 0 {

@@ -6,9 +6,9 @@ ghost use Rattle.lasso_input.specs.Lines.{lines_of};
 
 use crate::faults::LineError;
 use lasso::{LassoResult, Rodeo, Spur};
-use lasso_encode::encode_next;
 use lasso_input::{Line, Stretch};
 use lasso_single::batch::Batch;
+use lasso_single::coding::encode_next;
 use std::alloc::Allocator;
 use std::hash::BuildHasher;
 

@@ -4,8 +4,8 @@ ghost use Rattle.lasso_parts.specs.declared.util.LassoErrorKind.TheVariants.{Fai
 ghost use Rattle.lasso_log.specs.History.{History, IsLegal};
 ghost use Rattle.lasso_log.specs.Notes.{Since};
 ghost use Rattle.lasso_log.specs.Views.{PassView, InternerId, IsSamePass, list_of, seen};
-ghost use Rattle.lasso_encode.specs.Codes.{AreCodes, AddsCodes};
-ghost use Rattle.lasso_encode.specs.Encoding.{spur_at};
+ghost use Rattle.lasso_single.specs.Codes.{AreCodes, AddsCodes};
+ghost use Rattle.lasso_single.specs.Coding.{spur_at};
 ghost use Rattle.lasso_columns.specs.Sharing.{AddsSharedCodes, IsPartOf, IsRefusalIn};
 
 use lasso::log::{Pass, Snapshot};

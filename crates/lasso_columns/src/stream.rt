@@ -1,11 +1,13 @@
 //! Encodes the lines of a stream by rounds over blocks of it.
 ghost use Rattle.std.specs.Prelude.{◌≡◌, ◌<◌, ℕ, List, [], Some, Ok, true, OnOk, IfErr, length};
 ghost use Rattle.lasso_columns.specs.Rows.{word_of, EncodesRows};
-ghost use Rattle.lasso_columns.specs.Streams.{AreBlocksFor, ReadsBlocks, StopsInStream};
+ghost use Rattle.lasso_columns.specs.Streams.{AreBlocksFor, AreBytesBy, EndsRound, ReadsTexts, StopsInStream, StopsInStreamBy, lines_in};
+ghost use Rattle.lasso_columns.specs.Texts.{texts_by};
 ghost use Rattle.lasso_input.specs.Lines.{lines_of};
 
 use crate::blocks::{Block, encode_blocks};
 use crate::faults::LineError;
+use crate::line_texts::{LineTexts, with_texts};
 use crate::reading_blocks::{Blocks, new_chunk, read_blocks};
 use crate::rounds::put_blocks;
 use lasso::SpurRodeo;
@@ -15,21 +17,22 @@ use std::io::{BufRead, ErrorKind};
 use std::thread::{Threads, join_mut};
 use std::{fmt, io};
 
-/// How a stream is split into blocks for several threads. The sizes are in bytes; 0 counts as 1.
+/// How a stream is split into blocks for several threads. The sizes are in bytes; 0 counts as 1. A block has its
+/// size or up to 64 KiB more, and goes on to the end of a line.
 #[derive(Clone, Copy, Debug, PartialEq, Eq)]
 pub struct Rounds {
     /// How many threads encode in a round, each a block. With 0 or 1 the caller's thread encodes all.
     pub workers: usize,
-    /// The bytes of a block that the caller's thread encodes, up to the end of a line.
+    /// The bytes of a block that the caller's thread encodes.
     pub alone: usize,
-    /// The bytes of a block of the first round, up to the end of a line. Each round doubles them.
+    /// The bytes of a block of the first round. Each round doubles them.
     pub smallest: usize,
-    /// The bytes of a block of a later round at most, up to the end of a line.
+    /// The bytes of a block of a later round at most.
     pub largest: usize,
 }
 
 impl Rounds {
-    /// Blocks of 64 to 512 KiB, for this number of workers.
+    /// Blocks of 64 to 512 KiB or up to 64 more, for this number of workers.
     pub fn new(workers: usize) -> Self {
         Rounds {
             workers,
@@ -68,10 +71,11 @@ impl Error for StreamError {}
 /// blocks. This thread then interns those texts in the order of the blocks, and appends the entries. It encodes
 /// the blocks after a round or a block with mostly new texts, and a block whose worker ran out of memory.
 ///
-/// Stops at the first line that is refused or is not UTF-8 (`StreamError::Line`, with the line's number from the
-/// begin of the call, counted from 1), or at a read that failed or had no memory (`StreamError::Read`). The
-/// lines before it are interned and have their entries. A bad line is reported even if a read after it failed.
-/// What was read after the last encoded line is lost.
+/// After success nothing is left in the input. It stops at the first line that is refused or is not UTF-8
+/// (`StreamError::Line`, with the line's number from the begin of the call, counted from 1), or at a read that
+/// failed or had no memory (`StreamError::Read`). The lines before it are interned and have their entries: at
+/// `Read`, all lines that were read as a whole. A bad line is reported even if a read after it failed. What was
+/// read after the last encoded line is lost.
 ///
 /// ```rust
 /// let mut rodeo: SpurRodeo = Rodeo::default(rt.alloc())?;
@@ -90,8 +94,42 @@ pub fn encode_stream<R: AllocGlobal + Threads + Sync, I: BufRead>(
 ) -> Result<(), StreamError>
     ensures rows { OnOk result ((bytes : List ℕ) → I.remaining input.old ≡ Some bytes →
         EncodesRows (word_of null.entry) rodeo.old (lines_of bytes) [] entries.old.items rodeo.new entries.new.items) }
+    ensures end { OnOk result ((bytes : List ℕ) → I.remaining input.old ≡ Some bytes → I.remaining input.new ≡ Some []) }
     ensures stops { IfErr result (λ error. (bytes : List ℕ) → I.remaining input.old ≡ Some bytes →
-        StopsInStream (word_of null.entry) rodeo.old (lines_of bytes) entries.old.items rodeo.new entries.new error) }
+        StopsInStream (word_of null.entry) rodeo.old (lines_of bytes) entries.old.items rodeo.new entries.new (I.remaining input.new) error) }
+{
+    encode_stream_by(rt, input, rodeo, null, entries, rounds, LineTexts::Own)
+}
+
+/// Encodes the lines that are left in the input, as `encode_stream` does, by the texts that `by` gives them. `null`
+/// is the text of a null.
+///
+/// If lines are not their own texts and memory runs out for their texts, or a read fails, it stops with
+/// `StreamError::Read`: the lines before some line are interned and have their entries.
+///
+/// ```rust
+/// let mut rodeo: SpurRodeo = Rodeo::default(rt.alloc())?;
+/// let mut entries = Vec::new(rt.alloc());
+/// let mut input = BufReader::new(rt.alloc(), b"caf\xE9\n".as_slice())?;
+/// let by = LineTexts::OfBytes(false);
+/// encode_stream_by(&rt, &mut input, &mut rodeo, None, &mut entries, Rounds::new(4), by)?;
+/// assert!(rt; rodeo.text_at(0) == "\u{10FFFF}636166e9");
+/// ```
+pub fn encode_stream_by<R: AllocGlobal + Threads + Sync, I: BufRead>(
+    rt: &R,
+    input: &mut I,
+    rodeo: &mut SpurRodeo,
+    null: Option<&[u8]>,
+    entries: &mut Vec<u32>,
+    rounds: Rounds,
+    by: LineTexts,
+) -> Result<(), StreamError>
+    ensures rows { OnOk result ((bytes : List ℕ) → I.remaining input.old ≡ Some bytes →
+        EncodesRows (word_of null.entry) rodeo.old (texts_by by (lines_of bytes)) [] entries.old.items rodeo.new entries.new.items) }
+    ensures bytes { OnOk result ((bytes : List ℕ) → I.remaining input.old ≡ Some bytes → AreBytesBy by (lines_of bytes)) }
+    ensures end { OnOk result ((bytes : List ℕ) → I.remaining input.old ≡ Some bytes → I.remaining input.new ≡ Some []) }
+    ensures stops { IfErr result (λ error. (bytes : List ℕ) → I.remaining input.old ≡ Some bytes →
+        StopsInStreamBy by (word_of null.entry) rodeo.old (lines_of bytes) entries.old.items rodeo.new entries.new (I.remaining input.new) error) }
 {
     let start = entries.len();
     let mut plan = Plan::new(rounds);
@@ -99,9 +137,9 @@ pub fn encode_stream<R: AllocGlobal + Threads + Sync, I: BufRead>(
         Ok(chunk) => chunk,
         Err(error) => return Err(StreamError::Read(error)),
     };
-    let mut now = read_blocks(rt.alloc(), input, &mut chunk, 1, rounds.alone);
+    let mut now = read_text_blocks(rt.alloc(), input, &mut chunk, 1, rounds.alone, by);
     for _ in 0..u64::MAX {
-        let (made, next) = encode_and_read(rt, input, &mut chunk, rodeo, &now, null, plan);
+        let (made, next) = encode_and_read(rt, input, &mut chunk, rodeo, &now, null, plan, by);
         let (texts, lines) = (rodeo.len(), entries.len());
         let outcome = put_blocks(rt.alloc(), rodeo, &now.blocks, &made, null, entries, start);
         if let Err(error) = outcome {
@@ -118,7 +156,26 @@ pub fn encode_stream<R: AllocGlobal + Threads + Sync, I: BufRead>(
         plan = plan.after(new_texts, entries.len().saturating_sub(lines));
         now = next;
     }
-    Err(StreamError::Read(io::Error::from(ErrorKind::TimedOut)))
+    let last = put_last(rt.alloc(), rodeo, &now, null, entries, start);
+    Err(last)
+}
+
+// Puts the blocks on this thread, after as many rounds as a call takes. Returns the error of a line, or else
+// that no more is read.
+fn put_last(
+    alloc: Global,
+    rodeo: &mut SpurRodeo,
+    now: &Blocks,
+    null: Option<&[u8]>,
+    entries: &mut Vec<u32>,
+    start: usize,
+) -> StreamError
+    ensures { EndsRound (word_of null.entry) rodeo.old (lines_in now.now.blocks.items) entries.old.items rodeo.new entries.new start result }
+{
+    match put_blocks(alloc, rodeo, &now.blocks, &[], null, entries, start) {
+        Ok(()) => StreamError::Read(io::Error::from(ErrorKind::TimedOut)),
+        Err(error) => StreamError::Line(error),
+    }
 }
 
 // How the next blocks are read and encoded.
@@ -175,15 +232,17 @@ fn encode_and_read<R: AllocGlobal + Threads + Sync, I: BufRead>(
     now: &Blocks,
     null: Option<&[u8]>,
     plan: Plan,
+    by: LineTexts,
 ) -> (Vec<Option<Block>>, Blocks)
     requires { 0 < length chunk.old }
     ensures made { AreBlocksFor (word_of null.entry) rodeo.now.texts now.now.blocks.items result.0.items }
-    ensures next { now.now.more ≡ Ok true → ReadsBlocks (I.remaining input.old) (I.remaining input.new) result.1.blocks.items result.1.more }
+    ensures next { now.now.more ≡ Ok true → ReadsTexts by (I.remaining input.old) (I.remaining input.new) result.1.blocks.items result.1.more }
+    ensures kept { ¬ (now.now.more ≡ Ok true) → I.remaining input.new ≡ I.remaining input.old }
 {
     if !plan.is_round {
         return (
             Vec::new(rt.alloc()),
-            read_next(rt.alloc(), input, chunk, now, plan),
+            read_next(rt.alloc(), input, chunk, now, plan, by),
         );
     }
     let mut work = || -> Vec<Option<Block>>
@@ -191,8 +250,9 @@ fn encode_and_read<R: AllocGlobal + Threads + Sync, I: BufRead>(
     { encode_round(rt, rodeo, now, null) };
     let mut read = || -> Blocks
         requires { 0 < length chunk.now }
-        ensures { now.entry.now.more ≡ Ok true → ReadsBlocks (I.remaining input.entry.now) (I.remaining input.exit.now) result.blocks.items result.more }
-    { read_next(rt.alloc(), input, chunk, now, plan) };
+        ensures next { now.entry.now.more ≡ Ok true → ReadsTexts by (I.remaining input.entry.now) (I.remaining input.exit.now) result.blocks.items result.more }
+        ensures kept { ¬ (now.entry.now.more ≡ Ok true) → I.remaining input.exit.now ≡ I.remaining input.entry.now }
+    { read_next(rt.alloc(), input, chunk, now, plan, by) };
     join_mut(rt, &mut work, &mut read)
 }
 
@@ -218,16 +278,34 @@ fn read_next<I: BufRead>(
     chunk: &mut [u8],
     now: &Blocks,
     plan: Plan,
+    by: LineTexts,
 ) -> Blocks
     requires { 0 < length chunk.old }
-    ensures { now.now.more ≡ Ok true → ReadsBlocks (I.remaining input.old) (I.remaining input.new) result.blocks.items result.more }
+    ensures next { now.now.more ≡ Ok true → ReadsTexts by (I.remaining input.old) (I.remaining input.new) result.blocks.items result.more }
+    ensures kept { ¬ (now.now.more ≡ Ok true) → I.remaining input.new ≡ I.remaining input.old }
 {
     if let Ok(true) = now.more {
         let (count, size) = plan.next();
-        return read_blocks(alloc, input, chunk, count, size);
+        return read_text_blocks(alloc, input, chunk, count, size, by);
     }
     Blocks {
         blocks: Vec::new(alloc),
         more: Ok(false),
     }
+}
+
+// Reads blocks, as `read_blocks` does, and turns their lines into texts.
+fn read_text_blocks<I: BufRead>(
+    alloc: Global,
+    input: &mut I,
+    chunk: &mut [u8],
+    count: usize,
+    size: usize,
+    by: LineTexts,
+) -> Blocks
+    requires { 0 < length chunk.old }
+    ensures { ReadsTexts by (I.remaining input.old) (I.remaining input.new) result.blocks.items result.more }
+{
+    let read = read_blocks(alloc, input, chunk, count, size);
+    with_texts(alloc, read, by)
 }

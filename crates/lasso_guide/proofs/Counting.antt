@@ -18,7 +18,7 @@ use Rattle.lasso.specs.Replies.{Copied, Intern, Interned}
 use Rattle.lasso.specs.Views.{InternerId, list_of}
 use Rattle.lasso.proofs.CallingShared.{call_keeps_texts, seen_texts_stay}
 use Rattle.lasso.proofs.Histories.{history_append}
-use Rattle.lasso_guide.specs.Words.{AreKeysOf, IsRefusalOf, Resolve}
+use Rattle.lasso_guide.specs.WordKeys.{AreKeysOf, IsRefusalOf, Resolve}
 
 module _ {K : Type 0} (number : K → ℕ) where
   -- what stands for each word stands for it where each text keeps its position

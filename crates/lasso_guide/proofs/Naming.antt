@@ -41,9 +41,9 @@ last_no P end (Some s) fails last = (
 
 -- ---- names
 
--- the variable in this slot has the key of this number
+-- the variable in this place has the key of this number
 abbrev pub HasNumber : {K : Type 0} → (K → ℕ) → List K → ℕ → ℕ → Type 0
-HasNumber {K} number variables wanted slot = (variable : K) × (slice_get variables slot ≡ Some variable) × (number variable ≡ wanted)
+HasNumber {K} number variables wanted place = (variable : K) × (slice_get variables place ≡ Some variable) × (number variable ≡ wanted)
 
 some_of : {K Y : Type 0} (f : K → Option Y) (o : Option K) (y : Y) → option_map f o ≡ Some (Some y) → (k : K) × (o ≡ Some k) × (f k ≡ Some y)
 some_of f None y is = absurd (cc)
@@ -51,28 +51,28 @@ some_of f (Some k) y is = (k, refl, cc)
 
 module _ {K : Type 0} (number : K → ℕ) where
   -- a named variable's key has the position of the name
-  pub named_has : (texts : List Text) (variables : List K) (name : Text) (slot : ℕ) → IsDistinct texts → IsNamed (names_of number texts variables) slot name → (variable : K) × (slice_get variables slot ≡ Some variable) × (position_of texts name ≡ Some (number variable))
-  named_has texts variables name slot distinct named =
-      let found = some_of (λ v. slice_get texts (number v)) (slice_get variables slot) name (sym (slice_get-map (λ v. slice_get texts (number v)) variables slot) ∙ named) in
+  pub named_has : (texts : List Text) (variables : List K) (name : Text) (place : ℕ) → IsDistinct texts → IsNamed (names_of number texts variables) place name → (variable : K) × (slice_get variables place ≡ Some variable) × (position_of texts name ≡ Some (number variable))
+  named_has texts variables name place distinct named =
+      let found = some_of (λ v. slice_get texts (number v)) (slice_get variables place) name (sym (slice_get-map (λ v. slice_get texts (number v)) variables place) ∙ named) in
       (found.0, found.1, position_of_at texts name (number found.0) distinct found.2)
 
   -- so it has the number of the name's key
-  pub named_has_number : (texts : List Text) (variables : List K) (name : Text) (wanted slot : ℕ) → IsDistinct texts → slice_get texts wanted ≡ Some name → IsNamed (names_of number texts variables) slot name → HasNumber number variables wanted slot
-  named_has_number texts variables name wanted slot distinct at named =
-      let has = named_has texts variables name slot distinct named in
+  pub named_has_number : (texts : List Text) (variables : List K) (name : Text) (wanted place : ℕ) → IsDistinct texts → slice_get texts wanted ≡ Some name → IsNamed (names_of number texts variables) place name → HasNumber number variables wanted place
+  named_has_number texts variables name wanted place distinct at named =
+      let has = named_has texts variables name place distinct named in
       let same : Some (number has.0) ≡ Some wanted = sym has.2 ∙ position_of_at texts name wanted distinct at in
       (has.0, has.1, cc)
 
   -- and the reverse
-  pub number_is_named : (texts : List Text) (variables : List K) (name : Text) (wanted slot : ℕ) → slice_get texts wanted ≡ Some name → HasNumber number variables wanted slot → IsNamed (names_of number texts variables) slot name
-  number_is_named texts variables name wanted slot at has =
-      slice_get-map (λ v. slice_get texts (number v)) variables slot ∙ ap (option_map (λ v. slice_get texts (number v))) has.1
+  pub number_is_named : (texts : List Text) (variables : List K) (name : Text) (wanted place : ℕ) → slice_get texts wanted ≡ Some name → HasNumber number variables wanted place → IsNamed (names_of number texts variables) place name
+  number_is_named texts variables name wanted place at has =
+      slice_get-map (λ v. slice_get texts (number v)) variables place ∙ ap (option_map (λ v. slice_get texts (number v))) has.1
       ∙ ap Some (ap (slice_get texts) has.2 ∙ at)
 
   -- a name that is not in the list is the name of no variable
-  pub none_named : (texts : List Text) (variables : List K) (name : Text) (end : ℕ) → IsDistinct texts → position_of texts name ≡ None → IsLast (λ slot. IsNamed (names_of number texts variables) slot name) end None
-  none_named texts variables name end distinct lacks = λ slot low named.
-      let has = named_has texts variables name slot distinct named in
+  pub none_named : (texts : List Text) (variables : List K) (name : Text) (end : ℕ) → IsDistinct texts → position_of texts name ≡ None → IsLast (λ place. IsNamed (names_of number texts variables) place name) end None
+  none_named texts variables name end distinct lacks = λ place low named.
+      let has = named_has texts variables name place distinct named in
       none-some (number has.0) (sym lacks ∙ has.2)
 
   -- variables keep their names where each text of the list stays

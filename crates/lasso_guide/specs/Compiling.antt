@@ -8,15 +8,15 @@ use Rattle.lasso_guide.specs.declared.compiler.Token.TheVariants.{Number, Name, 
 use Rattle.lasso_guide.specs.declared.compiler.Instruction.{Instruction}
 use Rattle.lasso_guide.specs.declared.compiler.Instruction.TheVariants.{Push, Load, Add, Store}
 
--- This is the code of the tokens where these names are in scope, at their slots, and each open scope began at
--- these counts. A name loads the slot of the variable of that name that was declared last; a closed scope
+-- This is the code of the tokens where these names are in scope, at their places, and each open scope began at
+-- these counts. A name loads the place of the variable of that name that was declared last; a closed scope
 -- leaves the variables that there were when it was opened.
 abbrev pub IsCodeOf : List (Option Text) → List ℕ → List Token → List Instruction → Type 0
 IsCodeOf names opened [] code = code ≡ []
 IsCodeOf names opened (Number n ∷ tokens) code =
     (rest : List Instruction) × (code ≡ Push n ∷ rest) × IsCodeOf names opened tokens rest
 IsCodeOf names opened (Name name ∷ tokens) code =
-    (slot : ℕ) × (rest : List Instruction) × IsLast (λ n. IsNamed names n name.now) (length names) (Some slot) × (code ≡ Load slot ∷ rest) × IsCodeOf names opened tokens rest
+    (place : ℕ) × (rest : List Instruction) × IsLast (λ n. IsNamed names n name.now) (length names) (Some place) × (code ≡ Load place ∷ rest) × IsCodeOf names opened tokens rest
 IsCodeOf names opened (Plus ∷ tokens) code =
     (rest : List Instruction) × (code ≡ Add ∷ rest) × IsCodeOf names opened tokens rest
 IsCodeOf names opened (Let name ∷ tokens) code =

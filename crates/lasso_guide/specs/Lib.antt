@@ -1,4 +1,4 @@
-pub mod Words
+pub mod WordKeys
 pub mod Scopes
 pub mod Compiling
 pub mod Lexing

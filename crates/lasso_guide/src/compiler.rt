@@ -2,7 +2,7 @@
 //! is `x`, `1`, `Plus`.
 ghost use Rattle.std.specs.Prelude.{◌≡◌, [], IfOk};
 ghost use Rattle.lasso_guide.specs.Compiling.{IsCodeOf, Translates};
-ghost use Rattle.lasso_guide.specs.Scopes.{names_of};
+ghost use Rattle.lasso_guide.specs.Scopes.{names_in};
 ghost use Rattle.lasso_guide.specs.declared.compiler.CompileError.TheVariants.{OutOfMemory, Refused};
 
 use crate::scopes::Scopes;
@@ -23,7 +23,7 @@ pub enum Token<'t> {
     Close,
 }
 
-/// The instructions for a machine with a stack and a slot for each variable.
+/// The instructions for a machine with a stack and a place for each variable.
 #[derive(Clone, Copy, PartialEq, Debug)]
 pub enum Instruction {
     Push(u64),
@@ -68,8 +68,8 @@ impl<T: Drop> From<AllocFailed<T>> for CompileError {
     }
 }
 
-/// The instructions of a program: each `Load` has the slot of the variable that its name means there, and
-/// each `Store` the slot of the variable that is declared.
+/// The instructions of a program: each `Load` has the place of the variable that its name means there, and
+/// each `Store` the place of the variable that is declared.
 pub fn compile(alloc: Global, tokens: &[Token<'_>]) -> Result<Vec<Instruction>, CompileError>
     ensures { IfOk result (λ code. IsCodeOf [] [] tokens.now code.items) }
 {
@@ -87,7 +87,7 @@ fn translate<K: Key + Drop>(
     token: &Token<'_>,
     code: &mut Vec<Instruction>,
 ) -> Result<(), CompileError>
-    ensures { IfOk result (λ _. Translates (names_of K.number scopes.old.names.texts scopes.old.variables.items) scopes.old.opened.items code.old.items token.now (names_of K.number scopes.new.names.texts scopes.new.variables.items) scopes.new.opened.items code.new.items) }
+    ensures { IfOk result (λ _. Translates (names_in K.number scopes.old.names scopes.old.variables) scopes.old.opened.items code.old.items token.now (names_in K.number scopes.new.names scopes.new.variables) scopes.new.opened.items code.new.items) }
 {
     match token {
         Token::Number(number) => {
@@ -95,10 +95,10 @@ fn translate<K: Key + Drop>(
             Ok(())
         }
         Token::Name(name) => {
-            let Some(slot) = scopes.slot_of(name) else {
+            let Some(place) = scopes.place_of(name) else {
                 return Err(CompileError::NotInScope);
             };
-            code.push(Instruction::Load(slot))?;
+            code.push(Instruction::Load(place))?;
             Ok(())
         }
         Token::Plus => {
@@ -106,8 +106,8 @@ fn translate<K: Key + Drop>(
             Ok(())
         }
         Token::Let(name) => {
-            let slot = scopes.declare(name)?;
-            code.push(Instruction::Store(slot))?;
+            let place = scopes.declare(name)?;
+            code.push(Instruction::Store(place))?;
             Ok(())
         }
         Token::Open => {

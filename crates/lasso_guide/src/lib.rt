@@ -2,13 +2,16 @@
 //! them.
 #![tactic(auto)]
 
+pub mod any;
 pub mod closures;
 pub mod compiler;
 pub mod errors;
 pub mod lexer;
+pub mod own_key;
 pub mod pairs;
 pub mod passes;
 pub mod saving;
 pub mod scopes;
 pub mod spurs;
-pub mod words;
+pub mod symbols;
+pub mod word_counts;

@@ -7,9 +7,11 @@
 //! `text_of` gives each line a text, whatever its bytes are, and `line_of` gives the line back.
 #![tactic(auto)]
 
+pub mod failures;
 pub mod laws;
 mod line;
 mod newlines;
+mod numbers;
 mod stretch;
 #[cfg(test)]
 mod tests;
@@ -19,5 +21,6 @@ mod texts;
 
 pub use line::Line;
 pub use newlines::{after_newline, find_newline, first_line};
+pub use numbers::parse_digits;
 pub use stretch::Stretch;
 pub use texts::{MARK, is_marked, line_of, own_text, text_of};

@@ -4,7 +4,6 @@ pub mod EndFaults
 pub mod Lines
 pub mod Ways
 pub mod Cuts
-pub mod Numbers
 pub mod Settings
 pub mod Buffers
 pub mod Fronts

@@ -12,8 +12,8 @@ use Rattle.lasso_parts.specs.Held.{Held}
 use Rattle.lasso_single.specs.Intern.{interned, interned_position}
 use Rattle.lasso_lines.specs.Stream.{Begins}
 use Rattle.lasso_input.specs.Lines.{is_line_feed, lines_of, NoFeed}
-use Rattle.lasso_encode.specs.Encoding.{spur_at}
-use Rattle.lasso_encode.proofs.Encoded.{position_of_key}
+use Rattle.lasso_single.specs.Coding.{spur_at}
+use Rattle.lasso_single.proofs.Encoded.{position_of_key}
 use Rattle.lasso_lines.specs.Report.{first_bytes, after_line, with_number, line_report}
 use Rattle.lasso_lines.specs.Answer.{AnswersLine, WritesAll, LineFails, faulty, no_memory, not_written, last_lines}
 use Rattle.lasso_lines.specs.declared.fault.RunFault.{RunFault}

@@ -10,7 +10,7 @@ use Rattle.lasso_log.specs.History.{History, Totals, totals, IsOpening, IsLegal}
 use Rattle.lasso_log.specs.Calls.{IsCall}
 use Rattle.lasso_log.specs.Replies.{Question, Reply, Strings, Listed}
 use Rattle.lasso_log.proofs.Legal.{totals_append, list_grows, list_kept}
-use Rattle.lasso_encode.specs.Encoding.{spur_at}
+use Rattle.lasso_single.specs.Coding.{spur_at}
 
 -- the list before a call is a beginning of the list after it
 pub call_grows : (o : Totals) (before after : History) (pass : ℕ) (question : Question) (reply : Reply ℕ) → IsCall {K = ℕ} spur_at o before after pass question reply → IsPrefix (totals o before).texts (totals o after).texts

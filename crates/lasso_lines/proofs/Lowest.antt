@@ -14,7 +14,7 @@ use Rattle.lasso_parts.specs.Texts.{Text, position_of}
 use Rattle.lasso_parts.proofs.TextLemmas.{position_here}
 use Rattle.lasso_log.specs.History.{Totals}
 use Rattle.lasso_log.specs.Notes.{NoteView, history, state}
-use Rattle.lasso_encode.specs.Codes.{AreCodes}
+use Rattle.lasso_single.specs.Codes.{AreCodes}
 use Rattle.lasso_lines.specs.Shares.{line_at, share, AreInBefore, HasCodes, IsLower, IsRefusedBy, NumberedError}
 use Rattle.lasso_lines.proofs.Named.{each_found}
 use Rattle.lasso_lines.proofs.ShareLines.{share_has, share_reaches}

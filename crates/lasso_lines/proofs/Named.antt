@@ -8,8 +8,8 @@ use mathlib.Core.List.{IsPrefix}
 use Rattle.std.proofs.lemmas.Option.{slice_get_within}
 use Rattle.lasso_parts.specs.Texts.{Text, position_of, IsDistinct}
 use Rattle.lasso_parts.proofs.TextLemmas.{position_here}
-use Rattle.lasso_encode.specs.Codes.{AreCodes}
-use Rattle.lasso_encode.proofs.Coded.{codes_past}
+use Rattle.lasso_single.specs.Codes.{AreCodes}
+use Rattle.lasso_single.proofs.Coded.{codes_past}
 use Rattle.lasso_lines.specs.Ordered.{AreSameTexts, IsNamed, AreNamed, WritesNamed, WritesOrdered, BeginsNamed, BeginsOrdered}
 use Rattle.lasso_lines.specs.Shares.{AreCodesOf}
 use Rattle.lasso_lines.specs.Stream.{Grows, Stays}

@@ -10,9 +10,9 @@ use Rattle.std.proofs.lemmas.Nat.{mod_below}
 use Rattle.std.proofs.lemmas.List.{get_or_default, get_or-map}
 use Rattle.std.proofs.lemmas.List.Elements.{Contains-get_or, Contains-append_left, Contains-append_right, Contains-push, Contains-push_cases, Contains-append_cases}
 use Rattle.lasso_parts.specs.Texts.{Text, position_of}
-use Rattle.lasso_encode.specs.Codes.{AreCodes}
+use Rattle.lasso_single.specs.Codes.{AreCodes}
 use mathlib.Core.List.{IsPrefix}
-use Rattle.lasso_encode.proofs.Coded.{codes_past, map_some_both}
+use Rattle.lasso_single.proofs.Coded.{codes_past, map_some_both}
 use Rattle.lasso_lines.specs.Shares.{line_at, share, IsShare, HasCodes, AreCodesOf}
 
 line_there : (lines : List Text) (i : ℕ) → i < length lines → Contains lines (line_at lines i)

@@ -14,10 +14,10 @@ use Rattle.lasso_log.specs.Calls.{IsCall}
 use Rattle.lasso_log.specs.Notes.{NoteView, history}
 use Rattle.lasso_log.proofs.Histories.{history_append}
 use Rattle.lasso_shared.proofs.CallerLaws.{tells_keys}
-use Rattle.lasso_encode.proofs.Coded.{codes_past, map_some_push}
-use Rattle.lasso_encode.proofs.Encoded.{found_at}
-use Rattle.lasso_encode.specs.Codes.{AreCodes}
-use Rattle.lasso_encode.specs.Encoding.{spur_at}
+use Rattle.lasso_single.proofs.Coded.{codes_past, map_some_push}
+use Rattle.lasso_single.proofs.Encoded.{found_at}
+use Rattle.lasso_single.specs.Codes.{AreCodes}
+use Rattle.lasso_single.specs.Coding.{spur_at}
 use Rattle.lasso_lines.specs.Shares.{IsRefusalIn}
 use Rattle.lasso_lines.proofs.Listed.{call_grows}
 

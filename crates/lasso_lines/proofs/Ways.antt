@@ -13,7 +13,7 @@ use Rattle.lasso_parts.specs.declared.util.LassoError.{LassoError}
 use Rattle.lasso_single.specs.Intern.{interned}
 use Rattle.lasso_lines.specs.Stream.{Begins}
 use Rattle.lasso_input.specs.Lines.{lines_of, NoFeed}
-use Rattle.lasso_encode.specs.Encoding.{spur_at}
+use Rattle.lasso_single.specs.Coding.{spur_at}
 use Rattle.lasso_lines.specs.Report.{with_number, first_bytes, after_line, line_report, last_report, or_else, report_from, fault_from, reach_from, answers_from, LacksMemory, EndsWithFault, EndsFrom, Ends, new_held}
 use Rattle.lasso_lines.specs.Answer.{WritesAll, LineFails, faulty, no_memory, not_written, IsStreamFault, last_lines}
 use Rattle.lasso_lines.specs.declared.fault.RunFault.{RunFault}

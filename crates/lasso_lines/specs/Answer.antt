@@ -1,5 +1,5 @@
 -- What a call that writes answers does to the interner and the writer, and the faults with which it ends.
-use Rattle.std.specs.Prelude.{ℕ, ◌≡◌, List, [], ◌∷◌, Result, Ok, Err, MatchResult}
+use Rattle.std.specs.Prelude.{ℕ, ◌≡◌, List, [], ◌∷◌, Result, Ok, Err, IfErr, MatchResult}
 use Rattle.lasso_parts.specs.declared.util.LassoErrorKind.TheVariants.{FailedAllocation}
 use Rattle.lasso_parts.specs.Held.{Held}
 use Rattle.lasso_lines.specs.Stream.{Begins}
@@ -35,6 +35,10 @@ abbrev pub AnswersLine : Held → ℕ → List ℕ → Result (Unit {0}) RunFaul
 AnswersLine before number line result after part = MatchResult result
     (λ _. (after_line before number line ≡ Ok after) × (part ≡ line_report before line))
     (LineFails before number line part)
+
+-- if a write failed, this holds
+abbrev pub OnWriteFailed : {X : Type 0} → Result X RunFault → Type 0 → Type 0
+OnWriteFailed result X = IfErr result (λ fault. fault ≡ WriteFailed → X)
 
 -- a read or a write failed
 abbrev pub IsStreamFault : RunFault → Type 0

@@ -1,31 +1,12 @@
--- Which arguments set which limit and which number of workers.
-use Rattle.std.specs.Prelude.{ℕ, option_map, option_and_then, ◌+◌, ◌-◌, ◌*◌, ◌^◌, Bool, true, ◌&&◌, List, [], ◌∷◌, length, nat_le, nat_lt, Option, Some, None, codes, bytes_eq, if◌then◌else◌}
-
--- an ASCII digit
-abbrev pub is_digit : ℕ → Bool
-is_digit b = nat_le 48 b && nat_le b 57
-
--- each byte is a digit
-abbrev pub all_digits : List ℕ → Bool
-all_digits [] = true
-all_digits (b ∷ bytes) = is_digit b && all_digits bytes
-
--- the value of decimal digits that follow digits of this value
-abbrev pub value_behind : ℕ → List ℕ → ℕ
-value_behind value [] = value
-value_behind value (b ∷ bytes) = value_behind (value * 10 + (b - 48)) bytes
-
--- 1 to 20 digits
-abbrev pub is_number : List ℕ → Bool
-is_number word = nat_le 1 (length word) && (nat_le (length word) 20 && all_digits word)
-
--- the number in a word: 1 to 20 digits, with leading zeros or not, of a value below 2 ^ 64
-abbrev pub number_of : List ℕ → Option ℕ
-number_of word = if is_number word && nat_lt (value_behind 0 word) (2 ^ 64) then Some (value_behind 0 word) else None
+-- Which arguments set which limit and which number of workers, and what holds of runs with these.
+use Rattle.std.specs.Prelude.{ℕ, option_map, option_and_then, ◌-◌, ◌^◌, Bool, ◌&&◌, List, [], ◌∷◌, nat_le, Option, Some, None, String, string_bytes, ◌≡◌, map, codes, bytes_eq, if◌then◌else◌}
+use Rattle.lasso_input.specs.Lines.{lines_of}
+use Rattle.lasso_input.specs.Numbers.{digits_value}
+use Rattle.lasso_parts.specs.Texts.{Text}
 
 -- a limit and no workers
 abbrev pub limited : List ℕ → Option (ℕ × Option ℕ)
-limited limit = option_map (λ n. (n, None)) (number_of limit)
+limited limit = option_map (λ n. (n, None)) (digits_value limit)
 
 -- this limit and 1 to 64 workers
 abbrev pub with_workers : ℕ → ℕ → Option (ℕ × Option ℕ)
@@ -33,11 +14,11 @@ with_workers limit n = if nat_le 1 n && nat_le n 64 then Some (limit, Some n) el
 
 -- this limit and the workers of a word
 abbrev pub worked : ℕ → List ℕ → Option (ℕ × Option ℕ)
-worked limit workers = option_and_then (with_workers limit) (number_of workers)
+worked limit workers = option_and_then (with_workers limit) (digits_value workers)
 
 -- a limit and workers
 abbrev pub both : List ℕ → List ℕ → Option (ℕ × Option ℕ)
-both limit workers = option_and_then (λ n. worked n workers) (number_of limit)
+both limit workers = option_and_then (λ n. worked n workers) (digits_value limit)
 
 -- the word is `--limit`
 abbrev pub is_limit : List ℕ → Bool
@@ -58,3 +39,16 @@ settings_of (one ∷ first ∷ other ∷ []) = None
 settings_of (one ∷ first ∷ other ∷ second ∷ []) =
     if is_limit one && is_workers other then both first second else (if is_workers one && is_limit other then both second first else None)
 settings_of (one ∷ first ∷ other ∷ second ∷ more ∷ words) = None
+
+-- if the words set a limit and no workers, and the input is known, P holds of the limit and the input
+abbrev pub WithoutWorkers : {Z : Type 0} → List (String Z) → Option (List ℕ) → (ℕ → List ℕ → Type 0) → Type 0
+WithoutWorkers words left P = (limit : ℕ) (input : List ℕ) → settings_of (map string_bytes words) ≡ Some (limit, None) → left ≡ Some input → P limit input
+
+-- the words set this limit and this number of workers
+abbrev pub SetWorkers : {Z : Type 0} → List (String Z) → ℕ → ℕ → Type 0
+SetWorkers words limit workers = settings_of (map string_bytes words) ≡ Some (limit, Some workers)
+
+-- if the words set workers, and the input is known, P holds of the limit and of the input's lines
+abbrev pub WithWorkers : {Z : Type 0} → List (String Z) → Option (List ℕ) → (ℕ → List Text → Type 0) → Type 0
+WithWorkers words left P =
+    (limit workers : ℕ) (input : List ℕ) → SetWorkers words limit workers → left ≡ Some input → P limit (lines_of input)

@@ -4,7 +4,7 @@ use Rattle.std.specs.Prelude.{ℕ, ◌≡◌, ◌⊎◌, List, []}
 use Rattle.lasso_parts.specs.Texts.{Text}
 use Rattle.lasso_parts.specs.declared.util.LassoErrorKind.TheVariants.{FailedAllocation}
 use Rattle.lasso_log.specs.History.{History, Totals, IsLegal, opened}
-use Rattle.lasso_encode.specs.Encoding.{spur_at}
+use Rattle.lasso_single.specs.Coding.{spur_at}
 use Rattle.lasso_lines.specs.Report.{first_bytes}
 use Rattle.lasso_lines.specs.Shares.{IsLowestRefusedIn}
 use Rattle.lasso_lines.specs.declared.fault.RunFault.{RunFault}

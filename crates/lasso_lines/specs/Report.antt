@@ -5,21 +5,20 @@
 -- are.
 use Rattle.std.specs.Prelude.{ℕ, zero, suc, ◌≡◌, ◌<◌, ◌+◌, ◌⊎◌, cond, List, [], ◌∷◌, ◌++◌, length, Option, Some, None, Result, Ok, Err, MatchResult, codes, decimal}
 use Rattle.std.specs.Str.{is_utf8}
-use Rattle.lasso_parts.specs.Account.{Account, fresh}
 use Rattle.lasso_parts.specs.Held.{Held}
-use Rattle.lasso_parts.specs.Texts.{Text}
 use Rattle.lasso_parts.specs.declared.util.LassoError.{LassoError}
 use Rattle.lasso_parts.specs.declared.util.LassoErrorKind.TheVariants.{FailedAllocation}
 use Rattle.lasso_single.specs.Intern.{interned, interned_position}
+use Rattle.lasso_single.specs.Interner.{InternerView, made_with}
 use Rattle.lasso_input.specs.Lines.{lines_of}
-use Rattle.lasso_encode.specs.Encoding.{spur_at}
+use Rattle.lasso_single.specs.Coding.{spur_at}
 use Rattle.lasso_lines.specs.Stream.{Begins}
 use Rattle.lasso_lines.specs.declared.fault.RunFault.{RunFault}
 use Rattle.lasso_lines.specs.declared.fault.RunFault.TheVariants.{Refused, NotText, Usage, ReadFailed, WriteFailed}
 
--- an interner with these texts and this account
-abbrev pub holding : List Text → Account → Held
-holding texts account = record { texts = texts; account = account }
+-- what the interner holds
+abbrev pub held_by : InternerView → Held
+held_by i = record { texts = i.texts; account = i.account }
 
 -- the result, with an error as the refusal of the line of this number
 abbrev pub with_number : ℕ → Result Held LassoError → Result Held RunFault
@@ -99,7 +98,7 @@ module _ (held : Held) (first : ℕ) (lines : List (List ℕ)) (part : List ℕ)
 
 -- a new interner of default capacity with this limit
 abbrev pub new_held : ℕ → Held
-new_held limit = holding [] (fresh first_bytes limit)
+new_held limit = held_by (made_with first_bytes limit)
 
 -- what a run over these bytes writes, unless a read or a write fails or memory runs out
 abbrev pub report : List ℕ → ℕ → List ℕ

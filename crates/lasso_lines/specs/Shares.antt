@@ -9,8 +9,8 @@ use Rattle.lasso_log.specs.History.{History, Totals, totals}
 use Rattle.lasso_log.specs.Notes.{history}
 use Rattle.lasso_log.specs.Replies.{Copied, Intern, Interned, MayReply}
 use Rattle.lasso_log.specs.Views.{InternerId, SnapshotView, list_of}
-use Rattle.lasso_encode.specs.Codes.{AreCodes}
-use Rattle.lasso_encode.specs.Encoding.{spur_at}
+use Rattle.lasso_single.specs.Codes.{AreCodes}
+use Rattle.lasso_single.specs.Coding.{spur_at}
 use Rattle.lasso_lines.specs.Ordered.{AreSameTexts}
 use Rattle.lasso_lines.specs.declared.fault.RunFault.{RunFault}
 use Rattle.lasso_lines.specs.declared.fault.RunFault.TheVariants.{Refused}
@@ -90,3 +90,7 @@ IsShareOf of lines worker workers known outcome =
 -- the codes are the positions of the lines' texts in the list, in some order
 abbrev pub AreCodesOf : List Text → List Text → List ℕ → Type 0
 AreCodesOf list lines codes = (texts : List Text) × AreSameTexts texts lines × AreCodes list texts codes
+
+-- codes of some texts in the list before are, afterwards, codes of these texts and then this one
+abbrev pub AddsCode : List Text → List ℕ → List Text → List ℕ → Text → Type 0
+AddsCode before codes after codes' text = (texts : List Text) → AreCodes before texts codes → AreCodes after (texts ++ text ∷ []) codes'

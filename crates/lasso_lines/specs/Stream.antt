@@ -1,5 +1,5 @@
 -- What a call does to the bytes of a reader or a writer, where they are known.
-use Rattle.std.specs.Prelude.{ℕ, ◌≡◌, List, [], ◌++◌, drop, Option, Some, None, Result, Ok, Err}
+use Rattle.std.specs.Prelude.{ℕ, ◌≡◌, List, [], ◌++◌, drop, take, Option, Some, None, Result, Ok, Err, MatchResult, Vec}
 
 -- the first list is a beginning of the second
 abbrev pub Begins : List ℕ → List ℕ → Type 0
@@ -34,6 +34,22 @@ abbrev pub written : Option (List ℕ) → Option (List ℕ) → Option (List �
 written None pending = None
 written (Some delivered) None = None
 written (Some delivered) (Some pending) = Some (delivered ++ pending)
+
+-- the bytes of a writer, delivered and then pending, grow by a part that satisfies P
+abbrev pub Writes : {W : Type 0} → (W → Option (List ℕ)) → (W → Option (List ℕ)) → W → W → (List ℕ → Type 0) → Type 0
+Writes delivered pending before after P = Grows (written (delivered before) (pending before)) (written (delivered after) (pending after)) P
+
+-- they stay as they are
+abbrev pub Keeps : {W : Type 0} → (W → Option (List ℕ)) → (W → Option (List ℕ)) → W → W → Type 0
+Keeps delivered pending before after = Stays (written (delivered before) (pending before)) (written (delivered after) (pending after))
+
+-- the part is as many of the bytes as the call took, from the front; if the call failed, it is a beginning of them
+abbrev pub Takes : {E : Type 0} → List ℕ → Result ℕ E → List ℕ → Type 0
+Takes bytes result part = MatchResult result (λ n. part ≡ take n bytes) (λ _. Begins part bytes)
+
+-- the bytes that an inner writer has, and then those of the buffer in front of it that are not sent
+abbrev pub taken : {W A : Type 0} → (W → Option (List ℕ)) → W → ℕ → Vec ℕ A → Option (List ℕ)
+taken contents inner sent buffer = written (contents inner) (Some (drop sent buffer.items))
 
 -- 1 if the call failed, else 0
 abbrev pub failed_calls : {X E : Type 0} → Result X E → ℕ

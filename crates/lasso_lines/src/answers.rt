@@ -1,7 +1,7 @@
 //! Writes the report: an answer to each line, and the counts at the end.
 ghost use Rattle.std.specs.Prelude.{◌≡◌, ℕ, ◌+◌, ◌++◌, ◌∷◌, [], IfErr, decimal};
-ghost use Rattle.lasso_lines.specs.Stream.{Grows, OnlyGrows, written};
-ghost use Rattle.lasso_lines.specs.Report.{holding, first_bytes, last_report};
+ghost use Rattle.lasso_lines.specs.Stream.{OnlyGrows, Writes};
+ghost use Rattle.lasso_lines.specs.Report.{held_by, first_bytes, last_report};
 ghost use Rattle.lasso_lines.specs.Answer.{AnswersLine, WritesAll, IsAnswerFault, failed_writes};
 ghost use Rattle.lasso_lines.specs.declared.fault.RunFault.TheVariants.{WriteFailed};
 
@@ -32,8 +32,7 @@ pub(crate) fn answer_line<O: ByteWriter>(
     ensures first { rodeo.new.first ≡ first_bytes }
     ensures failures { O.failures writer.new ≡ O.failures writer.old + failed_writes result }
     ensures delivered { OnlyGrows (O.delivered writer.old) (O.delivered writer.new) }
-    ensures answers { Grows (written (O.delivered writer.old) (O.pending writer.old)) (written (O.delivered writer.new) (O.pending writer.new))
-        (λ part. AnswersLine (holding rodeo.old.texts rodeo.old.account) number line.now result (holding rodeo.new.texts rodeo.new.account) part) }
+    ensures answers { Writes O.delivered O.pending writer.old writer.new (λ part. AnswersLine (held_by rodeo.old) number line.now result (held_by rodeo.new) part) }
     ensures faults { IfErr result IsAnswerFault }
 {
     let Ok(text) = line.text() else {
@@ -50,8 +49,7 @@ pub(crate) fn answer_line<O: ByteWriter>(
 fn write_answer<O: ByteWriter>(writer: &mut O, position: usize, line: &[u8]) -> Result<(), RunFault>
     ensures failures { O.failures writer.new ≡ O.failures writer.old + failed_writes result }
     ensures delivered { OnlyGrows (O.delivered writer.old) (O.delivered writer.new) }
-    ensures bytes { Grows (written (O.delivered writer.old) (O.pending writer.old)) (written (O.delivered writer.new) (O.pending writer.new))
-        (WritesAll (decimal position ++ (32 ∷ (line.now ++ 10 ∷ []))) result) }
+    ensures bytes { Writes O.delivered O.pending writer.old writer.new (WritesAll (decimal position ++ (32 ∷ (line.now ++ 10 ∷ []))) result) }
     ensures faults { IfErr result (λ fault. fault ≡ WriteFailed) }
 {
     // 20 bytes for the digits of the greatest position, and a space.
@@ -69,8 +67,7 @@ pub(crate) fn write_line<O: ByteWriter>(
 ) -> Result<(), RunFault>
     ensures failures { O.failures writer.new ≡ O.failures writer.old + failed_writes result }
     ensures delivered { OnlyGrows (O.delivered writer.old) (O.delivered writer.new) }
-    ensures bytes { Grows (written (O.delivered writer.old) (O.pending writer.old)) (written (O.delivered writer.new) (O.pending writer.new))
-        (WritesAll (front.now ++ (line.now ++ 10 ∷ [])) result) }
+    ensures bytes { Writes O.delivered O.pending writer.old writer.new (WritesAll (front.now ++ (line.now ++ 10 ∷ [])) result) }
     ensures faults { IfErr result (λ fault. fault ≡ WriteFailed) }
 {
     if writer.take_line(front, line) {
@@ -84,8 +81,7 @@ pub(crate) fn write_line<O: ByteWriter>(
 fn write_parts<O: ByteWriter>(writer: &mut O, front: &[u8], line: &[u8]) -> Result<(), RunFault>
     ensures failures { O.failures writer.new ≡ O.failures writer.old + failed_writes result }
     ensures delivered { OnlyGrows (O.delivered writer.old) (O.delivered writer.new) }
-    ensures bytes { Grows (written (O.delivered writer.old) (O.pending writer.old)) (written (O.delivered writer.new) (O.pending writer.new))
-        (WritesAll (front.now ++ (line.now ++ 10 ∷ [])) result) }
+    ensures bytes { Writes O.delivered O.pending writer.old writer.new (WritesAll (front.now ++ (line.now ++ 10 ∷ [])) result) }
     ensures faults { IfErr result (λ fault. fault ≡ WriteFailed) }
 {
     write_all(writer, front)?;
@@ -100,8 +96,7 @@ pub(crate) fn answer_counts<O: ByteWriter>(
 ) -> Result<(), RunFault>
     ensures failures { O.failures writer.new ≡ O.failures writer.old + failed_writes result }
     ensures delivered { OnlyGrows (O.delivered writer.old) (O.delivered writer.new) }
-    ensures bytes { Grows (written (O.delivered writer.old) (O.pending writer.old)) (written (O.delivered writer.new) (O.pending writer.new))
-        (WritesAll (last_report (holding rodeo.now.texts rodeo.now.account)) result) }
+    ensures bytes { Writes O.delivered O.pending writer.old writer.new (WritesAll (last_report (held_by rodeo.now)) result) }
     ensures faults { IfErr result (λ fault. fault ≡ WriteFailed) }
 {
     write_number(writer, rodeo.len())?;
@@ -114,8 +109,7 @@ pub(crate) fn answer_counts<O: ByteWriter>(
 fn write_number<O: ByteWriter>(writer: &mut O, number: usize) -> Result<(), RunFault>
     ensures failures { O.failures writer.new ≡ O.failures writer.old + failed_writes result }
     ensures delivered { OnlyGrows (O.delivered writer.old) (O.delivered writer.new) }
-    ensures bytes { Grows (written (O.delivered writer.old) (O.pending writer.old)) (written (O.delivered writer.new) (O.pending writer.new))
-        (WritesAll (decimal number) result) }
+    ensures bytes { Writes O.delivered O.pending writer.old writer.new (WritesAll (decimal number) result) }
     ensures faults { IfErr result (λ fault. fault ≡ WriteFailed) }
 {
     let mut digits = Buffer::new();
@@ -126,8 +120,7 @@ fn write_number<O: ByteWriter>(writer: &mut O, number: usize) -> Result<(), RunF
 fn write_all<O: ByteWriter>(writer: &mut O, bytes: &[u8]) -> Result<(), RunFault>
     ensures failures { O.failures writer.new ≡ O.failures writer.old + failed_writes result }
     ensures delivered { OnlyGrows (O.delivered writer.old) (O.delivered writer.new) }
-    ensures bytes { Grows (written (O.delivered writer.old) (O.pending writer.old)) (written (O.delivered writer.new) (O.pending writer.new))
-        (WritesAll bytes.now result) }
+    ensures bytes { Writes O.delivered O.pending writer.old writer.new (WritesAll bytes.now result) }
     ensures faults { IfErr result (λ fault. fault ≡ WriteFailed) }
 {
     let mut rest = bytes;

@@ -1,9 +1,10 @@
 //! Parses the program's arguments.
 ghost use Rattle.std.specs.Prelude.{◌≡◌, Some, None, map, string_bytes, OnErr, IfOk, IfErr, option_map};
 ghost use Rattle.std.specs.Result.{result_ok};
-ghost use Rattle.lasso_lines.specs.Arguments.{settings_of, limited, worked, both, number_of};
+ghost use Rattle.lasso_lines.specs.Arguments.{settings_of, limited, worked, both};
 
 use crate::fault::RunFault;
+use lasso_input::parse_digits;
 
 /// The greatest number of workers.
 pub const MOST_WORKERS: usize = 64;
@@ -48,7 +49,7 @@ pub fn arguments(words: &[String]) -> Result<Settings, RunFault>
 fn limited(limit: &str) -> Option<Settings>
     ensures { option_map (λ s. (s.limit, s.workers)) result ≡ limited limit.now }
 {
-    let limit = parse_number(limit)?;
+    let limit = parse_digits(limit.as_bytes())?;
     Some(Settings {
         limit,
         workers: None,
@@ -59,7 +60,7 @@ fn limited(limit: &str) -> Option<Settings>
 fn worked(limit: usize, workers: &str) -> Option<Settings>
     ensures { option_map (λ s. (s.limit, s.workers)) result ≡ worked limit workers.now }
 {
-    let workers = parse_number(workers)?;
+    let workers = parse_digits(workers.as_bytes())?;
     if workers == 0 || workers > MOST_WORKERS {
         return None;
     }
@@ -73,25 +74,5 @@ fn worked(limit: usize, workers: &str) -> Option<Settings>
 fn both(limit: &str, workers: &str) -> Option<Settings>
     ensures { option_map (λ s. (s.limit, s.workers)) result ≡ both limit.now workers.now }
 {
-    worked(parse_number(limit)?, workers)
-}
-
-// Parses 1 to 20 digits. `None` for any other word, and for a value of 2^64 or more.
-fn parse_number(word: &str) -> Option<usize>
-    ensures { result ≡ number_of word.now }
-{
-    let digits = word.as_bytes();
-    if digits.is_empty() || digits.len() > 20 {
-        return None;
-    }
-    let mut value = 0usize;
-    for digit in digits {
-        if !digit.is_ascii_digit() {
-            return None;
-        }
-        value = value
-            .checked_mul(10)?
-            .checked_add(usize::from(*digit - b'0'))?;
-    }
-    Some(value)
+    worked(parse_digits(limit.as_bytes())?, workers)
 }

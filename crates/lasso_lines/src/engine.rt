@@ -1,7 +1,7 @@
 //! The engine: reads bytes and writes the report of their lines.
 ghost use Rattle.std.specs.Prelude.{◌≡◌, ℕ, ◌+◌, ◌<◌, List, [], Some, Err, OnOk, IfErr};
-ghost use Rattle.lasso_lines.specs.Stream.{Grows, OnlyGrows, Stays, Ended, written};
-ghost use Rattle.lasso_lines.specs.Report.{Ends, EndsFrom, holding, first_bytes};
+ghost use Rattle.lasso_lines.specs.Stream.{OnlyGrows, Stays, Ended, Keeps, Writes};
+ghost use Rattle.lasso_lines.specs.Report.{Ends, EndsFrom, held_by, first_bytes};
 ghost use Rattle.lasso_lines.specs.Answer.{IsStreamFault, IsAnswerFault, last_lines, failed_reads, failed_writes};
 ghost use Rattle.lasso_input.specs.Lines.{NoFeed};
 ghost use Rattle.lasso_lines.specs.declared.fault.RunFault.TheVariants.{Usage, ReadFailed, WriteFailed};
@@ -31,8 +31,7 @@ pub fn run<R: AllocGlobal + Wait, I: ByteReader, O: ByteWriter>(
     limits: MemoryLimits,
 ) -> Result<(), RunFault>
     ensures report { (input : List ℕ) → I.left reader.old ≡ Some input →
-        Grows (written (O.delivered writer.old) (O.pending writer.old)) (written (O.delivered writer.new) (O.pending writer.new))
-        (λ part. Ends input limits part result) }
+        Writes O.delivered O.pending writer.old writer.new (λ part. Ends input limits part result) }
     ensures whole { OnOk result (Ended (I.left reader.old) (I.left reader.new)) }
     ensures reads { I.failures reader.new ≡ I.failures reader.old + failed_reads result }
     ensures writes { O.failures writer.new ≡ O.failures writer.old + failed_writes result }
@@ -56,8 +55,7 @@ fn answer_input<R: AllocGlobal + Wait, I: ByteReader, O: ByteWriter>(
     limits: MemoryLimits,
 ) -> Result<(), RunFault>
     ensures report { (input : List ℕ) → I.left reader.old ≡ Some input →
-        Grows (written (O.delivered writer.old) (O.pending writer.old)) (written (O.delivered writer.new) (O.pending writer.new))
-        (λ part. Ends input limits part result) }
+        Writes O.delivered O.pending writer.old writer.new (λ part. Ends input limits part result) }
     ensures whole { OnOk result (Ended (I.left reader.old) (I.left reader.new)) }
     ensures reads { I.failures reader.new ≡ I.failures reader.old + failed_reads result }
     ensures writes { O.failures writer.new ≡ O.failures writer.old + failed_writes result }
@@ -97,7 +95,7 @@ fn ask_for_more<I: ByteReader, O: ByteWriter>(
     ensures writes { O.failures writer.new ≡ O.failures writer.old + failed_writes result }
     ensures left { Stays (I.left reader.old) (I.left reader.new) }
     ensures end { OnOk result (I.at_hand reader.new ≡ [] → Ended (I.left reader.old) (I.left reader.new)) }
-    ensures written { Stays (written (O.delivered writer.old) (O.pending writer.old)) (written (O.delivered writer.new) (O.pending writer.new)) }
+    ensures written { Keeps O.delivered O.pending writer.old writer.new }
     ensures delivered { OnlyGrows (O.delivered writer.old) (O.delivered writer.new) }
     ensures flushed { ¬ (result ≡ Err WriteFailed) → O.pending writer.new ≡ Some [] }
     ensures faults { IfErr result IsStreamFault }
@@ -123,8 +121,7 @@ fn answer_end<R: Wait, O: ByteWriter>(
     requires first { rodeo.old.first ≡ first_bytes }
     ensures failures { O.failures writer.new ≡ O.failures writer.old + failed_writes result }
     ensures delivered { OnlyGrows (O.delivered writer.old) (O.delivered writer.new) }
-    ensures answers { Grows (written (O.delivered writer.old) (O.pending writer.old)) (written (O.delivered writer.new) (O.pending writer.new))
-        (λ part. EndsFrom (holding rodeo.old.texts rodeo.old.account) number (last_lines line.now) part result) }
+    ensures answers { Writes O.delivered O.pending writer.old writer.new (λ part. EndsFrom (held_by rodeo.old) number (last_lines line.now) part result) }
     ensures faults { IfErr result IsAnswerFault }
 {
     if line.is_empty() {
@@ -138,7 +135,7 @@ fn answer_end<R: Wait, O: ByteWriter>(
 pub(crate) fn flush_all<O: ByteWriter>(writer: &mut O) -> Result<(), RunFault>
     ensures failures { O.failures writer.new ≡ O.failures writer.old + failed_writes result }
     ensures delivered { OnlyGrows (O.delivered writer.old) (O.delivered writer.new) }
-    ensures written { Stays (written (O.delivered writer.old) (O.pending writer.old)) (written (O.delivered writer.new) (O.pending writer.new)) }
+    ensures written { Keeps O.delivered O.pending writer.old writer.new }
     ensures all { OnOk result (O.pending writer.new ≡ Some []) }
     ensures faults { IfErr result (λ fault. fault ≡ WriteFailed) }
 {

@@ -7,7 +7,6 @@ mod answers;
 pub mod arguments;
 mod cutting;
 pub mod engine;
-pub mod failures;
 pub mod fault;
 mod ordered;
 pub mod program;

@@ -2,8 +2,8 @@
 ghost use Rattle.std.specs.Prelude.{◌≡◌, ◌+◌, ◌++◌, ◌∷◌, [], true, false, ◌↔◌, ◌<◌, ℕ, Some, OnOk, IfOk, IfErr, Err, All, Contains, length, map, slice_index_or, vec_len, if◌then◌else◌};
 ghost use mathlib.Core.List.{IsPrefix};
 ghost use Rattle.lasso_log.specs.Views.{PassView, InternerId, list_of};
-ghost use Rattle.lasso_lines.specs.Stream.{Grows, OnlyGrows, Stays, written};
-ghost use Rattle.lasso_lines.specs.Answer.{IsEndFault, WritesAll, failed_writes};
+ghost use Rattle.lasso_lines.specs.Stream.{OnlyGrows, Writes};
+ghost use Rattle.lasso_lines.specs.Answer.{IsEndFault, OnWriteFailed, WritesAll, failed_writes};
 ghost use Rattle.lasso_lines.specs.Fronts.{IsFronted};
 ghost use Rattle.lasso_lines.specs.Ordered.{told, AreNamed, WritesNamed, BeginsNamed};
 ghost use Rattle.lasso_lines.specs.declared.fault.RunFault.TheVariants.{WriteFailed};
@@ -37,10 +37,8 @@ pub(crate) fn write_in_order<R: AllocGlobal + Threads + Sync, O: ByteWriter>(
     ensures refused { IfErr result (λ fault. ¬ (fault ≡ WriteFailed) → writer.new ≡ writer.old) }
     ensures faults { IfErr result IsEndFault }
     ensures grows { IsPrefix (list_of rodeo.now pass.old.notes) (list_of rodeo.now pass.new.notes) }
-    ensures texts { OnOk result (Grows (written (O.delivered writer.old) (O.pending writer.old)) (written (O.delivered writer.new) (O.pending writer.new))
-        (WritesNamed (list_of rodeo.now pass.new.notes) codes.now)) }
-    ensures begins { IfErr result (λ fault. fault ≡ WriteFailed → Grows (written (O.delivered writer.old) (O.pending writer.old)) (written (O.delivered writer.new) (O.pending writer.new))
-        (BeginsNamed (list_of rodeo.now pass.new.notes) codes.now)) }
+    ensures texts { OnOk result (Writes O.delivered O.pending writer.old writer.new (WritesNamed (list_of rodeo.now pass.new.notes) codes.now)) }
+    ensures begins { OnWriteFailed result (Writes O.delivered O.pending writer.old writer.new (BeginsNamed (list_of rodeo.now pass.new.notes) codes.now)) }
 {
     let mut texts = collect(rt, rodeo, pass, codes)?;
     sort(rt, &mut texts, threads);
@@ -121,8 +119,7 @@ fn mark(marks: &mut [bool], at: usize)
 fn write_texts<O: ByteWriter>(writer: &mut O, texts: &[Fronted<'_>]) -> Result<(), RunFault>
     ensures writes { O.failures writer.new ≡ O.failures writer.old + failed_writes result }
     ensures delivered { OnlyGrows (O.delivered writer.old) (O.delivered writer.new) }
-    ensures texts { Grows (written (O.delivered writer.old) (O.pending writer.old)) (written (O.delivered writer.new) (O.pending writer.new))
-        (WritesAll (told (map (λ p. p.1.now) texts.now)) result) }
+    ensures texts { Writes O.delivered O.pending writer.old writer.new (WritesAll (told (map (λ p. p.1.now) texts.now)) result) }
     ensures faults { IfErr result (λ fault. fault ≡ WriteFailed) }
 {
     'lines: for (_, text) in texts {

@@ -1,13 +1,12 @@
 //! The program, given its arguments, a reader and a writer.
-ghost use Rattle.std.specs.Prelude.{◌≡◌, ℕ, ◌+◌, List, [], Option, Some, None, Err, OnOk, IfErr, map, string_bytes};
-ghost use Rattle.lasso_lines.specs.Stream.{Grows, OnlyGrows, Stays, Ended, written};
+ghost use Rattle.std.specs.Prelude.{◌≡◌, ℕ, ◌+◌, [], Option, Some, None, Err, OnOk, IfErr, map, string_bytes};
+ghost use Rattle.lasso_lines.specs.Stream.{OnlyGrows, Ended, Keeps, Writes};
 ghost use Rattle.lasso_lines.specs.Report.{Ends};
-ghost use Rattle.lasso_lines.specs.Answer.{failed_reads, failed_writes};
-ghost use Rattle.lasso_lines.specs.Arguments.{settings_of};
+ghost use Rattle.lasso_lines.specs.Answer.{OnWriteFailed, failed_reads, failed_writes};
+ghost use Rattle.lasso_lines.specs.Arguments.{SetWorkers, WithWorkers, WithoutWorkers, settings_of};
 ghost use Rattle.lasso_lines.specs.LineFaults.{AreTexts, IsFaultOf};
 ghost use Rattle.lasso_lines.specs.Explained.{IsExplainedBy};
 ghost use Rattle.lasso_lines.specs.Ordered.{WritesOrdered, BeginsOrdered};
-ghost use Rattle.lasso_input.specs.Lines.{lines_of};
 ghost use Rattle.lasso_lines.specs.declared.fault.RunFault.TheVariants.{Usage, WriteFailed};
 
 use crate::arguments::{Settings, arguments};
@@ -28,18 +27,17 @@ pub fn run_words<R: AllocGlobal + Threads + Wait + Sync, I: ByteReader, O: ByteW
     writer: &mut O,
 ) -> Result<(), RunFault>
     ensures usage { settings_of (map string_bytes words.now) ≡ None → (result ≡ Err Usage) × (reader.new ≡ reader.old) × (writer.new ≡ writer.old) }
-    ensures report { (limit : ℕ) (input : List ℕ) → settings_of (map string_bytes words.now) ≡ Some (limit, None) → I.left reader.old ≡ Some input →
-        Grows (written (O.delivered writer.old) (O.pending writer.old)) (written (O.delivered writer.new) (O.pending writer.new))
-        (λ part. Ends input limit part result) }
-    ensures nothing_written { (limit workers : ℕ) → settings_of (map string_bytes words.now) ≡ Some (limit, Some workers) →
-        IfErr result (λ fault. ¬ (fault ≡ WriteFailed) → Stays (written (O.delivered writer.old) (O.pending writer.old)) (written (O.delivered writer.new) (O.pending writer.new))) }
-    ensures fault { (limit workers : ℕ) (input : List ℕ) → settings_of (map string_bytes words.now) ≡ Some (limit, Some workers) → I.left reader.old ≡ Some input → IfErr result (IsFaultOf (lines_of input)) }
-    ensures refused { (limit workers : ℕ) (input : List ℕ) → settings_of (map string_bytes words.now) ≡ Some (limit, Some workers) → I.left reader.old ≡ Some input → IfErr result (IsExplainedBy limit (lines_of input)) }
-    ensures texts { (limit workers : ℕ) (input : List ℕ) → settings_of (map string_bytes words.now) ≡ Some (limit, Some workers) → I.left reader.old ≡ Some input → OnOk result (AreTexts (lines_of input)) }
-    ensures lines { (limit workers : ℕ) (input : List ℕ) → settings_of (map string_bytes words.now) ≡ Some (limit, Some workers) → I.left reader.old ≡ Some input →
-        OnOk result (Grows (written (O.delivered writer.old) (O.pending writer.old)) (written (O.delivered writer.new) (O.pending writer.new)) (WritesOrdered (lines_of input))) }
-    ensures begins { (limit workers : ℕ) (input : List ℕ) → settings_of (map string_bytes words.now) ≡ Some (limit, Some workers) → I.left reader.old ≡ Some input →
-        IfErr result (λ fault. fault ≡ WriteFailed → Grows (written (O.delivered writer.old) (O.pending writer.old)) (written (O.delivered writer.new) (O.pending writer.new)) (BeginsOrdered (lines_of input))) }
+    ensures report { WithoutWorkers words.now (I.left reader.old)
+        (λ limit input. Writes O.delivered O.pending writer.old writer.new (λ part. Ends input limit part result)) }
+    ensures nothing_written { (limit workers : ℕ) → SetWorkers words.now limit workers →
+        IfErr result (λ fault. ¬ (fault ≡ WriteFailed) → Keeps O.delivered O.pending writer.old writer.new) }
+    ensures fault { WithWorkers words.now (I.left reader.old) (λ _ lines. IfErr result (IsFaultOf lines)) }
+    ensures refused { WithWorkers words.now (I.left reader.old) (λ limit lines. IfErr result (IsExplainedBy limit lines)) }
+    ensures texts { WithWorkers words.now (I.left reader.old) (λ _ lines. OnOk result (AreTexts lines)) }
+    ensures lines { WithWorkers words.now (I.left reader.old)
+        (λ _ lines. OnOk result (Writes O.delivered O.pending writer.old writer.new (WritesOrdered lines))) }
+    ensures begins { WithWorkers words.now (I.left reader.old)
+        (λ _ lines. OnWriteFailed result (Writes O.delivered O.pending writer.old writer.new (BeginsOrdered lines))) }
     ensures whole { OnOk result (Ended (I.left reader.old) (I.left reader.new)) }
     ensures reads { I.failures reader.new ≡ I.failures reader.old + failed_reads result }
     ensures writes { O.failures writer.new ≡ O.failures writer.old + failed_writes result }

@@ -1,12 +1,10 @@
 //! Gives each worker its lines, and joins what the workers return.
-ghost use Rattle.std.specs.Prelude.{◌≡◌, ◌<◌, ◌≤◌, ◌+◌, ◌++◌, ◌∷◌, List, [], OnOk, IfOk, IfErr, IfSome, IsSomeAnd, MatchResult, None, length, map, vec_len};
+ghost use Rattle.std.specs.Prelude.{◌≡◌, ◌<◌, ◌+◌, ◌++◌, ◌∷◌, [], OnOk, IfOk, IfErr, IsSomeAnd, MatchResult, None, map, vec_len};
 ghost use mathlib.Core.List.{IsPrefix};
-ghost use Rattle.lasso_parts.specs.Texts.{Text};
-ghost use Rattle.lasso_encode.specs.Codes.{AreCodes};
-ghost use Rattle.lasso_encode.specs.Encoding.{spur_at};
+ghost use Rattle.lasso_single.specs.Coding.{spur_at};
 ghost use Rattle.lasso_log.specs.History.{IsLegal};
 ghost use Rattle.lasso_log.specs.Views.{PassView, InternerId, IsSamePass, list_of, seen};
-ghost use Rattle.lasso_lines.specs.Shares.{AreCodesOf, HasCodes, IsLower, IsRefusalIn, IsRefusalOf, IsRefusedBy, IsShareOf};
+ghost use Rattle.lasso_lines.specs.Shares.{AddsCode, AreCodesOf, HasCodes, IsLower, IsRefusalIn, IsRefusalOf, IsRefusedBy, IsShareOf};
 ghost use Rattle.lasso_lines.specs.declared.fault.RunFault.TheVariants.{Refused};
 ghost use Rattle.lasso_parts.specs.declared.util.LassoErrorKind.TheVariants.{FailedAllocation};
 
@@ -165,8 +163,7 @@ fn intern_line<R: Wait>(
     ensures reason { IfErr result (λ refusal. IsRefusalIn rodeo.now.opening (seen pass.new) (line.now ∷ []) refusal.1) }
     ensures grows { IsPrefix (list_of rodeo.now pass.old.notes) (list_of rodeo.now pass.new.notes) }
     ensures one { OnOk result (vec_len codes.new ≡ vec_len codes.old + 1) }
-    ensures coded { (texts : List Text) → AreCodes (list_of rodeo.now pass.old.notes) texts codes.old.items →
-        OnOk result (AreCodes (list_of rodeo.now pass.new.notes) (texts ++ line.now ∷ []) codes.new.items) }
+    ensures coded { OnOk result (AddsCode (list_of rodeo.now pass.old.notes) codes.old.items (list_of rodeo.now pass.new.notes) codes.new.items line.now) }
 {
     let key = match rodeo.try_get_or_intern_as(rt, pass, line) {
         Ok(key) => key,

@@ -1,9 +1,9 @@
 //! Readers and writers of std, each with a large buffer.
-ghost use Rattle.std.specs.Prelude.{◌≡◌, ℕ, ◌+◌, ◌-◌, ◌<◌, ◌≤◌, ◌↔◌, ◌++◌, ◌∷◌, [], false, IsTrue, Some, IfOk, OnOk, MatchResult, drop, take, length, vec_capacity};
-ghost use Rattle.lasso_lines.specs.Stream.{Begins, Grows, Stays, OnlyGrows, written};
+ghost use Rattle.std.specs.Prelude.{◌≡◌, ℕ, ◌+◌, ◌-◌, ◌<◌, ◌≤◌, ◌↔◌, ◌++◌, ◌∷◌, [], false, IsTrue, Some, IfOk, OnOk, drop, length, vec_capacity};
+ghost use Rattle.lasso_lines.specs.Stream.{Grows, Stays, OnlyGrows, Takes, taken};
 
-use crate::failures::Failures;
 use crate::stream::{ByteReader, ByteWriter, StreamError, push_line};
+use lasso_input::failures::Failures;
 use std::alloc::{AllocError, Global};
 use std::io::{Read, Write};
 use std::marker::Model;
@@ -182,8 +182,7 @@ impl<W: Write + Drop> Outgoing<W> {
     // Appends the first of the bytes, those that fit, and returns how many. Sends a full buffer first.
     fn take(&mut self, bytes: &[u8]) -> Result<usize, StreamError>
         ensures delivered { OnlyGrows (W.contents self.old.inner) (W.contents self.new.inner) }
-        ensures written { Grows (written (W.contents self.old.inner) (Some (drop self.old.sent self.old.buffer.items))) (written (W.contents self.new.inner) (Some (drop self.new.sent self.new.buffer.items)))
-            (λ part. MatchResult result (λ n. part ≡ take n bytes.now) (λ _. Begins part bytes.now)) }
+        ensures written { Grows (taken W.contents self.old.inner self.old.sent self.old.buffer) (taken W.contents self.new.inner self.new.sent self.new.buffer) (Takes bytes.now result) }
         ensures count { IfOk result (λ n. n ≤ length bytes.now) }
         ensures progress { IfOk result (λ n. 0 < length bytes.now → 0 < n) }
     {
@@ -198,7 +197,7 @@ impl<W: Write + Drop> Outgoing<W> {
     // Sends the whole buffer, and flushes the inner writer.
     fn flush(&mut self) -> Result<(), StreamError>
         ensures delivered { OnlyGrows (W.contents self.old.inner) (W.contents self.new.inner) }
-        ensures written { Stays (written (W.contents self.old.inner) (Some (drop self.old.sent self.old.buffer.items))) (written (W.contents self.new.inner) (Some (drop self.new.sent self.new.buffer.items))) }
+        ensures written { Stays (taken W.contents self.old.inner self.old.sent self.old.buffer) (taken W.contents self.new.inner self.new.sent self.new.buffer) }
         ensures all { OnOk result (drop self.new.sent self.new.buffer.items ≡ []) }
     {
         self.send()?;
@@ -211,7 +210,7 @@ impl<W: Write + Drop> Outgoing<W> {
     // Sends the buffer if it is full.
     fn make_room(&mut self) -> Result<(), StreamError>
         ensures delivered { OnlyGrows (W.contents self.old.inner) (W.contents self.new.inner) }
-        ensures written { Stays (written (W.contents self.old.inner) (Some (drop self.old.sent self.old.buffer.items))) (written (W.contents self.new.inner) (Some (drop self.new.sent self.new.buffer.items))) }
+        ensures written { Stays (taken W.contents self.old.inner self.old.sent self.old.buffer) (taken W.contents self.new.inner self.new.sent self.new.buffer) }
         ensures room { OnOk result (length self.new.buffer.items < 65536) }
     {
         if self.buffer.len() < BUFFER {
@@ -224,7 +223,7 @@ impl<W: Write + Drop> Outgoing<W> {
     // failed write, the bytes that were not sent stay in the buffer.
     fn send(&mut self) -> Result<(), StreamError>
         ensures delivered { OnlyGrows (W.contents self.old.inner) (W.contents self.new.inner) }
-        ensures written { Stays (written (W.contents self.old.inner) (Some (drop self.old.sent self.old.buffer.items))) (written (W.contents self.new.inner) (Some (drop self.new.sent self.new.buffer.items))) }
+        ensures written { Stays (taken W.contents self.old.inner self.old.sent self.old.buffer) (taken W.contents self.new.inner self.new.sent self.new.buffer) }
         ensures all { OnOk result (self.new.buffer.items ≡ []) }
     {
         while self.sent < self.buffer.len() {

@@ -1,7 +1,7 @@
 //! Readers and writers of bytes. Their contracts say what happens to the bytes, if these are known, and
 //! count the failed calls.
-ghost use Rattle.std.specs.Prelude.{◌≡◌, ℕ, ◌+◌, ◌<◌, ◌≤◌, ◌↔◌, ◌++◌, ◌∷◌, List, [], false, IsTrue, Option, Some, length, drop, take, is_ok, IfOk, OnOk, MatchResult, vec_capacity};
-ghost use Rattle.lasso_lines.specs.Stream.{Begins, Grows, OnlyGrows, Stays, Loses, ComeFirst, Ended, written, failed_calls};
+ghost use Rattle.std.specs.Prelude.{◌≡◌, ℕ, ◌+◌, ◌<◌, ◌≤◌, ◌↔◌, ◌++◌, ◌∷◌, List, [], false, IsTrue, Option, Some, length, drop, IfOk, OnOk, vec_capacity};
+ghost use Rattle.lasso_lines.specs.Stream.{OnlyGrows, Stays, Loses, ComeFirst, Ended, Keeps, Takes, Writes, failed_calls};
 
 /// A call failed. The reader or writer has counted it.
 #[derive(Clone, Copy, Debug, PartialEq, Eq)]
@@ -58,8 +58,7 @@ pub trait ByteWriter {
         ensures room { IsTrue result ↔ (length front.now + length line.now < room self.old) }
         ensures failures { failures self.new ≡ failures self.old }
         ensures delivered { OnlyGrows (delivered self.old) (delivered self.new) }
-        ensures taken { IsTrue result → Grows (written (delivered self.old) (pending self.old)) (written (delivered self.new) (pending self.new))
-            (λ part. part ≡ front.now ++ (line.now ++ 10 ∷ [])) }
+        ensures taken { IsTrue result → Writes delivered pending self.old self.new (λ part. part ≡ front.now ++ (line.now ++ 10 ∷ [])) }
         ensures refused { result ≡ false → self.new ≡ self.old };
 
     /// Takes some bytes from the front, at least one unless there are none, and returns how many. It may
@@ -67,8 +66,7 @@ pub trait ByteWriter {
     fn write(&mut self, bytes: &[u8]) -> Result<usize, StreamError>
         ensures failures { failures self.new ≡ failures self.old + failed_calls result }
         ensures delivered { OnlyGrows (delivered self.old) (delivered self.new) }
-        ensures written { Grows (written (delivered self.old) (pending self.old)) (written (delivered self.new) (pending self.new))
-            (λ part. MatchResult result (λ n. part ≡ take n bytes.now) (λ _. Begins part bytes.now)) }
+        ensures written { Writes delivered pending self.old self.new (Takes bytes.now result) }
         ensures count { IfOk result (λ n. n ≤ length bytes.now) }
         ensures progress { IfOk result (λ n. 0 < length bytes.now → 0 < n) };
 
@@ -76,7 +74,7 @@ pub trait ByteWriter {
     fn flush(&mut self) -> Result<(), StreamError>
         ensures failures { failures self.new ≡ failures self.old + failed_calls result }
         ensures delivered { OnlyGrows (delivered self.old) (delivered self.new) }
-        ensures written { Stays (written (delivered self.old) (pending self.old)) (written (delivered self.new) (pending self.new)) }
+        ensures written { Keeps delivered pending self.old self.new }
         ensures all { OnOk result (pending self.new ≡ Some []) };
 }
 

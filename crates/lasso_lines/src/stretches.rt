@@ -1,10 +1,10 @@
 //! Writes the answers to the lines of a stretch: the bytes in a reader's buffer at one time.
-ghost use Rattle.std.specs.Prelude.{◌≡◌, ℕ, ◌+◌, ◌-◌, drop, ◌<◌, ◌≤◌, ◌∷◌, ◌++◌, OnOk, IfOk, IfErr, MatchResult, length};
-ghost use Rattle.lasso_lines.specs.Stream.{Grows, OnlyGrows, written};
-ghost use Rattle.lasso_lines.specs.Report.{holding, first_bytes};
+ghost use Rattle.std.specs.Prelude.{◌≡◌, ℕ, ◌+◌, ◌<◌, ◌≤◌, ◌++◌, OnOk, IfOk, IfErr, length};
+ghost use Rattle.lasso_lines.specs.Stream.{OnlyGrows, Writes};
+ghost use Rattle.lasso_lines.specs.Report.{first_bytes};
 ghost use Rattle.lasso_lines.specs.Answer.{IsAnswerFault, failed_writes};
 ghost use Rattle.lasso_input.specs.Lines.{NoFeed};
-ghost use Rattle.lasso_lines.specs.Stretch.{LeadsTo, FailsWith};
+ghost use Rattle.lasso_lines.specs.Stretch.{AnswersLines, AnswersStretch, last_of};
 ghost use Rattle.lasso_lines.specs.declared.fault.RunFault.TheVariants.{Refused};
 ghost use Rattle.lasso_parts.specs.declared.util.LassoErrorKind.TheVariants.{FailedAllocation};
 
@@ -33,10 +33,8 @@ pub(crate) fn answer_stretch<R: Wait, O: ByteWriter>(
     ensures first { rodeo.new.first ≡ first_bytes }
     ensures failures { O.failures writer.new ≡ O.failures writer.old + failed_writes result }
     ensures delivered { OnlyGrows (O.delivered writer.old) (O.delivered writer.new) }
-    ensures answers { Grows (written (O.delivered writer.old) (O.pending writer.old)) (written (O.delivered writer.new) (O.pending writer.new))
-        (λ part. MatchResult result
-        (λ next. LeadsTo (holding rodeo.old.texts rodeo.old.account) number (begun.old.items ++ buffer.now) (holding rodeo.new.texts rodeo.new.account) next begun.new.items part)
-        (λ fault. FailsWith (holding rodeo.old.texts rodeo.old.account) number (begun.old.items ++ buffer.now) part fault)) }
+    ensures answers { Writes O.delivered O.pending writer.old writer.new
+        (AnswersStretch rodeo.old number begun.old.items buffer.now rodeo.new begun.new.items result) }
     ensures held { OnOk result (NoFeed begun.new.items) }
     ensures counted { IfOk result (λ next. 0 < next) }
     ensures faults { IfErr result IsAnswerFault }
@@ -72,11 +70,9 @@ pub(crate) fn answer_lines<'a, R: Wait, O: ByteWriter>(
     ensures first { rodeo.new.first ≡ first_bytes }
     ensures failures { O.failures writer.new ≡ O.failures writer.old + failed_writes result }
     ensures delivered { OnlyGrows (O.delivered writer.old) (O.delivered writer.new) }
-    ensures answers { Grows (written (O.delivered writer.old) (O.pending writer.old)) (written (O.delivered writer.new) (O.pending writer.new))
-        (λ part. MatchResult result
-        (λ r. LeadsTo (holding rodeo.old.texts rodeo.old.account) number (first.now ++ 10 ∷ stretch.entry) (holding rodeo.new.texts rodeo.new.account) r.0 (drop (length stretch.entry - r.1) stretch.entry) part)
-        (λ fault. FailsWith (holding rodeo.old.texts rodeo.old.account) number (first.now ++ 10 ∷ stretch.entry) part fault)) }
-    ensures no_feed { IfOk result (λ r. NoFeed (drop (length stretch.entry - r.1) stretch.entry)) }
+    ensures answers { Writes O.delivered O.pending writer.old writer.new
+        (AnswersLines rodeo.old number first.now stretch.entry rodeo.new result) }
+    ensures no_feed { IfOk result (λ r. NoFeed (last_of stretch.entry r.1)) }
     ensures left { IfOk result (λ r. r.1 ≤ length stretch.entry) }
     ensures counted { IfOk result (λ r. 0 < r.0) }
     ensures faults { IfErr result IsAnswerFault }

@@ -1,11 +1,11 @@
 //! A run in which several threads intern the lines, and which writes the distinct lines in order.
 ghost use Rattle.std.specs.Prelude.{◌≡◌, ℕ, ◌+◌, ◌<◌, List, [], Some, Err, OnOk, IfOk, IfErr};
-ghost use Rattle.lasso_encode.specs.Encoding.{spur_at};
+ghost use Rattle.lasso_single.specs.Coding.{spur_at};
 ghost use Rattle.lasso_input.specs.Lines.{lines_of};
 ghost use Rattle.lasso_log.specs.History.{IsLegal};
 ghost use Rattle.lasso_log.specs.Views.{PassView, InternerId, IsSamePass, list_of, seen};
-ghost use Rattle.lasso_lines.specs.Stream.{Grows, OnlyGrows, Stays, Ended, written};
-ghost use Rattle.lasso_lines.specs.Answer.{IsLineFault, failed_reads, failed_writes};
+ghost use Rattle.lasso_lines.specs.Stream.{OnlyGrows, Ended, Keeps, Writes};
+ghost use Rattle.lasso_lines.specs.Answer.{IsLineFault, OnWriteFailed, failed_reads, failed_writes};
 ghost use Rattle.lasso_lines.specs.Ordered.{WritesOrdered, BeginsOrdered};
 ghost use Rattle.lasso_lines.specs.LineFaults.{AreTexts, IsFaultOf};
 ghost use Rattle.lasso_lines.specs.Explained.{begun, IsExplainedIn, IsExplainedBy};
@@ -64,15 +64,15 @@ pub fn run_workers<R: AllocGlobal + Threads + Wait + Sync, I: ByteReader, O: Byt
     ensures writes { O.failures writer.new ≡ O.failures writer.old + failed_writes result }
     ensures nothing_pending { ¬ (result ≡ Err WriteFailed) → O.pending writer.new ≡ Some [] }
     ensures delivered { OnlyGrows (O.delivered writer.old) (O.delivered writer.new) }
-    ensures nothing_written { IfErr result (λ fault. ¬ (fault ≡ WriteFailed) → Stays (written (O.delivered writer.old) (O.pending writer.old)) (written (O.delivered writer.new) (O.pending writer.new))) }
+    ensures nothing_written { IfErr result (λ fault. ¬ (fault ≡ WriteFailed) → Keeps O.delivered O.pending writer.old writer.new) }
     ensures no_usage { ¬ (result ≡ Err Usage) }
     ensures fault { (input : List ℕ) → I.left reader.old ≡ Some input → IfErr result (IsFaultOf (lines_of input)) }
     ensures refused { (input : List ℕ) → I.left reader.old ≡ Some input → IfErr result (IsExplainedBy limits (lines_of input)) }
     ensures texts { (input : List ℕ) → I.left reader.old ≡ Some input → OnOk result (AreTexts (lines_of input)) }
     ensures lines { (input : List ℕ) → I.left reader.old ≡ Some input →
-        OnOk result (Grows (written (O.delivered writer.old) (O.pending writer.old)) (written (O.delivered writer.new) (O.pending writer.new)) (WritesOrdered (lines_of input))) }
+        OnOk result (Writes O.delivered O.pending writer.old writer.new (WritesOrdered (lines_of input))) }
     ensures begins { (input : List ℕ) → I.left reader.old ≡ Some input →
-        IfErr result (λ fault. fault ≡ WriteFailed → Grows (written (O.delivered writer.old) (O.pending writer.old)) (written (O.delivered writer.new) (O.pending writer.new)) (BeginsOrdered (lines_of input))) }
+        OnWriteFailed result (Writes O.delivered O.pending writer.old writer.new (BeginsOrdered (lines_of input))) }
 {
     let workers = workers.max(1);
     flush_all(writer)?;

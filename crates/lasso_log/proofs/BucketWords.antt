@@ -22,7 +22,7 @@ use Rattle.lasso_log.specs.Book.{KeepsRule, May, Lets, Moving, MovesBy, shown_of
 use Rattle.lasso_log.proofs.Histories.{state_past}
 use Rattle.lasso_log.proofs.Legal.{holds_of_history}
 use Rattle.lasso_log.proofs.Lengths.{lent_more, one_more}
-use Rattle.lasso_log.proofs.Words.{words_append}
+use Rattle.lasso_log.proofs.LogWords.{words_append}
 
 -- ---- lists of which one item changes, or which have one more
 

@@ -8,10 +8,10 @@ use denote.RawPtr.{block_of, count_of}
 use denote.Struct.Struct.{Struct}
 use denote.Struct.Owning.{shape}
 use Rattle.lasso_log.specs.Eras.{along, lies}
-use Rattle.lasso_log.specs.contracts.shared_arena.era.Era as Era
-use Rattle.lasso_log.specs.contracts.shared_arena.rights.Free as Free
-use Rattle.lasso_log.specs.contracts.shared_arena.rights.Owed as Owed
-use Rattle.lasso_log.specs.contracts.shared_arena.rights.Lent as Lent
+use Rattle.lasso_log.specs.contracts.shared_memory.era.Era as Era
+use Rattle.lasso_log.specs.contracts.shared_memory.rights.Free as Free
+use Rattle.lasso_log.specs.contracts.shared_memory.rights.Owed as Owed
+use Rattle.lasso_log.specs.contracts.shared_memory.rights.Lent as Lent
 
 along_keyless : (F : ℕ → Fml) → ((k : ℕ) → Keyless (F k)) → (e n : ℕ) → Keyless (along F e n)
 along_keyless F each e zero = tt

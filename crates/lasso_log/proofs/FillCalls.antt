@@ -20,7 +20,7 @@ use Rattle.core.specs.Mem.Slots.{IsFull, SamePlaces}
 use Rattle.core.specs.declared.slots.Slots.{Slots}
 use Rattle.core.proofs.slots.Opens.{row_val, words_val, row_had, row_made}
 use Rattle.lasso_parts.proofs.RowCalls.{byte, Row}
-use Rattle.lasso_log.specs.contracts.shared_arena.rights.filled as filled
+use Rattle.lasso_log.specs.contracts.shared_memory.rights.filled as filled
 
 module _ {M : Type 1} {𝓤 : Ura M} (𝓛 : Logic 𝓤) (at_mem : Memory → SProp 𝓤) (run : Routine → Fun 𝓤) where
   open 𝓛 use {H}

@@ -11,7 +11,7 @@ use Rattle.lasso_log.specs.Book.{May, Moving, MovesBy, Lets, shown_of}
 use Rattle.lasso_log.specs.Events.{IsQuiet, ready}
 use Rattle.lasso_log.proofs.Histories.{state_past, prefix_whole, prefix_tail}
 use Rattle.lasso_log.proofs.Legal.{list_grows}
-use Rattle.lasso_log.proofs.Words.{word_later}
+use Rattle.lasso_log.proofs.LogWords.{word_later}
 
 abbrev HasLength : ℕ → ℕ → List (ℕ × ℕ) → Type 0
 HasLength first now [] = ⊥

@@ -5,7 +5,7 @@ pub mod PenOut
 pub mod PensApart
 pub mod Histories
 pub mod Tickets
-pub mod Words
+pub mod LogWords
 pub mod Lengths
 pub mod LongerLists
 pub mod Steps

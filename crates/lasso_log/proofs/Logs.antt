@@ -8,7 +8,7 @@ use Rattle.lasso_log.specs.Notes.{NoteView, history, opening_of, first_note, not
 use Rattle.lasso_log.specs.Book.{IsUsed, KeepsRule, LogKeepsRule, Peeks, Fetches, Adds, Moving, May, Lets, Moved, IsIn, Reads, shown_of}
 use Rattle.lasso_log.proofs.Histories.{prefix_tail, prefix_trans, prefix_self}
 use Rattle.lasso_log.proofs.Tickets.{still, grown, next_ticket}
-use Rattle.lasso_log.proofs.Words.{word_later}
+use Rattle.lasso_log.proofs.LogWords.{word_later}
 use Rattle.lasso_log.proofs.Steps.{peek_moves, fetch_moves, fetch_used, add_moves, stands}
 
 -- a longer log has the same opening, and more notes

@@ -13,7 +13,7 @@ use Rattle.lasso_log.specs.Events.{bucket_at}
 use Rattle.lasso_log.specs.SharedBuckets.{IsBucketAt}
 use Rattle.lasso_log.proofs.Lengths.{lent_more, one_more}
 use Rattle.lasso_log.proofs.TurnWords.{length_changed}
-use Rattle.lasso_log.proofs.Words.{words_append}
+use Rattle.lasso_log.proofs.LogWords.{words_append}
 
 last_of : {A : Type 0} (xs : List A) (y : A) → slice_get (xs ++ y ∷ []) (length xs) ≡ Some y
 last_of [] y = refl

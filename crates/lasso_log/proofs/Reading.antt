@@ -12,7 +12,7 @@ use Rattle.lasso_log.proofs.Legal.{list_kept}
 use Rattle.lasso_log.proofs.Lined.{stands_still, prefix_short}
 use Rattle.lasso_log.proofs.Lengths.{length_of, same_texts, one_more, text_added}
 use Rattle.lasso_log.proofs.Logs.{either_begins}
-use Rattle.lasso_log.proofs.Words.{head_grown}
+use Rattle.lasso_log.proofs.LogWords.{head_grown}
 
 -- two histories of one interner with lists of one length have one list
 pub same_list : (o : Totals) (a b both : List NoteView) → IsPrefix a both → IsPrefix b both → length (state o a).texts ≡ length (state o b).texts → (state o a).texts ≡ (state o b).texts

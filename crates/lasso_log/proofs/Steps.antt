@@ -11,7 +11,7 @@ use Rattle.lasso_log.specs.Book.{IsHome, Words, Apart, KeepsRule, LogKeepsRule, 
 use Rattle.lasso_log.proofs.Histories.{history_append, state_past, prefix_tail, prefix_self, prefix_trans}
 use Rattle.lasso_log.proofs.Legal.{legal_push}
 use Rattle.lasso_log.proofs.Tickets.{by_cases, not_both, used_still, used_more, used_home, used_later, chained_more, still}
-use Rattle.lasso_log.proofs.Words.{words_get, words_more, words_append, word_later}
+use Rattle.lasso_log.proofs.LogWords.{words_get, words_more, words_append, word_later}
 
 untouched : (cells : List Cell) (k n : ℕ) → cell cells k ≡ (n, true) → set cells k (n, true) ≡ cells
 untouched cells k n is = ap (set cells k) (sym is) ∙ set-get_or cells k (0, false)

@@ -15,7 +15,7 @@ use Rattle.lasso_log.specs.Turns.{IsTurned, IsSameTurn, NoneHasRoom, IsPastLimit
 use Rattle.lasso_log.proofs.BucketWords.{elsewhere, just_here, one_behind}
 use Rattle.lasso_log.proofs.Histories.{state_past}
 use Rattle.lasso_log.proofs.Lengths.{one_more}
-use Rattle.lasso_log.proofs.Words.{words_append, word_later}
+use Rattle.lasso_log.proofs.LogWords.{words_append, word_later}
 
 -- every history has the turn word, at position 1 and with key 1
 pub has_turns : (notes : List NoteView) → IsWord notes 1 1

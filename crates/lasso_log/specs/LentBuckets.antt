@@ -3,7 +3,7 @@ use Rattle.std.specs.Prelude.{◌≡◌, ℕ, ◌+◌, ◌-◌, ◌≤◌, List,
 use base.Fml.{Fml, ftrue, fsep}
 use Rattle.lasso_log.specs.Buckets.{changed_at}
 use Rattle.lasso_log.specs.Eras.{free}
-use Rattle.lasso_log.specs.declared.shared_arena.rights.Free.{Free}
+use Rattle.lasso_log.specs.declared.shared_memory.rights.Free.{Free}
 
 -- where a bucket is: the era that its bytes are lent for, its block of memory, and its first place there
 pub record Site : Type 0 where

@@ -4,7 +4,6 @@ pub mod Replies
 pub mod Calls
 pub mod Laws
 pub mod Chunks
-pub mod Locks
 pub mod Notes
 pub mod Book
 pub mod Events

@@ -1,9 +1,9 @@
 -- What contracts see of a range and of a piece.
 use Rattle.std.specs.Prelude.{◌≡◌, ℕ, ◌^◌, ◌<◌, List, length, IsUtf8}
 use denote.RawPtr.{Ptr, block_ptr}
-use Rattle.lasso_parts.specs.Cells.{LeadsToBlock}
-use Rattle.lasso_log.specs.declared.shared_arena.rights.Free.{Free}
-use Rattle.lasso_log.specs.declared.shared_arena.rights.Lent.{Lent}
+use Rattle.lasso_parts.specs.Block.{LeadsToBlock}
+use Rattle.lasso_log.specs.declared.shared_memory.rights.Free.{Free}
+use Rattle.lasso_log.specs.declared.shared_memory.rights.Lent.{Lent}
 
 -- a range, the right to fill some bytes: the era that they are lent for, and where they are
 pub record RangeView : Type 0 where

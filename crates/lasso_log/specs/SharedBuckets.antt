@@ -11,8 +11,8 @@ use Rattle.lasso_log.specs.Events.{site_at, bucket_at}
 use Rattle.lasso_log.specs.LentBuckets.{Site, LentBucket, IsRightTo}
 use Rattle.lasso_log.specs.Pieces.{RangeView}
 use Rattle.lasso_log.specs.Views.{InternerId}
-use Rattle.lasso_log.specs.declared.shared_arena.rights.Free.{Free}
-use Rattle.lasso_log.specs.declared.shared_arena.rights.Owed.{Owed}
+use Rattle.lasso_log.specs.declared.shared_memory.rights.Free.{Free}
+use Rattle.lasso_log.specs.declared.shared_memory.rights.Owed.{Owed}
 
 -- the bucket whose bytes are owed
 abbrev pub bucket_owed : Owed → LentBucket

@@ -67,7 +67,7 @@ pub record SnapshotView : Type 0 where
 abbrev pub snapshot_view_coded : Coded SnapshotView
 snapshot_view_coded = coded_via (coded× interner_id_coded (coded_list note_coded)) (λ (k : SnapshotView). (k.of, k.notes)) (λ x y e i. record { of = (e i).0; notes = (e i).1 })
 
--- a spine: how many slots it keeps for texts to come, its interner, the notes that it has seen of the list, and the turns
+-- a spine: how many cells it keeps for texts to come, its interner, the notes that it has seen of the list, and the turns
 pub record SpineView : Type 0 where
   pub kept : ℕ
   pub of : InternerId
@@ -82,7 +82,7 @@ abbrev pub IsSameSpine : SpineView → SpineView → Type 0
 IsSameSpine now before = (now.of ≡ before.of) × (now.notes ≡ before.notes)
 
 -- what an append leaves: the one event of its pass, the text last in the list that the spine had seen, a
--- spine that has seen what the pass has, and one slot less
+-- spine that has seen what the pass has, and one cell less
 pub record IsAppended (of : InternerId) (before after : PassView) (spine_before spine_after : SpineView) (text : Text) : Type 0 where
   pub event : Since before.number before.notes after.notes (Append text ∷ [])
   pub list : list_of of after.notes ≡ list_of of spine_before.notes ++ text ∷ []

@@ -12,7 +12,7 @@ pub mod taking;
 
 use crate::chunks::facts::{Lines, found_chunk, found_item};
 use crate::chunks::rule::{HasCells, HasText, InChunks, Listed};
-use crate::shared_arena::era::{Ended, Era};
+use crate::shared_memory::era::{Ended, Era};
 use boxcar::slot::{OnceSlot, SlotRule, Written};
 use boxcar::tag::{Names, Tag};
 use logbook::Seen;

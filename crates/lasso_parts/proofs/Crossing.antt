@@ -2,7 +2,7 @@
 --
 -- What names no thread may go to another: that is what has to be shown of all that a value owns, or, where it
 -- is to be shared, of all that a `&` to it holds. The places of a block own their bytes and the room between
--- them, and lend a `&` to each byte, and bytes go anywhere. A cells_right owns the allocator's token, which goes where
+-- them, and lend a `&` to each byte, and bytes go anywhere. The right to a block owns the allocator's token, which goes where
 -- the allocator goes, and a `&` to it holds nothing. A loan is nothing, or a `&` to each byte of a text, and a
 -- `&` to the loan is that too.
 use Rattle.std.proofs.Common.{ℕ, Bool, true, false, List, [], ◌∷◌}
@@ -18,12 +18,12 @@ use Rattle.core.specs.Mem.Slots.Ownership.{slots, slots_lent, owned}
 use Rattle.core.specs.declared.alloc.Allocator.{Ghosts}
 use Rattle.core.specs.contracts.slots.Slots as row
 use Rattle.std_alloc.proofs.SendSync.{FreesAnywhere, quiet, lies, seen}
-use Rattle.lasso_parts.specs.Cells.{bytes_type}
+use Rattle.lasso_parts.specs.Block.{bytes_type}
 use Rattle.lasso_parts.specs.Loans.{lent_for_ever}
 use Rattle.lasso_parts.specs.Entries.{Source, Copied, Static}
-use Rattle.lasso_parts.specs.contracts.bucket.cells.Cells as cells
-use Rattle.lasso_parts.specs.contracts.bucket.cells.Cells.TheInside as fields
-use Rattle.lasso_parts.specs.contracts.bucket.cells.CellsRight as cells_right
+use Rattle.lasso_parts.specs.contracts.bucket.block.ByteBlock as block
+use Rattle.lasso_parts.specs.contracts.bucket.block.ByteBlock.TheInside as fields
+use Rattle.lasso_parts.specs.contracts.bucket.block.ByteBlockRight as block_right
 use Rattle.lasso_parts.specs.contracts.entries.loan.Loan as loan
 
 byte_send : IsSend u8
@@ -71,20 +71,20 @@ fields_send =
 fields_sync : IsSync fields.the_row
 fields_sync = let O = fields.the_type in record { shared = λ d b o κ. ((struct_sync (owning.shape O) (search sendable, (row_sync, tt))).shared (owning.to O d) b o κ, tt) }
 
-pub cells_send : IsSend cells.the_row
-cells_send = search (sendable, fields_send)
+pub block_send : IsSend block.the_row
+block_send = search (sendable, fields_send)
 
-pub cells_sync : IsSync cells.the_row
-cells_sync = search (sendable, fields_sync)
+pub block_sync : IsSync block.the_row
+block_sync = search (sendable, fields_sync)
 
 module _ (A : RattleType) (heap : Ghosts A.Denot) where
-  pub deed_send : FreesAnywhere A.Denot heap → IsSend (cells_right.the_row A heap)
+  pub deed_send : FreesAnywhere A.Denot heap → IsSend (block_right.the_row A heap)
   deed_send frees =
-      let O = cells_right.the_type A heap in let mark : AllSend (owning.fields O) = (search sendable, tt) in
+      let O = block_right.the_type A heap in let mark : AllSend (owning.fields O) = (search sendable, tt) in
       owning_send O mark (λ d. frees.frees d.alloc (bytes_type d.len) d.at) (λ k. quiet (owning.to O) (exits_of k (owning.fields O)) ((struct_send (owning.shape O) mark).leaving k))
 
-  pub deed_sync : IsSync (cells_right.the_row A heap)
-  deed_sync = let O = cells_right.the_type A heap in record { shared = λ d b o κ. ((struct_sync (owning.shape O) (search sendable, tt)).shared (owning.to O d) b o κ, tt) }
+  pub deed_sync : IsSync (block_right.the_row A heap)
+  deed_sync = let O = block_right.the_type A heap in record { shared = λ d b o κ. ((struct_sync (owning.shape O) (search sendable, tt)).shared (owning.to O d) b o κ, tt) }
 
 lent_keyless : (source : Source) (p : Ptr) → Keyless (lent_for_ever source p)
 lent_keyless (Copied span) p = tt

@@ -25,7 +25,7 @@ pub IsFiled-from_none : (table : Table) → HoldsNone table.slots → IsFiledAny
 IsFiled-from_none table none hash_of texts = record {
   in_list = λ j n e. absurd (none n (j, e));
   reached = λ j n t e g. absurd (none n (j, e));
-  tagged = λ j n t e g. absurd (none n (j, e));
+  fitting = λ j n t e g. absurd (none n (j, e));
 }
 
 pub slice_get-append_left : {A : Type 0} (xs ys : List A) (n : ℕ) → n < length xs → slice_get (xs ++ ys) n ≡ slice_get xs n
@@ -42,7 +42,7 @@ pub IsFiled-append : (hash_of : Text → ℕ) (texts more : List Text) (table : 
 IsFiled-append hash_of texts more table filed = record {
   in_list = λ j n e. let l = filed.in_list j n e in omega (arith, length-append texts more);
   reached = λ j n t e g. filed.reached j n t e (sym (slice_get-append_left texts more n (filed.in_list j n e)) ∙ g);
-  tagged = λ j n t e g. filed.tagged j n t e (sym (slice_get-append_left texts more n (filed.in_list j n e)) ∙ g);
+  fitting = λ j n t e g. filed.fitting j n t e (sym (slice_get-append_left texts more n (filed.in_list j n e)) ∙ g);
 }
 
 -- ---- positions in a distinct list

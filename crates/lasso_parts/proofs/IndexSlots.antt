@@ -1,6 +1,6 @@
 -- What the slots of a table hold, before and after a key goes into an empty one.
 --
--- A key that goes into an empty slot changes that slot and its tag alone: a range that was full stays full, so
+-- A key that goes into an empty slot changes that slot and its fingerprint alone: a range that was full stays full, so
 -- each search that got to a slot still gets there, and the new key is got to where the search for its hash ended.
 -- So the table holds one position more, has one slot more in use, and stays filed.
 use Rattle.std.proofs.Common.{◌≡◌, ◌≢◌, ℕ, zero, suc, ◌+◌, ◌^◌, ◌<◌, ◌≤◌, ◌⊎◌, ◌↔◌, List, [], ◌∷◌, Option, Some, None, length, slice_get, set, replicate, refl, sym, ap, ◌∙◌, subst, inl, inr, arith}
@@ -9,7 +9,7 @@ use Rattle.std.proofs.lemmas.Bool.{cases_lt, cases_eq}
 use Rattle.std.proofs.lemmas.List.{length-set, get_or-set_same, get_or-set_other, get_or_past}
 use Rattle.std.proofs.lemmas.Option.{slice_get_within, same_Some, none-some}
 use Rattle.lasso_parts.specs.Texts.{Text}
-use Rattle.lasso_parts.specs.Index.{Table, slot, used, home, tag_at, tag_of, Holds, IsFull, Reaches, Retags, IsFiled, StaysFiled, load_limit, room}
+use Rattle.lasso_parts.specs.Index.{Table, slot, used, home, fingerprint_at, fingerprint_of, Holds, IsFull, Reaches, SetsFingerprint, IsFiled, StaysFiled, load_limit, room}
 use Rattle.lasso_parts.specs.IndexTable.{IsEntered, IsSlotCount, IsTable}
 
 -- ---- slots
@@ -104,9 +104,9 @@ module _ (xs : List (Option ℕ)) (at m : ℕ) (inside : at < length xs) (free :
       | inr e ↦ (at, get_or-set_same xs at (Some m) None inside ∙ ap Some (sym e))
     ]
 
--- ---- the same beside the tags: position m goes into the empty slot `at`, which gets a tag
+-- ---- the same beside the fingerprints: position m goes into the empty slot `at`, which gets a fingerprint
 
-module _ (old new : Table) (at m tag : ℕ) (inside : at < length old.slots) (free : slot old.slots at ≡ None) (put : new.slots ≡ set old.slots at (Some m)) (retagged : Retags old new at tag) where
+module _ (old new : Table) (at m fingerprint : ℕ) (inside : at < length old.slots) (free : slot old.slots at ≡ None) (put : new.slots ≡ set old.slots at (Some m)) (fingerprint_set : SetsFingerprint old new at fingerprint) where
   new_cases : (j : ℕ) → ((j ≡ at) × (slot new.slots j ≡ Some m)) ⊎ ((j ≢ at) × (slot new.slots j ≡ slot old.slots j))
   new_cases j = subst (λ xs. ((j ≡ at) × (slot xs j ≡ Some m)) ⊎ ((j ≢ at) × (slot xs j ≡ slot old.slots j))) (sym put) (slot_cases old.slots at m inside free j)
 
@@ -114,8 +114,8 @@ module _ (old new : Table) (at m tag : ℕ) (inside : at < length old.slots) (fr
   new_reached a j r =
       subst (λ xs. Reaches xs (home (length xs) a) j) (sym put) (subst (λ k. Reaches (set old.slots at (Some m)) (home k a) j) (sym (length-set old.slots at (Some m))) (Reaches-set old.slots at m inside free _ j r))
 
-  IsFiled-set : (hash_of : Text → ℕ) (texts : List Text) (text : Text) → IsFiled hash_of texts old → slice_get texts m ≡ Some text → Reaches old.slots (home (length old.slots) (hash_of text)) at → tag ≡ tag_of (hash_of text) → IsFiled hash_of texts new
-  IsFiled-set hash_of texts text f here r tagged = record {
+  IsFiled-set : (hash_of : Text → ℕ) (texts : List Text) (text : Text) → IsFiled hash_of texts old → slice_get texts m ≡ Some text → Reaches old.slots (home (length old.slots) (hash_of text)) at → fingerprint ≡ fingerprint_of (hash_of text) → IsFiled hash_of texts new
+  IsFiled-set hash_of texts text f here r fitting = record {
     in_list = λ j n e. elim (new_cases j) [
       | inl w ↦ subst (λ k. k < length texts) (same_Some m n (sym w.1 ∙ e)) (slice_get_within texts m text here)
       | inr w ↦ f.in_list j n (sym w.1 ∙ e)
@@ -126,11 +126,11 @@ module _ (old new : Table) (at m tag : ℕ) (inside : at < length old.slots) (fr
           subst (λ i. Reaches old.slots (home (length old.slots) (hash_of t)) i) (sym w.0) (subst (λ s. Reaches old.slots (home (length old.slots) (hash_of s)) at) same r)
       | inr w ↦ f.reached j n t (sym w.1 ∙ e) g
     ]);
-    tagged = λ j n t e g. elim (new_cases j) [
+    fitting = λ j n t e g. elim (new_cases j) [
       | inl w ↦
           let same : text ≡ t = same_Some text t (sym here ∙ ap (slice_get texts) (same_Some m n (sym w.1 ∙ e)) ∙ g) in
-          ap (tag_at new) w.0 ∙ retagged.0 ∙ tagged ∙ ap (λ s. tag_of (hash_of s)) same
-      | inr w ↦ retagged.1 j w.0 ∙ f.tagged j n t (sym w.1 ∙ e) g
+          ap (fingerprint_at new) w.0 ∙ fingerprint_set.0 ∙ fitting ∙ ap (λ s. fingerprint_of (hash_of s)) same
+      | inr w ↦ fingerprint_set.1 j w.0 ∙ f.fitting j n t (sym w.1 ∙ e) g
     ];
   }
 
@@ -141,9 +141,9 @@ module _ (old new : Table) (at m tag : ℕ) (inside : at < length old.slots) (fr
     len = ap length put ∙ length-set old.slots at (Some m);
   }
 
-  pub StaysFiled-entered : (hash : ℕ) → tag ≡ tag_of hash → Reaches old.slots (home (length old.slots) hash) at → StaysFiled hash m old new
-  StaysFiled-entered hash tagged r hash_of texts text filed here hashed =
-      IsFiled-set hash_of texts text filed here (subst (λ h. Reaches old.slots (home (length old.slots) h) at) hashed r) (tagged ∙ ap tag_of hashed)
+  pub StaysFiled-entered : (hash : ℕ) → fingerprint ≡ fingerprint_of hash → Reaches old.slots (home (length old.slots) hash) at → StaysFiled hash m old new
+  StaysFiled-entered hash fitting r hash_of texts text filed here hashed =
+      IsFiled-set hash_of texts text filed here (subst (λ h. Reaches old.slots (home (length old.slots) h) at) hashed r) (fitting ∙ ap fingerprint_of hashed)
 
 -- ---- a position goes into a table that has room, which is the value v
 

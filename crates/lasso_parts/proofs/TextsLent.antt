@@ -27,7 +27,7 @@ use Rattle.core.specs.Mem.Slots.Ownership.{slots_lent}
 use Rattle.core.specs.declared.slots.Slots.{Slots}
 use Rattle.lasso_parts.specs.Arena.{region_at, text_at}
 use Rattle.lasso_parts.specs.Bucket.{Extent}
-use Rattle.lasso_parts.specs.Cells.{AreFilled, LeadsToBlock}
+use Rattle.lasso_parts.specs.Block.{AreFilled, LeadsToBlock}
 use Rattle.lasso_parts.specs.Loans.{lent}
 use Rattle.lasso_parts.specs.Entries.{Source, LentText, Copied, Static, AreWordsOf, IsLent, IsWhole, LiesAt, source_len, source_text, lent_bytes}
 use Rattle.lasso_parts.specs.contracts.bucket.region.Region.{the_row as Part}
@@ -68,7 +68,7 @@ module _ {M : Type 1} {𝓤 : Ura M} (𝓛 : Logic 𝓤) (κ : Lft) where
       qed 𝓛 (‵ (shared_of Part r rb ro κ) ∷ []) ∵ fpick ! (λ x. fsplit ! $ fsplit ! $ fsplit ! $ fpick ! (λ y. let d = y.0 in
       fsplit ! $ fsplit ! $ fsplit ! $ fsplit ! $ move ! (1 ∷ []) $ fsplit ! $ fsplit ! $ move ! (1 ∷ []) $ fsplit ! $ flt_l ! (λ small.
       -- [what the row lends; ..]
-      let cells : Slots ℕ = x.0.cells in let used : ℕ = x.0.used in let xs : List ℕ = d.slots.items in
+      let block : Slots ℕ = x.0.block in let used : ℕ = x.0.used in let xs : List ℕ = d.slots.items in
       let b : ℕ = block_of d.ptr in let o : ℕ = count_of d.ptr in
       let begins : d.slots.ptr ≡ block_ptr b o = sym y.1.1.0 ∙ y.1.1.1 in
       let lies : block_ptr b o ≡ r.at = sym begins ∙ ap slots_ptr y.1.0 ∙ ap (λ (e : Extent). e.at) x.1.0 in

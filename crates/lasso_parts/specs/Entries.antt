@@ -5,7 +5,7 @@ use Rattle.std.specs.Prelude.{◌≡◌, ℕ, ◌^◌, ◌<◌, List, [], length
 use denote.RawPtr.{Ptr, null_ptr}
 use Rattle.lasso_parts.specs.Texts.{Text}
 use Rattle.lasso_parts.specs.Bucket.{Extent}
-use Rattle.lasso_parts.specs.Cells.{LeadsToBlock}
+use Rattle.lasso_parts.specs.Block.{LeadsToBlock}
 use Rattle.lasso_parts.specs.Arena.{text_at, address_of, IsStored}
 use Rattle.lasso_parts.specs.declared.arena.Span.{Span}
 

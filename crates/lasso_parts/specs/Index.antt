@@ -3,22 +3,22 @@
 use Rattle.std.specs.Prelude.{◌≡◌, ◌≢◌, ℕ, ◌+◌, ◌-◌, ◌*◌, ◌/◌, ◌%◌, ◌^◌, ◌<◌, ◌≤◌, ◌⊎◌, ◌↔◌, List, Option, Some, None, [], ◌∷◌, length, slice_index_or, slice_get, bit_and, nat_eq, if◌then◌else◌}
 use Rattle.lasso_parts.specs.Texts.{Text, IsDistinct}
 
--- slots, each empty or with a position, and a tag for each
+-- slots, each empty or with a position, and a fingerprint for each
 pub record Table : Type 0 where
   pub slots : List (Option ℕ)
-  pub tags : List ℕ
+  pub fingerprints : List ℕ
 
--- the tag of the slot of that number
-abbrev pub tag_at : Table → ℕ → ℕ
-tag_at table j = slice_index_or table.tags j 0
+-- the fingerprint of the slot of that number
+abbrev pub fingerprint_at : Table → ℕ → ℕ
+fingerprint_at table j = slice_index_or table.fingerprints j 0
 
--- the tag of a text with that hash, which is not 0: the seven bits below its four highest, and one more
-abbrev pub tag_of : ℕ → ℕ
-tag_of hash = hash / 2 ^ 53 % 128 + 1
+-- the fingerprint of a text with that hash, which is not 0: the seven bits below its four highest, and one more
+abbrev pub fingerprint_of : ℕ → ℕ
+fingerprint_of hash = hash / 2 ^ 53 % 128 + 1
 
--- one slot got that tag, and the others kept theirs
-abbrev pub Retags : Table → Table → ℕ → ℕ → Type 0
-Retags old new at tag = (tag_at new at ≡ tag) × ((j : ℕ) → j ≢ at → tag_at new j ≡ tag_at old j)
+-- one slot got that fingerprint, and the others kept theirs
+abbrev pub SetsFingerprint : Table → Table → ℕ → ℕ → Type 0
+SetsFingerprint old new at fingerprint = (fingerprint_at new at ≡ fingerprint) × ((j : ℕ) → j ≢ at → fingerprint_at new j ≡ fingerprint_at old j)
 
 -- the slot of that number, counted from 0
 abbrev pub slot : List (Option ℕ) → ℕ → Option ℕ
@@ -76,11 +76,11 @@ pub record IsVacant (hash at : ℕ) (xs : List (Option ℕ)) : Type 0 where
 abbrev pub IsVacancy : ℕ → ℕ → List (Option ℕ) → Type 0
 IsVacancy hash at xs = 0 < length xs → IsVacant hash at xs
 
--- each position that the index holds is in the list, the search for its text gets there, and finds the tag of its hash
+-- each position that the index holds is in the list, the search for its text gets there, and finds the fingerprint of its hash
 pub record IsFiled (hash_of : Text → ℕ) (texts : List Text) (table : Table) : Type 0 where
   pub in_list : (j n : ℕ) → slot table.slots j ≡ Some n → n < length texts
   pub reached : (j n : ℕ) (text : Text) → slot table.slots j ≡ Some n → slice_get texts n ≡ Some text → Reaches table.slots (home (length table.slots) (hash_of text)) j
-  pub tagged : (j n : ℕ) (text : Text) → slot table.slots j ≡ Some n → slice_get texts n ≡ Some text → tag_at table j ≡ tag_of (hash_of text)
+  pub fitting : (j n : ℕ) (text : Text) → slot table.slots j ≡ Some n → slice_get texts n ≡ Some text → fingerprint_at table j ≡ fingerprint_of (hash_of text)
 
 -- the index is filed under any list and any hasher, as one that holds nothing is
 abbrev pub IsFiledAnywhere : Table → Type 0

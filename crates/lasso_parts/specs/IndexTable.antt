@@ -1,7 +1,7 @@
 -- What the table of an index keeps, and what the functions below its public calls say.
 use Rattle.std.specs.Prelude.{◌≡◌, ◌≢◌, ℕ, ◌+◌, ◌^◌, ◌<◌, ◌≤◌, ◌⊎◌, ◌↔◌, List, Option, Some, length, slice_get}
 use Rattle.lasso_parts.specs.Texts.{Text}
-use Rattle.lasso_parts.specs.Index.{Table, slot, used, load_limit, tag_at, Holds, IsFiled}
+use Rattle.lasso_parts.specs.Index.{Table, slot, used, load_limit, fingerprint_at, Holds, IsFiled}
 
 -- no slot, or a power of two of them
 abbrev pub IsSlotCount : ℕ → Type 0
@@ -21,9 +21,9 @@ AllInList texts xs = (j n : ℕ) → slot xs j ≡ Some n → n < length texts
 abbrev pub Misses : List Text → Text → List (Option ℕ) → ℕ → ℕ → Type 0
 Misses texts text xs from to = (j n : ℕ) → from ≤ j → j < to → slot xs j ≡ Some n → slice_get texts n ≢ Some text
 
--- a slot that has the text has the tag
-abbrev pub HaveTag : List Text → Text → ℕ → Table → Type 0
-HaveTag texts text tag table = (j n : ℕ) → slot table.slots j ≡ Some n → slice_get texts n ≡ Some text → tag_at table j ≡ tag
+-- a slot that has the text has the fingerprint
+abbrev pub HaveFingerprint : List Text → Text → ℕ → Table → Type 0
+HaveFingerprint texts text fingerprint table = (j n : ℕ) → slot table.slots j ≡ Some n → slice_get texts n ≡ Some text → fingerprint_at table j ≡ fingerprint
 
 -- a position went into a slot that was empty
 pub record IsEntered (n : ℕ) (old new : Table) : Type 0 where

@@ -4,9 +4,9 @@ use Rattle.lasso_parts.specs.Errors.{error_text}
 use Rattle.lasso_parts.specs.declared.json.error.JsonError.{JsonError}
 use Rattle.lasso_parts.specs.declared.json.error.JsonError.TheVariants.{NotAnArray, NotText, Doubled, TooMany, NotAnObject, NotAPosition, Taken, Lasso, NotAKey}
 
--- `Item at`, and what is wrong with it
+-- `item at`, and what is wrong with it
 abbrev pub item_fault_text : ℕ → List ℕ → List ℕ
-item_fault_text at fault = codes "Item " ++ (decimal at ++ fault)
+item_fault_text at fault = codes "item " ++ (decimal at ++ fault)
 
 -- the text of a fault
 abbrev pub json_error_text : JsonError → List ℕ

@@ -18,7 +18,7 @@ pub mod Doubled
 pub mod Placements
 pub mod Places
 pub mod Waste
-pub mod Cells
+pub mod Block
 pub mod Entries
 pub mod Short
 pub mod Loans

@@ -3,7 +3,7 @@
 ghost use Rattle.std.specs.Prelude.{◌≡◌, ◌+◌, ◌<◌, ◌≤◌, ◌↔◌, ◌++◌, [], length, slice_range, IfOk, IfErr, IsTrue, IsUtf8};
 ghost use Rattle.lasso_parts.specs.declared.util.LassoErrorKind.TheVariants.{FailedAllocation};
 
-pub mod cells;
+pub mod block;
 pub mod region;
 
 use crate::util::LassoResult;

@@ -1,7 +1,7 @@
 //! `Index`, from a text to its position in a list that another owns.
 ghost use Rattle.std.specs.Prelude.{◌≡◌, ◌≢◌, ℕ, ◌+◌, ◌<◌, ◌≤◌, ◌⊎◌, ◌↔◌, length, slice_get, Some, IfSome, IfNone, OnOk, OnErr, IsTrue, IfOk, IfErr, IsOk, MatchResult, None};
 ghost use Rattle.lasso_parts.specs.declared.util.LassoErrorKind.TheVariants.{FailedAllocation};
-ghost use Rattle.lasso_parts.specs.Hashing.{text_hash};
+ghost use Rattle.lasso_parts.specs.Hashing.{hash_by};
 ghost use Rattle.lasso_parts.specs.Index.{Holds, HoldsNone, IsFiled, IsFiledAnywhere, IsVacancy, StaysFiled, IsIndexOf, IsFewest, used, room, grown_count};
 ghost use Rattle.lasso_parts.specs.Texts.{position_of, Fits};
 
@@ -18,7 +18,7 @@ use crate::util::{LassoError, LassoErrorKind, LassoResult};
 pub use hashing::hash_text;
 use key_slots::KeySlots;
 pub use lists::Texts;
-use probe::{Scan, first_tagged, free_slot, home_slot, scan_slots, tag_of};
+use probe::{Scan, fingerprint_of, first_fitting, free_slot, home_slot, scan_slots};
 use std::alloc::Allocator;
 use std::hash::BuildHasher;
 use std::marker::Model;
@@ -28,7 +28,7 @@ pub use vacancy::Vacancy;
 /// An index from a text to its position: an open-addressed table of keys alone. It has no slots, or a
 /// power of two of them, and at most three quarters are filled. A key's text is read from the list that
 /// the caller shows; the index must be filed under that list and the hasher shown. Contracts see it as
-/// the list of its slots, each empty or a position, and a tag for each.
+/// the list of its slots, each empty or a position, and a fingerprint for each.
 #[derive(Drop)]
 pub struct Index<K: Key, A: Allocator> {
     slots: KeySlots<K, A>,
@@ -82,10 +82,10 @@ impl<K: Key, A: Allocator> Index<K, A> {
     /// every hasher, and takes no memory.
     #[inline]
     pub fn find<T: Texts, S: BuildHasher>(&self, texts: &T, hasher: &S, text: &str) -> Option<usize>
-        requires { IsFiled (text_hash S.build_hasher S.Hasher.write S.Hasher.finish hasher.now) (T.list texts.now) self.now }
+        requires { IsFiled (hash_by S.BuildHasher S.Hasher.Hasher hasher.now) (T.list texts.now) self.now }
         ensures found { IfSome result (λ n. Holds self.now.slots n × (slice_get (T.list texts.now) n ≡ Some text.now)) }
         ensures missing { IfNone result ((n : ℕ) → Holds self.now.slots n → slice_get (T.list texts.now) n ≢ Some text.now) }
-        ensures whole { let hash_of = text_hash S.build_hasher S.Hasher.write S.Hasher.finish hasher.now in IsIndexOf hash_of (T.list texts.now) self.now → result ≡ position_of (T.list texts.now) text.now }
+        ensures whole { let hash_of = hash_by S.BuildHasher S.Hasher.Hasher hasher.now in IsIndexOf hash_of (T.list texts.now) self.now → result ≡ position_of (T.list texts.now) text.now }
     {
         self.find_hashed(texts, hasher, hash_text(hasher, text), text)
     }
@@ -100,11 +100,11 @@ impl<K: Key, A: Allocator> Index<K, A> {
         hash: u64,
         text: &str,
     ) -> Option<usize>
-        requires hashed { hash ≡ text_hash S.build_hasher S.Hasher.write S.Hasher.finish hasher.now text.now }
-        requires filed { IsFiled (text_hash S.build_hasher S.Hasher.write S.Hasher.finish hasher.now) (T.list texts.now) self.now }
+        requires hashed { hash ≡ hash_by S.BuildHasher S.Hasher.Hasher hasher.now text.now }
+        requires filed { IsFiled (hash_by S.BuildHasher S.Hasher.Hasher hasher.now) (T.list texts.now) self.now }
         ensures found { IfSome result (λ n. Holds self.now.slots n × (slice_get (T.list texts.now) n ≡ Some text.now)) }
         ensures missing { IfNone result ((n : ℕ) → Holds self.now.slots n → slice_get (T.list texts.now) n ≢ Some text.now) }
-        ensures whole { let hash_of = text_hash S.build_hasher S.Hasher.write S.Hasher.finish hasher.now in IsIndexOf hash_of (T.list texts.now) self.now → result ≡ position_of (T.list texts.now) text.now }
+        ensures whole { let hash_of = hash_by S.BuildHasher S.Hasher.Hasher hasher.now in IsIndexOf hash_of (T.list texts.now) self.now → result ≡ position_of (T.list texts.now) text.now }
     {
         match self.locate(texts, hasher, hash, text) {
             Ok(position) => Some(position),
@@ -122,12 +122,12 @@ impl<K: Key, A: Allocator> Index<K, A> {
         hash: u64,
         text: &str,
     ) -> Result<usize, Vacancy>
-        requires hashed { hash ≡ text_hash S.build_hasher S.Hasher.write S.Hasher.finish hasher.now text.now }
-        requires filed { IsFiled (text_hash S.build_hasher S.Hasher.write S.Hasher.finish hasher.now) (T.list texts.now) self.now }
+        requires hashed { hash ≡ hash_by S.BuildHasher S.Hasher.Hasher hasher.now text.now }
+        requires filed { IsFiled (hash_by S.BuildHasher S.Hasher.Hasher hasher.now) (T.list texts.now) self.now }
         ensures found { IfOk result (λ n. Holds self.now.slots n × (slice_get (T.list texts.now) n ≡ Some text.now)) }
         ensures missing { IfErr result (λ _. (n : ℕ) → Holds self.now.slots n → slice_get (T.list texts.now) n ≢ Some text.now) }
         ensures vacant { IfErr result (λ vacancy. IsVacancy hash vacancy self.now.slots) }
-        ensures whole { let hash_of = text_hash S.build_hasher S.Hasher.write S.Hasher.finish hasher.now in IsIndexOf hash_of (T.list texts.now) self.now → MatchResult result (λ n. position_of (T.list texts.now) text.now ≡ Some n) (λ _. position_of (T.list texts.now) text.now ≡ None) }
+        ensures whole { let hash_of = hash_by S.BuildHasher S.Hasher.Hasher hasher.now in IsIndexOf hash_of (T.list texts.now) self.now → MatchResult result (λ n. position_of (T.list texts.now) text.now ≡ Some n) (λ _. position_of (T.list texts.now) text.now ≡ None) }
     {
         self.search(texts, hasher, hash, text)
     }
@@ -142,11 +142,11 @@ impl<K: Key, A: Allocator> Index<K, A> {
     ) -> LassoResult<()>
     where
         A: Clone,
-        requires { IsFiled (text_hash S.build_hasher S.Hasher.write S.Hasher.finish hasher.now) (T.list texts.now) self.old }
+        requires { IsFiled (hash_by S.BuildHasher S.Hasher.Hasher hasher.now) (T.list texts.now) self.old }
         ensures room { OnOk result (0 < room self.new.slots) }
         ensures same { (n : ℕ) → Holds self.new.slots n ↔ Holds self.old.slots n }
         ensures used { used self.new.slots ≡ used self.old.slots }
-        ensures filed { IsFiled (text_hash S.build_hasher S.Hasher.write S.Hasher.finish hasher.now) (T.list texts.now) self.new }
+        ensures filed { IsFiled (hash_by S.BuildHasher S.Hasher.Hasher hasher.now) (T.list texts.now) self.new }
         ensures enough { 0 < room self.old.slots → IsOk result × (self.new ≡ self.old) }
         ensures grown { room self.old.slots ≡ 0 → OnOk result (length self.new.slots ≡ grown_count (length self.old.slots)) }
         ensures refused { IfErr result (λ error. error ≡ FailedAllocation) }
@@ -177,12 +177,12 @@ impl<K: Key, A: Allocator> Index<K, A> {
     ) -> LassoResult<Vacancy>
     where
         A: Clone,
-        requires whole { IsIndexOf (text_hash S.build_hasher S.Hasher.write S.Hasher.finish hasher.now) (T.list texts.now) self.old }
+        requires whole { IsIndexOf (hash_by S.BuildHasher S.Hasher.Hasher hasher.now) (T.list texts.now) self.old }
         requires fits { Fits K.key_at (length (T.list texts.now)) }
         requires vacant { IsVacancy hash vacancy self.old.slots }
         ensures vacant { IfOk result (λ at. IsVacancy hash at self.new.slots) }
         ensures room { OnOk result (0 < room self.new.slots) }
-        ensures whole { IsIndexOf (text_hash S.build_hasher S.Hasher.write S.Hasher.finish hasher.now) (T.list texts.now) self.new }
+        ensures whole { IsIndexOf (hash_by S.BuildHasher S.Hasher.Hasher hasher.now) (T.list texts.now) self.new }
         ensures enough { 0 < room self.old.slots → IsOk result × (self.new ≡ self.old) }
         ensures grown { room self.old.slots ≡ 0 → OnOk result (length self.new.slots ≡ grown_count (length self.old.slots)) }
         ensures refused { IfErr result (λ error. error ≡ FailedAllocation) }
@@ -241,7 +241,7 @@ impl<K: Key, A: Allocator> Index<K, A> {
         self.used = 0;
     }
 
-    /// How many bytes the allocator gave for the slots: for the keys, and one byte for the tag of each.
+    /// How many bytes the allocator gave for the slots: for the keys, and one byte for the fingerprint of each.
     pub fn allocated_bytes(&self) -> usize {
         self.slots.allocated_bytes()
     }
@@ -258,7 +258,7 @@ impl<K: Key, A: Allocator> Index<K, A> {
     pub(crate) fn guess(&self, hash: u64) -> Option<usize>
         ensures { IfSome result (λ n. Holds self.now.slots n) }
     {
-        first_tagged(&self.slots, hash)
+        first_fitting(&self.slots, hash)
     }
 
     // What `locate` returns: the search from the home slot up, then below it.
@@ -270,8 +270,8 @@ impl<K: Key, A: Allocator> Index<K, A> {
         hash: u64,
         text: &str,
     ) -> Result<usize, Vacancy>
-        requires hashed { hash ≡ text_hash S.build_hasher S.Hasher.write S.Hasher.finish hasher.now text.now }
-        requires filed { IsFiled (text_hash S.build_hasher S.Hasher.write S.Hasher.finish hasher.now) (T.list texts.now) self.now }
+        requires hashed { hash ≡ hash_by S.BuildHasher S.Hasher.Hasher hasher.now text.now }
+        requires filed { IsFiled (hash_by S.BuildHasher S.Hasher.Hasher hasher.now) (T.list texts.now) self.now }
         ensures found { IfOk result (λ n. Holds self.now.slots n × (slice_get (T.list texts.now) n ≡ Some text.now)) }
         ensures missing { IfErr result (λ _. (n : ℕ) → Holds self.now.slots n → slice_get (T.list texts.now) n ≢ Some text.now) }
         ensures vacant { IfErr result (λ vacancy. IsVacancy hash vacancy self.now.slots) }
@@ -281,13 +281,13 @@ impl<K: Key, A: Allocator> Index<K, A> {
             return Err(Vacancy::at(0));
         }
         let home = home_slot(hash, count);
-        let tag = tag_of(hash);
-        match scan_slots(&self.slots, texts, text, tag, home, count) {
+        let fingerprint = fingerprint_of(hash);
+        match scan_slots(&self.slots, texts, text, fingerprint, home, count) {
             Scan::Found(position) => return Ok(position),
             Scan::Ended(slot) => return Err(Vacancy::at(slot)),
             Scan::Passed => {}
         }
-        match scan_slots(&self.slots, texts, text, tag, 0, home) {
+        match scan_slots(&self.slots, texts, text, fingerprint, 0, home) {
             Scan::Found(position) => Ok(position),
             Scan::Ended(slot) => Err(Vacancy::at(slot)),
             Scan::Passed => unreachable!(),

@@ -139,7 +139,7 @@ module _ (hash_of : Text → ℕ) (number : ℕ) where
         filed = record {
           in_list = λ j m e. low m (j, e);
           reached = λ j m t e g. filed.reached j m t e (ap (λ (ts : List Text). slice_get ts m) (sym p.1) ∙ (slice_get-append_left xs p.0 m (low m (j, e)) ∙ g));
-          tagged = λ j m t e g. filed.tagged j m t e (ap (λ (ts : List Text). slice_get ts m) (sym p.1) ∙ (slice_get-append_left xs p.0 m (low m (j, e)) ∙ g));
+          fitting = λ j m t e g. filed.fitting j m t e (ap (λ (ts : List Text). slice_get ts m) (sym p.1) ∙ (slice_get-append_left xs p.0 m (low m (j, e)) ∙ g));
         };
         holds = λ m. (λ h. (shard.holds m).0 ((same m).0 h), λ l. (same m).1 ((shard.holds m).1 l));
         distinct = shard.distinct;

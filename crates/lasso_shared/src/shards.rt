@@ -27,7 +27,7 @@ mod store;
 pub mod tag;
 
 use crate::shards::shard::{BoxedShard, BoxedTally};
-use lasso_log::locks::{TaggedMutex, TaggedRwLock};
+use lasso_lock::locks::{TaggedMutex, TaggedRwLock};
 use lasso_log::log::Log;
 use lasso_log::log::bucket_list::BucketList;
 use lasso_parts::keys::Key;

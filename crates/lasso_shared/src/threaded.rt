@@ -13,6 +13,7 @@ mod comparing;
 mod debug;
 mod filling;
 mod freezing;
+mod from_static;
 mod interning;
 mod json;
 mod limits;
@@ -21,7 +22,6 @@ mod makers;
 mod memory;
 mod plain;
 mod walking;
-mod words;
 
 use crate::shards::Shards;
 use lasso_log::log::Pass;

@@ -8,7 +8,7 @@ use Rattle.std.specs.Str.{bytes_eq}
 use Rattle.std.proofs.lemmas.Map.Keys.{IsDistinct-cons, IsDistinct-head, IsDistinct-tail}
 use Rattle.lasso_parts.specs.Texts.{Text, IsDistinct}
 use Rattle.lasso_single.proofs.Distinct.{distinct_none}
-use Rattle.lasso_single.specs.Words.{all_differ}
+use Rattle.lasso_single.specs.KeywordLists.{all_differ}
 
 first_false : (a b : Bool) → (a || b) ≡ false → a ≡ false
 first_false true b e = cc

@@ -1,5 +1,5 @@
--- A list of words that is looked through from its beginning: it is distinct so far, and a word that is none of those before it keeps it
--- so. A word that is one of them shows that the whole list is not distinct.
+-- A list of keywords that is looked through from its beginning: it is distinct so far, and a keyword that is none of those before it keeps it
+-- so. A keyword that is one of them shows that the whole list is not distinct.
 use denote.Ref.{Bor}
 use Rattle.std.proofs.Common.{ℕ, ◌≡◌, ◌+◌, ◌<◌, ◌≤◌, ◌||◌, not, nat_lt, cond, Bool, true, false, List, [], ◌∷◌, length, map, take, get_or, Option, Some, None, is_some, refl, sym, ap, subst, ◌∙◌, arith}
 use Rattle.std.specs.Prelude.{slice_get}
@@ -17,32 +17,32 @@ use Rattle.lasso_single.proofs.KeyLists.{texts_more}
 pub distinct_none : IsDistinct []
 distinct_none = IsDistinct-from_apart bytes_eq [] (λ i j d below inside. absurd (omega arith))
 
--- the words before position i, of words that are lent
+-- the keywords before position i, of keywords that are lent
 abbrev pub before : List (Bor Text) → ℕ → List Text
-before words i = take i (map (λ t. t.now) words)
+before keywords i = take i (map (λ t. t.now) keywords)
 
 none_of : (o : Option ℕ) → is_some o ≡ false → o ≡ None
 none_of None e = refl
 none_of (Some n) e = cc
 
-pub distinct_more : (words : List (Bor Text)) (i : ℕ) (d : Bor Text) (there : Bool) → i < length words → IsDistinct (before words i) → there ≡ is_some (position_of (map (λ t. t.now) (take i words)) (get_or words i d).now) → there ≡ false → IsDistinct (before words (i + 1))
-distinct_more words i d there inside distinct is absent =
-    let gone : position_of (before words i) (get_or words i d).now ≡ None = subst (λ (ts : List Text). position_of ts (get_or words i d).now ≡ None) (sym (take-map (λ t. t.now) i words)) (none_of _ (sym is ∙ absent)) in
-    subst IsDistinct (sym (texts_more words i d inside)) (distinct_push (before words i) (get_or words i d).now distinct gone)
+pub distinct_more : (keywords : List (Bor Text)) (i : ℕ) (d : Bor Text) (there : Bool) → i < length keywords → IsDistinct (before keywords i) → there ≡ is_some (position_of (map (λ t. t.now) (take i keywords)) (get_or keywords i d).now) → there ≡ false → IsDistinct (before keywords (i + 1))
+distinct_more keywords i d there inside distinct is absent =
+    let gone : position_of (before keywords i) (get_or keywords i d).now ≡ None = subst (λ (ts : List Text). position_of ts (get_or keywords i d).now ≡ None) (sym (take-map (λ t. t.now) i keywords)) (none_of _ (sym is ∙ absent)) in
+    subst IsDistinct (sym (texts_more keywords i d inside)) (distinct_push (before keywords i) (get_or keywords i d).now distinct gone)
 
-pub not_distinct : (words : List (Bor Text)) (i : ℕ) (d : Bor Text) (there : Bool) → i < length words → IsDistinct (map (λ t. t.now) words) → there ≡ is_some (position_of (map (λ t. t.now) (take i words)) (get_or words i d).now) → there ≡ true → ⊥
-not_distinct words i d there inside distinct is present =
-    let all = map (λ (t : Bor Text). t.now) words in
-    let word = (get_or words i d).now in
-    let at : slice_get all i ≡ Some word = slice_get-get_or all i [] (omega (arith, length-map words (λ t. t.now))) ∙ ap (λ (t : Text). Some t) (get_or-map (λ t. t.now) words i d [] inside) in
-    let gone : position_of (map (λ t. t.now) (take i words)) word ≡ None = subst (λ (ts : List Text). position_of ts word ≡ None) (take-map (λ t. t.now) i words) (absent_before all i word distinct at) in
-    let one : is_some (position_of (map (λ t. t.now) (take i words)) word) ≡ true = sym is ∙ present in
+pub not_distinct : (keywords : List (Bor Text)) (i : ℕ) (d : Bor Text) (there : Bool) → i < length keywords → IsDistinct (map (λ t. t.now) keywords) → there ≡ is_some (position_of (map (λ t. t.now) (take i keywords)) (get_or keywords i d).now) → there ≡ true → ⊥
+not_distinct keywords i d there inside distinct is present =
+    let all = map (λ (t : Bor Text). t.now) keywords in
+    let keyword = (get_or keywords i d).now in
+    let at : slice_get all i ≡ Some keyword = slice_get-get_or all i [] (omega (arith, length-map keywords (λ t. t.now))) ∙ ap (λ (t : Text). Some t) (get_or-map (λ t. t.now) keywords i d [] inside) in
+    let gone : position_of (map (λ t. t.now) (take i keywords)) keyword ≡ None = subst (λ (ts : List Text). position_of ts keyword ≡ None) (take-map (λ t. t.now) i keywords) (absent_before all i keyword distinct at) in
+    let one : is_some (position_of (map (λ t. t.now) (take i keywords)) keyword) ≡ true = sym is ∙ present in
     cc
 
--- all the words were looked through
-pub distinct_all : (words : List (Bor Text)) (i : ℕ) → length words ≤ i → IsDistinct (before words i) → IsDistinct (map (λ t. t.now) words)
-distinct_all words i past distinct =
-    subst IsDistinct (take_all i (map (λ t. t.now) words) (omega (arith, length-map words (λ t. t.now)))) distinct
+-- all the keywords were looked through
+pub distinct_all : (keywords : List (Bor Text)) (i : ℕ) → length keywords ≤ i → IsDistinct (before keywords i) → IsDistinct (map (λ t. t.now) keywords)
+distinct_all keywords i past distinct =
+    subst IsDistinct (take_all i (map (λ t. t.now) keywords) (omega (arith, length-map keywords (λ t. t.now)))) distinct
 
 -- ---- a search through a list
 

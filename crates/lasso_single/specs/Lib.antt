@@ -6,4 +6,6 @@ pub mod Filling
 pub mod Command
 pub mod Json
 pub mod KeyLists
-pub mod Words
+pub mod KeywordLists
+pub mod Codes
+pub mod Coding

@@ -1,7 +1,7 @@
 //! Texts that are looked up one after another, and are looked ahead at in batches.
 //!
-//! A look-up waits for memory up to four times, each time at a place that the last one named: a tag and a
-//! key of the index, an entry of the list, and the text. A look ahead takes each step for a whole batch of
+//! A look-up waits for memory up to four times, each time at a place that the last one named: a fingerprint and
+//! a key of the index, an entry of the list, and the text. A look ahead takes each step for a whole batch of
 //! texts, so that the processor waits for all of them at once. It gives a guess at the position of each.
 //! The call that then takes a text compares it with the text at its guess: what it returns depends on no
 //! guess. The crate `lasso` leaves this module out.

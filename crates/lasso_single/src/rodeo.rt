@@ -9,12 +9,12 @@ mod clones;
 mod copying;
 mod filling;
 mod freezing;
+mod from_static;
 mod guessing;
 mod interning;
 mod json;
 mod makers;
 mod walking;
-mod words;
 
 use crate::text_list::TextList;
 use lasso_parts::index::{Index, Texts};
@@ -36,7 +36,7 @@ pub struct Rodeo<K: Key, S: BuildHasher, A: Allocator> {
 
 impl<K: Key, S: BuildHasher, A: Allocator> Model for Rodeo<K, S, A> {
     ghost use Rattle.std.specs.Prelude.{length};
-    ghost use Rattle.lasso_parts.specs.Hashing.{text_hash};
+    ghost use Rattle.lasso_parts.specs.Hashing.{hash_by};
     ghost use Rattle.lasso_parts.specs.Index.{IsIndexOf};
     ghost use Rattle.lasso_parts.specs.Texts.{Fits};
     ghost use Rattle.lasso_single.specs.Interner.{InternerView};
@@ -45,7 +45,7 @@ impl<K: Key, S: BuildHasher, A: Allocator> Model for Rodeo<K, S, A> {
 
     ghost view = { λ r. r.list };
 
-    ghost invariant = { λ r. IsIndexOf (text_hash S.build_hasher S.Hasher.write S.Hasher.finish r.hasher) r.list.texts r.index × Fits K.key_at (length r.list.texts) };
+    ghost invariant = { λ r. IsIndexOf (hash_by S.BuildHasher S.Hasher.Hasher r.hasher) r.list.texts r.index × Fits K.key_at (length r.list.texts) };
 }
 
 // One call, so that proofs of callers see nothing of the fields where an interner is dropped.

@@ -13,7 +13,7 @@ ghost use Rattle.lasso_parts.specs.declared.util.LassoErrorKind.TheVariants.{Fai
 
 mod memory;
 
-use crate::copying::{CopyTarget, copy_all};
+use crate::list_copies::{CopyTarget, copy_all};
 use crate::room::one_bucket;
 use lasso_parts::arena::Arena;
 use lasso_parts::entries::long::{LongText, is_vast};

@@ -16,3 +16,4 @@ complete -c lasso_codes -n '__fish_seen_subcommand_from counts' -l top -x -d 'wr
 complete -c lasso_codes -n '__fish_seen_subcommand_from decode encode' -l null -x -d 'the word of a null'
 complete -c lasso_codes -n '__fish_seen_subcommand_from encode merge' -l binary -d 'write codes as four bytes each, the least first'
 complete -c lasso_codes -n '__fish_seen_subcommand_from counts encode' -l workers -x -d 'share the work among 1 to 64 threads'
+complete -c lasso_codes -n '__fish_seen_subcommand_from counts decode distinct encode merge' -l utf8 -d 'refuse what is not UTF-8'

@@ -14,7 +14,7 @@ use lasso_single::rodeo::Rodeo;
 use std::alloc::Allocator;
 use std::hash::BuildHasher;
 
-/// What gives the texts of keys.
+/// Resolves keys to texts.
 pub trait SpurResolver {
     // the texts in the order of their keys
     ghost texts: { Self → List Text };
@@ -32,7 +32,7 @@ pub trait SpurResolver {
         ensures { result ≡ length (texts self.now) };
 }
 
-/// What finds the keys of texts too.
+/// Finds the keys of texts too.
 pub trait SpurReader: SpurResolver {
     /// The key of the text, or `None` if it is absent.
     fn get(&self, text: &str) -> Option<Spur>
@@ -43,7 +43,7 @@ pub trait SpurReader: SpurResolver {
         ensures { result ≡ is_some (position_of (Self.texts self.now) text.now) };
 }
 
-/// What interns texts too.
+/// Interns texts too.
 pub trait SpurInterner: SpurReader {
     /// Returns the text's key, and appends the text first if it is new. Interning a present text never fails.
     /// A new text fails when no key is left (`KeySpaceExhaustion`), else when it would pass a memory limit

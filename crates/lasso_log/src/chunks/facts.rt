@@ -11,7 +11,7 @@ ghost use Rattle.lasso_log.specs.Chunks.{lined, IsCellAt, PutsLastAt, ListOnlyGr
 ghost use Rattle.lasso_log.specs.LentBuckets.{LentBucket, IsRightTo, all_untaken};
 
 use crate::chunks::rule::{HasCells, HasText, InChunks, Listed, NoGain};
-use crate::shared_arena::rights::Free;
+use crate::shared_memory::rights::Free;
 use boxcar::slot::Written;
 use boxcar::tag::Names;
 use logbook::{Offer, Plain, Seen, Start};

@@ -4,7 +4,7 @@ ghost use Rattle.std.specs.Prelude.{◌≡◌, ◌-◌, List, [], ◌∷◌, Non
 ghost use Rattle.lasso_log.specs.LentBuckets.{TakesBytesAt, AddsBucket, IsRightTo};
 
 use crate::chunks::rule::{BytesTaken, HasCells, HasText, InChunks, Listed};
-use crate::shared_arena::rights::Free;
+use crate::shared_memory::rights::Free;
 use logbook::{Gained, Offer, Plain, Seen};
 use std::marker::PhantomData;
 

@@ -9,7 +9,7 @@ ghost use Rattle.lasso_log.specs.Views.{PassView, IsSamePass, seen};
 use crate::log::note::Note;
 use crate::log::rule::LogRule;
 use crate::log::{Log, Pass};
-use crate::shared_arena::piece::Range;
+use crate::shared_memory::piece::Range;
 use boxcar::tag::Tag;
 use lasso_parts::keys::Key;
 use logbook::{Seen, Word};

@@ -8,8 +8,8 @@ ghost use Rattle.lasso_log.specs.Views.{PassView, InternerId, SnapshotView, IsSa
 use crate::chunks::{Chunk, chunk_and_offset};
 use crate::log::pass::Pass;
 use crate::log::rule::StoredText;
+use crate::log::shared_log::Log;
 use crate::log::snapshot::Snapshot;
-use crate::log::words::Log;
 use boxcar::slot::Written;
 use lasso_parts::keys::Key;
 use lasso_parts::util::{LassoError, LassoErrorKind, LassoResult};

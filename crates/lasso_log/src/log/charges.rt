@@ -14,11 +14,11 @@ ghost use Rattle.lasso_log.specs.Views.{PassView, InternerId, SpineView, TurnsVi
 use crate::log::bucket::SharedBucket;
 use crate::log::bucket_list::BucketList;
 use crate::log::pass::Pass;
+use crate::log::shared_log::Log;
 use crate::log::spine::Spine;
 use crate::log::turns::Turns;
-use crate::log::words::Log;
-use crate::shared_arena::new_bucket::NewBucket;
-use crate::shared_arena::piece::Range;
+use crate::shared_memory::new_bucket::NewBucket;
+use crate::shared_memory::piece::Range;
 use lasso_parts::keys::Key;
 use lasso_parts::util::{LassoError, LassoErrorKind, LassoResult};
 use std::alloc::Global;

@@ -18,10 +18,10 @@ use crate::log::bucket::SharedBucket;
 use crate::log::note::Note;
 use crate::log::pass::Pass;
 use crate::log::rule::{Add, LogRule, Shared};
+use crate::log::shared_log::Log;
 use crate::log::ticket::BucketAsked;
 use crate::log::turns::Turns;
-use crate::log::words::Log;
-use crate::shared_arena::new_bucket::NewBucket;
+use crate::shared_memory::new_bucket::NewBucket;
 use lasso_parts::keys::Key;
 use logbook::{Offer, Pen, Seen};
 use std::hint::spin_loop;
@@ -50,6 +50,7 @@ impl<K: Key> Log<K> {
         ensures same { (result.0.seen.book ≡ bid.seen.book) × (result.0.seen.names ≡ bid.seen.names) × (result.0.offer.ask ≡ bid.offer.ask) × IsPrefix bid.seen.log result.0.seen.log }
         ensures done { MatchBool result.1 (IsIn K.key_at (opening_of before.now.log) before.now.log given.now.log result.0.seen.log bid.offer.ask 1 1 turns) (IsBid K.key_at before.now.log given.now.log turns result.0.seen.log result.0.seen.book result.0.seen.names result.0.pen.book result.0.pen.nib result.0.offer.names result.0.offer.ask result.0.offer.state) }
     {
+        // The contract alone reads `before` and `given`: the offer was worked out for these two states.
         let _ = before;
         let _ = given;
         let Bid {

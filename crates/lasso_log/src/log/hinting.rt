@@ -4,7 +4,7 @@ ghost use Rattle.lasso_log.specs.Notes.{Since};
 ghost use Rattle.lasso_log.specs.Views.{PassView, InternerId, IsSamePass, list_of};
 
 use crate::log::pass::Pass;
-use crate::log::words::Log;
+use crate::log::shared_log::Log;
 use lasso_parts::keys::Key;
 use lasso_parts::same::is_same;
 use std::alloc::Global;

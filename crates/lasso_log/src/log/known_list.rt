@@ -5,8 +5,8 @@ ghost use Rattle.lasso_log.specs.Notes.{Since};
 ghost use Rattle.lasso_log.specs.Views.{PassView, InternerId, SnapshotView, IsSamePass, list_of};
 
 use crate::log::pass::Pass;
+use crate::log::shared_log::Log;
 use crate::log::snapshot::Snapshot;
-use crate::log::words::Log;
 use lasso_parts::keys::Key;
 use lasso_parts::same::is_same;
 use std::marker::Model;

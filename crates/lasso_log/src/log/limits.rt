@@ -6,8 +6,8 @@ ghost use Rattle.lasso_log.specs.Turns.{IsTurned, IsSameTurn};
 ghost use Rattle.lasso_log.specs.Views.{PassView, InternerId, SpineView, TurnsView, IsSamePass, IsSameSpine, seen};
 
 use crate::log::pass::Pass;
+use crate::log::shared_log::Log;
 use crate::log::spine::Spine;
-use crate::log::words::Log;
 use lasso_parts::keys::Key;
 use std::hint::spin_loop;
 use std::sync::Wait;

@@ -1,9 +1,9 @@
 //! The memory that the texts of an interner are in. Used by the log and by its opening.
 use crate::chunks::Chunks;
-use crate::locks::TaggedMutex;
 use crate::log::rule::StoredText;
-use crate::log::words::Log;
-use crate::shared_arena::holding::Holdings;
+use crate::log::shared_log::Log;
+use crate::shared_memory::holding::Holdings;
+use lasso_lock::locks::TaggedMutex;
 use lasso_parts::keys::Key;
 use std::alloc::{AllocError, Global};
 use std::marker::Model;

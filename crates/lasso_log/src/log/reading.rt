@@ -7,9 +7,9 @@ ghost use Rattle.lasso_log.specs.Views.{PassView, InternerId, SnapshotView, IsSa
 use crate::log::note::Note;
 use crate::log::pass::Pass;
 use crate::log::rule::LogRule;
+use crate::log::shared_log::Log;
 use crate::log::snapshot::Snapshot;
-use crate::log::words::Log;
-use crate::shared_arena::era::Era;
+use crate::shared_memory::era::Era;
 use lasso_parts::keys::Key;
 use logbook::Seen;
 

@@ -12,9 +12,9 @@ use crate::log::bucket::SharedBucket;
 use crate::log::note::Note;
 use crate::log::pass::Pass;
 use crate::log::rule::{Add, LogRule, Shared};
+use crate::log::shared_log::Log;
 use crate::log::ticket::BytesAsked;
-use crate::log::words::Log;
-use crate::shared_arena::rights::Free;
+use crate::shared_memory::rights::Free;
 use lasso_parts::keys::Key;
 use logbook::Offer;
 

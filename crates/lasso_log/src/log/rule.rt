@@ -2,7 +2,7 @@
 use crate::chunks::Chunk;
 use crate::chunks::rule::{HasText, InChunks, Listed};
 use crate::log::note::Note;
-use crate::shared_arena::piece::Piece;
+use crate::shared_memory::piece::Piece;
 use lasso_parts::keys::Key;
 use logbook::{Plain, Play};
 use std::marker::PhantomData;

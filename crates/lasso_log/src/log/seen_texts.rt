@@ -5,8 +5,8 @@ ghost use Rattle.lasso_log.specs.Views.{PassView, InternerId, SnapshotView, list
 use crate::log::note::Note;
 use crate::log::pass::Pass;
 use crate::log::rule::LogRule;
+use crate::log::shared_log::Log;
 use crate::log::snapshot::Snapshot;
-use crate::log::words::Log;
 use lasso_parts::index::Texts;
 use lasso_parts::keys::Key;
 use logbook::Seen;

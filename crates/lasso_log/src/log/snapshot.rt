@@ -9,7 +9,7 @@ ghost use Rattle.lasso_log.specs.Views.{InternerId, SnapshotView, IsSamePass, se
 use crate::log::note::Note;
 use crate::log::pass::Pass;
 use crate::log::rule::LogRule;
-use crate::log::words::Log;
+use crate::log::shared_log::Log;
 use lasso_parts::keys::Key;
 use logbook::Seen;
 use std::marker::Model;

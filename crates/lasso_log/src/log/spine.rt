@@ -1,4 +1,4 @@
-//! The spine: the numbers of the list and of the turns, which one thread at a time has, and the slots that it keeps.
+//! The spine: the numbers of the list and of the turns, which one thread at a time has, and the cells that it keeps.
 ghost use Rattle.std.specs.Prelude.{◌≡◌, ◌+◌, ◌-◌, ◌^◌, ◌<◌, ◌∷◌, ◌++◌, [], length, OnOk, OnErr, IfOk, IfErr, IfSome, IfNone, IsSome, MatchBool};
 ghost use mathlib.Core.List.{IsPrefix};
 ghost use Rattle.lasso_parts.specs.declared.util.LassoErrorKind.TheVariants.{FailedAllocation};
@@ -11,14 +11,14 @@ ghost use Rattle.lasso_log.specs.Eras.{life};
 ghost use Rattle.lasso_log.specs.Chunks.{IsAhead, IsCellAt, era_named};
 
 use crate::log::cells_ahead::CellsAhead;
-use crate::log::kept_slot::KeptSlot;
+use crate::log::kept_cell::KeptCell;
 use crate::log::note::{Change, Note};
 use crate::log::pass::Pass;
 use crate::log::rule::{LogRule, StoredText};
+use crate::log::shared_log::{Exchange, Log};
 use crate::log::ticket::CellProof;
 use crate::log::turns::Turns;
-use crate::log::words::{Exchange, Log};
-use crate::shared_arena::piece::Piece;
+use crate::shared_memory::piece::Piece;
 use lasso_parts::keys::Key;
 use lasso_parts::util::{LassoError, LassoErrorKind, LassoResult};
 use logbook::Seen;
@@ -27,7 +27,7 @@ use std::marker::Model;
 use std::sync::Wait;
 
 /// The length of the list in a history that was seen, as the texts of the opening and those appended, and how many
-/// slots past it are kept for texts to come; and the turns. It is under a lock. Contracts see the slots kept, the interner, and what
+/// cells past it are kept for texts to come; and the turns. It is under a lock. Contracts see the cells kept, the interner, and what
 /// the spine has seen of the list and of the turns.
 pub struct Spine<K: Key> {
     pub(super) kept: u64,
@@ -92,31 +92,31 @@ impl<K: Key> Spine<K> {
         both.learn(&pass.seen);
     }
 
-    /// How many slots it keeps for texts to come.
+    /// How many cells it keeps for texts to come.
     pub fn kept(&self) -> u64
         ensures { result ≡ self.now.kept }
     {
         self.kept
     }
 
-    /// Gives back a slot that `reserve_next` kept. Nothing else changes, and it never fails.
-    pub fn give_back(&mut self, slot: KeptSlot<K>)
-        requires { slot ≡ self.old.of }
+    /// Gives back a cell that `reserve_next` kept. Nothing else changes, and it never fails.
+    pub fn give_back(&mut self, cell: KeptCell<K>)
+        requires { cell ≡ self.old.of }
         ensures kept { self.new.kept ≡ self.old.kept - 1 }
         ensures same { IsSameSpine self.new self.old }
         ensures turns { self.new.turns ≡ self.old.turns }
     {
-        slot.end();
+        cell.end();
         self.kept = self.kept.saturating_sub(1);
     }
 }
 
 impl<K: Key> Log<K> {
-    /// Keeps one slot more for a text to come, until it is appended or given back. It fails only out of
+    /// Keeps one cell more for a text to come, until it is appended or given back. It fails only out of
     /// memory (`FailedAllocation`), which it also returns for position 2^64 - 1. Nothing changes then.
-    pub fn reserve_next(&self, alloc: Global, spine: &mut Spine<K>) -> LassoResult<KeptSlot<K>>
+    pub fn reserve_next(&self, alloc: Global, spine: &mut Spine<K>) -> LassoResult<KeptCell<K>>
         requires { spine.old.of ≡ self.now }
-        ensures slot { IfOk result (λ slot. slot ≡ self.now) }
+        ensures cell { IfOk result (λ cell. cell ≡ self.now) }
         ensures kept { OnOk result (spine.new.kept ≡ spine.old.kept + 1) }
         ensures same { IsSameSpine spine.new spine.old }
         ensures turns { spine.new.turns ≡ spine.old.turns }
@@ -129,16 +129,16 @@ impl<K: Key> Log<K> {
         }
         self.memory.chunks.make_chunk(alloc, position)?;
         spine.kept += 1;
-        Ok(KeptSlot::new(self.snapshot()))
+        Ok(KeptCell::new(self.snapshot()))
     }
 
-    /// Keeps one slot more, for a caller that has made cells ahead. Returns `None` if the slot's cell is
+    /// Keeps one cell more, for a caller that has made cells ahead. Returns `None` if that cell is
     /// not made, and nothing changes then; it never does so for one of the sixteen positions of these cells but
     /// 2^64 - 1. It takes no memory and does not wait.
-    pub fn reserve_ahead(&self, spine: &mut Spine<K>, ahead: &CellsAhead<K>) -> Option<KeptSlot<K>>
+    pub fn reserve_ahead(&self, spine: &mut Spine<K>, ahead: &CellsAhead<K>) -> Option<KeptCell<K>>
         requires { (spine.old.of ≡ self.now) × (ahead.now.of ≡ self.now) }
-        ensures slot { IfSome result (λ slot. slot ≡ self.now) }
-        ensures kept { IfSome result (λ slot. spine.new.kept ≡ spine.old.kept + 1) }
+        ensures cell { IfSome result (λ cell. cell ≡ self.now) }
+        ensures kept { IfSome result (λ cell. spine.new.kept ≡ spine.old.kept + 1) }
         ensures same { IsSameSpine spine.new spine.old }
         ensures turns { spine.new.turns ≡ spine.old.turns }
         ensures unchanged { IfNone result (spine.new.kept ≡ spine.old.kept) }
@@ -152,22 +152,22 @@ impl<K: Key> Log<K> {
             return None;
         }
         spine.kept += 1;
-        Some(KeptSlot::new(self.snapshot()))
+        Some(KeptCell::new(self.snapshot()))
     }
 
-    /// Puts the text last, in a slot that was kept. The text must stay where it is as long as the interner's
+    /// Puts the text last, in a cell that was kept. The text must stay where it is as long as the interner's
     /// era. The list of the spine must lack it, and have a key for its length. The text's cell is filled
-    /// before the length moves. It waits if the length isn't the spine's, if the spine keeps no slot,
+    /// before the length moves. It waits if the length isn't the spine's, if the spine keeps no cell,
     /// if the chunk of its position isn't made, and if the cell is filled.
     pub fn append<R: Wait>(
         &self,
         rt: &R,
         spine: &mut Spine<K>,
         pass: &mut Pass<K>,
-        slot: KeptSlot<K>,
+        cell: KeptCell<K>,
         text: StoredText,
     )
-        requires of { (pass.old.of ≡ self.now) × (spine.old.of ≡ self.now) × (slot ≡ self.now) }
+        requires of { (pass.old.of ≡ self.now) × (spine.old.of ≡ self.now) × (cell ≡ self.now) }
         requires lasts { Incl (life (era_named self.now.chunks)) text.until }
         requires may { MayFollow K.key_at (state self.now.opening spine.old.notes) (Append text.text) }
         ensures same { IsSamePass pass.new pass.old × (spine.new.of ≡ spine.old.of) }
@@ -189,7 +189,7 @@ impl<K: Key> Log<K> {
         for _ in rt.forever() {
             let cell_proof = (chunk.again(), item.again());
             if self.try_append(spine, pass, text, cell_proof) {
-                slot.end();
+                cell.end();
                 pass.prove_legal();
                 return;
             }
@@ -203,10 +203,10 @@ impl<K: Key> Log<K> {
         rt: &R,
         spine: &mut Spine<K>,
         pass: &mut Pass<K>,
-        slot: KeptSlot<K>,
+        cell: KeptCell<K>,
         text: &'static str,
     )
-        requires of { (pass.old.of ≡ self.now) × (spine.old.of ≡ self.now) × (slot ≡ self.now) }
+        requires of { (pass.old.of ≡ self.now) × (spine.old.of ≡ self.now) × (cell ≡ self.now) }
         requires may { MayFollow K.key_at (state self.now.opening spine.old.notes) (Append text.now) }
         ensures same { IsSamePass pass.new pass.old × (spine.new.of ≡ spine.old.of) }
         ensures kept { spine.new.kept + 1 ≡ spine.old.kept }
@@ -217,10 +217,10 @@ impl<K: Key> Log<K> {
         ensures begins { IsPrefix spine.old.notes spine.new.notes }
         ensures list { list_of self.now pass.new.notes ≡ list_of self.now spine.old.notes ++ text.now ∷ [] }
     {
-        self.append(rt, spine, pass, slot, Piece::from_static(text));
+        self.append(rt, spine, pass, cell, Piece::from_static(text));
     }
 
-    // Appends if the length is the spine's and the spine keeps a slot. Otherwise it does nothing.
+    // Appends if the length is the spine's and the spine keeps a cell. Otherwise it does nothing.
     fn try_append(
         &self,
         spine: &mut Spine<K>,

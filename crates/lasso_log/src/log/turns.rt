@@ -9,7 +9,7 @@ ghost use Rattle.lasso_log.specs.Views.{PassView, InternerId, TurnsView, IsSameP
 use crate::log::note::{Change, Note};
 use crate::log::pass::Pass;
 use crate::log::rule::LogRule;
-use crate::log::words::{Exchange, Log};
+use crate::log::shared_log::{Exchange, Log};
 use lasso_parts::keys::Key;
 use logbook::Seen;
 use std::marker::Model;

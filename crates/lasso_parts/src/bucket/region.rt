@@ -3,9 +3,9 @@ ghost use Rattle.std.specs.Prelude.{◌≡◌, ◌+◌, ◌<◌, ◌≤◌, ◌+
 ghost use Rattle.lasso_parts.specs.declared.util.LassoErrorKind.TheVariants.{FailedAllocation};
 ghost use denote.RawPtr.{◌+ₚ◌};
 ghost use Rattle.lasso_parts.specs.Bucket.{block_of};
-ghost use Rattle.lasso_parts.specs.Cells.{LeadsToBlock};
+ghost use Rattle.lasso_parts.specs.Block.{LeadsToBlock};
 
-use super::cells::{Cells, CellsRight, allocate, deallocate};
+use super::block::{ByteBlock, ByteBlockRight, allocate, deallocate};
 use crate::util::{LassoError, LassoErrorKind, LassoResult};
 use std::alloc::Allocator;
 use std::marker::Model;
@@ -13,7 +13,7 @@ use std::str::from_utf8_unchecked;
 
 /// A region of memory with the bytes in it. It names no allocator, and only `close` lets it go.
 pub struct Region {
-    cells: Cells,
+    block: ByteBlock,
     used: usize,
 }
 
@@ -21,18 +21,18 @@ impl Model for Region {
     ghost use Rattle.std.specs.Prelude.{◌<◌};
     ghost use Rattle.core.specs.Mem.Slots.{slots_ptr, slots_len};
     ghost use Rattle.lasso_parts.specs.Bucket.{Extent};
-    ghost use Rattle.lasso_parts.specs.Cells.{bytes_in, AreFilled};
+    ghost use Rattle.lasso_parts.specs.Block.{bytes_in, AreFilled};
 
     ghost Value = { Extent };
 
-    ghost view = { λ r. record { at = slots_ptr r.cells; bytes = bytes_in r.used r.cells; capacity = slots_len r.cells } };
+    ghost view = { λ r. record { at = slots_ptr r.block; bytes = bytes_in r.used r.block; capacity = slots_len r.block } };
 
-    ghost invariant = { λ r. AreFilled r.cells 0 r.used };
+    ghost invariant = { λ r. AreFilled r.block 0 r.used };
 }
 
 /// The right to free a region, with the allocator that gave it. Only `close` lets it go.
 pub struct RegionRight<A: Allocator> {
-    cells_right: CellsRight<A>,
+    block_right: ByteBlockRight<A>,
     alloc: A,
 }
 
@@ -42,9 +42,9 @@ impl<A: Allocator> Model for RegionRight<A> {
 
     ghost Value = { Block };
 
-    ghost view = { λ r. record { at = r.cells_right.at; len = r.cells_right.len } };
+    ghost view = { λ r. record { at = r.block_right.at; len = r.block_right.len } };
 
-    ghost invariant = { λ r. r.cells_right.alloc ≡ r.alloc };
+    ghost invariant = { λ r. r.block_right.alloc ≡ r.alloc };
 }
 
 /// An empty region that takes `capacity` bytes, with the right to free it. It is `FailedAllocation` if
@@ -58,10 +58,10 @@ pub(crate) fn open<A: Allocator>(alloc: A, capacity: usize) -> LassoResult<(Regi
     if (isize::MAX as usize) < capacity {
         return Err(LassoError::new(LassoErrorKind::FailedAllocation));
     }
-    let (cells, cells_right) = allocate(&alloc, capacity)?;
+    let (block, block_right) = allocate(&alloc, capacity)?;
     Ok((
-        Region { cells, used: 0 },
-        RegionRight { cells_right, alloc },
+        Region { block, used: 0 },
+        RegionRight { block_right, alloc },
     ))
 }
 
@@ -69,9 +69,9 @@ pub(crate) fn open<A: Allocator>(alloc: A, capacity: usize) -> LassoResult<(Regi
 pub(crate) fn close<A: Allocator>(region: Region, right: RegionRight<A>)
     requires { right ≡ block_of region }
 {
-    let Region { cells, used: _ } = region;
-    let RegionRight { cells_right, alloc } = right;
-    deallocate(&alloc, cells, cells_right);
+    let Region { block, used: _ } = region;
+    let RegionRight { block_right, alloc } = right;
+    deallocate(&alloc, block, block_right);
 }
 
 impl Region {
@@ -80,7 +80,7 @@ impl Region {
     pub(crate) fn capacity(&self) -> usize
         ensures { result ≡ self.now.capacity }
     {
-        self.cells.len()
+        self.block.len()
     }
 
     /// How many bytes still fit.
@@ -88,7 +88,7 @@ impl Region {
     pub(crate) fn free_elements(&self) -> usize
         ensures { result + length self.now.bytes ≡ self.now.capacity }
     {
-        self.cells.len() - self.used
+        self.block.len() - self.used
     }
 
     /// Forgets the bytes. The region stays where it is.
@@ -106,7 +106,7 @@ impl Region {
         ensures bytes { self.new ≡ record self.old { bytes = self.old.bytes ++ bytes.now } }
     {
         let start = self.used;
-        self.cells.write(start, bytes);
+        self.block.write(start, bytes);
         self.used = start + bytes.len();
         start
     }
@@ -117,7 +117,7 @@ impl Region {
         requires { start ≤ length self.now.bytes }
         ensures { (result ≡ self.now.at +ₚ start) × LeadsToBlock result }
     {
-        self.cells.address(start)
+        self.block.address(start)
     }
 
     /// The text in the `len` bytes from `start` on. Nothing is copied, and nothing tested.
@@ -127,6 +127,6 @@ impl Region {
         requires is_text { IsUtf8 (slice_range self.now.bytes start (start + len)) }
         ensures { result.now ≡ slice_range self.now.bytes start (start + len) }
     {
-        unsafe { from_utf8_unchecked(self.cells.read(start, len)) }
+        unsafe { from_utf8_unchecked(self.block.read(start, len)) }
     }
 }

@@ -1,6 +1,6 @@
 //! The hash of a text.
 ghost use Rattle.std.specs.Prelude.{◌≡◌};
-ghost use Rattle.lasso_parts.specs.Hashing.{text_hash};
+ghost use Rattle.lasso_parts.specs.Hashing.{hash_by};
 
 use std::hash::BuildHasher;
 
@@ -8,7 +8,7 @@ use std::hash::BuildHasher;
 /// needed twice.
 #[inline]
 pub fn hash_text<S: BuildHasher>(hasher: &S, text: &str) -> u64
-    ensures { result ≡ text_hash S.build_hasher S.Hasher.write S.Hasher.finish hasher.now text.now }
+    ensures { result ≡ hash_by S.BuildHasher S.Hasher.Hasher hasher.now text.now }
 {
     hasher.hash_one(text)
 }

@@ -1,8 +1,8 @@
-//! The slots of a table, each empty or with a key: a list of the slots' tags, a byte each, and a list of
+//! The slots of a table, each empty or with a key: a list of the slots' fingerprints, a byte each, and a list of
 //! keys.
 ghost use Rattle.std.specs.Prelude.{◌≡◌, ◌≢◌, ℕ, ◌<◌, ◌≤◌, ◌^◌, ◌⊎◌, [], None, Some, length, replicate, slice_set, slice_index_or, option_map, IfOk};
 ghost use Rattle.std.specs.Vec.{vec_capacity};
-ghost use Rattle.lasso_parts.specs.Index.{slot, Retags};
+ghost use Rattle.lasso_parts.specs.Index.{slot, SetsFingerprint};
 
 use crate::keys::Key;
 use crate::memory::list_bytes;
@@ -10,13 +10,13 @@ use std::alloc::{AllocError, Allocator};
 use std::marker::Model;
 use std::mem::size_of_val;
 
-/// The slots of a table. Slot j is empty if its tag is 0, and then the key at its position means nothing.
+/// The slots of a table. Slot j is empty if its fingerprint is 0, and then the key at its position means nothing.
 /// There are keys if there is memory for a slot. Before the first key is put there is no key to fill them
 /// with, so they are made then, in memory allocated earlier. Contracts see the position that each slot's key
-/// stands for, and the tags.
+/// stands for, and the fingerprints.
 #[derive(Drop)]
 pub struct KeySlots<K: Key, A: Allocator> {
-    tags: Vec<u8, A>,
+    fingerprints: Vec<u8, A>,
     keys: Option<Vec<K, A>>,
 }
 
@@ -26,9 +26,9 @@ impl<K: Key, A: Allocator> Model for KeySlots<K, A> {
 
     ghost Value = { Table };
 
-    ghost view = { λ s. table_of K.number s.tags.items (keys_of s.keys) };
+    ghost view = { λ s. table_of K.number s.fingerprints.items (keys_of s.keys) };
 
-    ghost invariant = { λ s. IsLaidOut s.tags.items (keys_of s.keys) (key_room s.keys) };
+    ghost invariant = { λ s. IsLaidOut s.fingerprints.items (keys_of s.keys) (key_room s.keys) };
 }
 
 impl<K: Key, A: Allocator> KeySlots<K, A> {
@@ -37,7 +37,7 @@ impl<K: Key, A: Allocator> KeySlots<K, A> {
         ensures { result.slots ≡ [] }
     {
         KeySlots {
-            tags: Vec::new(alloc),
+            fingerprints: Vec::new(alloc),
             keys: None,
         }
     }
@@ -48,10 +48,10 @@ impl<K: Key, A: Allocator> KeySlots<K, A> {
         A: Clone,
         ensures { IfOk result (λ table. table.slots ≡ replicate count None) }
     {
-        let tags = zero_tags(alloc.clone()?, count)?;
+        let fingerprints = zero_fingerprints(alloc.clone()?, count)?;
         let keys = Vec::with_capacity(alloc, count)?;
         Ok(KeySlots {
-            tags,
+            fingerprints,
             keys: Some(keys),
         })
     }
@@ -61,32 +61,32 @@ impl<K: Key, A: Allocator> KeySlots<K, A> {
     pub fn len(&self) -> usize
         ensures { result ≡ length self.now.slots }
     {
-        self.tags.len()
+        self.fingerprints.len()
     }
 
-    /// How many bytes the allocator gave: for the keys, and one byte for the tag of each. If the key type has no key
-    /// at all, only the tags are counted.
+    /// How many bytes the allocator gave: for the keys, and one byte for the fingerprint of each. If the key type has no key
+    /// at all, only the fingerprints are counted.
     pub(crate) fn allocated_bytes(&self) -> usize {
-        let tags = list_bytes(&self.tags, 1);
+        let fingerprints = list_bytes(&self.fingerprints, 1);
         match &self.keys {
-            Some(keys) => tags.saturating_add(list_bytes(keys, key_bytes::<K>())),
-            None => tags,
+            Some(keys) => fingerprints.saturating_add(list_bytes(keys, key_bytes::<K>())),
+            None => fingerprints,
         }
     }
     /// The allocator of their memory.
     pub(crate) fn allocator(&self) -> &A {
-        self.tags.allocator()
+        self.fingerprints.allocator()
     }
 
-    /// The tags of the slots. That of an empty slot is 0.
+    /// The fingerprints of the slots. That of an empty slot is 0.
     #[inline]
-    pub(crate) fn tags(&self) -> &[u8]
-        ensures value { result.now ≡ self.now.tags }
+    pub(crate) fn fingerprints(&self) -> &[u8]
+        ensures value { result.now ≡ self.now.fingerprints }
         ensures len { length result.now ≡ length self.now.slots }
-        ensures empty { (j : ℕ) → j < length self.now.slots → slice_index_or self.now.tags j 0 ≡ 0 → slot self.now.slots j ≡ None }
-        ensures filled { (j : ℕ) → j < length self.now.slots → slice_index_or self.now.tags j 0 ≢ 0 → slot self.now.slots j ≢ None }
+        ensures empty { (j : ℕ) → j < length self.now.slots → slice_index_or self.now.fingerprints j 0 ≡ 0 → slot self.now.slots j ≡ None }
+        ensures filled { (j : ℕ) → j < length self.now.slots → slice_index_or self.now.fingerprints j 0 ≢ 0 → slot self.now.slots j ≢ None }
     {
-        self.tags.as_slice()
+        self.fingerprints.as_slice()
     }
 
     /// The key of a slot that is not empty.
@@ -106,44 +106,44 @@ impl<K: Key, A: Allocator> KeySlots<K, A> {
         requires { j < length self.now.slots }
         ensures { option_map K.number result ≡ slot self.now.slots j }
     {
-        if self.tags()[j] == 0 {
+        if self.fingerprints()[j] == 0 {
             return None;
         }
         Some(self.key(j))
     }
 
-    /// Puts the key in the slot, with a tag that is not 0.
+    /// Puts the key in the slot, with a fingerprint that is not 0.
     #[inline]
-    pub fn put(&mut self, j: usize, tag: u8, key: K)
+    pub fn put(&mut self, j: usize, fingerprint: u8, key: K)
         requires inside { j < length self.old.slots }
-        requires filled { 0 < tag }
+        requires filled { 0 < fingerprint }
         ensures slots { self.new.slots ≡ slice_set self.old.slots j (Some (K.number key)) }
-        ensures tags { Retags self.old self.new j tag }
+        ensures fingerprints { SetsFingerprint self.old self.new j fingerprint }
         ensures small { length self.old.slots < 2 ^ 64 }
     {
         let Some(keys) = &mut self.keys else {
             unreachable!();
         };
-        make_keys(keys, self.tags.len(), key);
+        make_keys(keys, self.fingerprints.len(), key);
         keys[j] = key;
-        self.tags[j] = tag;
+        self.fingerprints[j] = fingerprint;
     }
 
     /// Empties each slot. The memory stays.
     pub fn clear(&mut self)
         ensures { self.new.slots ≡ replicate (length self.old.slots) None }
     {
-        self.tags.fill(0);
+        self.fingerprints.fill(0);
     }
 }
 
-// `count` tags. Each is 0.
-fn zero_tags<A: Allocator>(alloc: A, count: usize) -> Result<Vec<u8, A>, AllocError>
-    ensures { IfOk result (λ tags. tags.items ≡ replicate count 0) }
+// `count` fingerprints. Each is 0.
+fn zero_fingerprints<A: Allocator>(alloc: A, count: usize) -> Result<Vec<u8, A>, AllocError>
+    ensures { IfOk result (λ fingerprints. fingerprints.items ≡ replicate count 0) }
 {
-    let mut tags = Vec::with_capacity(alloc, count)?;
-    tags.resize(count, 0)?;
-    Ok(tags)
+    let mut fingerprints = Vec::with_capacity(alloc, count)?;
+    fingerprints.resize(count, 0)?;
+    Ok(fingerprints)
 }
 
 // Makes the keys, unless they are made already.

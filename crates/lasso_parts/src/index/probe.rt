@@ -1,8 +1,8 @@
 //! The search through the slots of a table: from the slot that a hash names to the last one, and then
 //! from the first.
 ghost use Rattle.std.specs.Prelude.{◌≡◌, ◌≢◌, ℕ, ◌<◌, ◌≤◌, ◌^◌, length, Some, None, IfSome, IfNone, bytes_eq, slice_get};
-ghost use Rattle.lasso_parts.specs.Index.{slot, used, home, tag_of, Holds, IsFull, Reaches};
-ghost use Rattle.lasso_parts.specs.IndexTable.{AllInList, HaveTag};
+ghost use Rattle.lasso_parts.specs.Index.{slot, used, home, fingerprint_of, Holds, IsFull, Reaches};
+ghost use Rattle.lasso_parts.specs.IndexTable.{AllInList, HaveFingerprint};
 ghost use Rattle.lasso_parts.specs.Scan.{Tells};
 
 use crate::index::groups::{first_in_group, passed_over};
@@ -12,11 +12,11 @@ use crate::keys::Key;
 use crate::same::is_same;
 use std::alloc::Allocator;
 
-// How many bits of a hash are below those of the tag.
-const TAG_SHIFT: u32 = 53;
+// How many bits of a hash are below those of the fingerprint.
+const FINGERPRINT_SHIFT: u32 = 53;
 
-// How many tags a text may have.
-const TAG_COUNT: u64 = 128;
+// How many fingerprints a text may have.
+const FINGERPRINT_COUNT: u64 = 128;
 
 // What a walk over a range of slots tells.
 pub enum Scan {
@@ -39,18 +39,18 @@ pub fn home_slot(hash: u64, count: usize) -> usize
     hash as usize & (count - 1)
 }
 
-// The tag of a text with that hash, which is not 0: the seven bits below its four highest, and one more. The
+// The fingerprint of a text with that hash, which is not 0: the seven bits below its four highest, and one more. The
 // lowest bits name the home slot, and the four highest are left to whoever parts texts among several indexes.
 #[inline]
-pub fn tag_of(hash: u64) -> u8
-    ensures value { result ≡ tag_of hash }
+pub fn fingerprint_of(hash: u64) -> u8
+    ensures value { result ≡ fingerprint_of hash }
     ensures filled { 0 < result }
 {
-    ((hash >> TAG_SHIFT) % TAG_COUNT) as u8 + 1
+    ((hash >> FINGERPRINT_SHIFT) % FINGERPRINT_COUNT) as u8 + 1
 }
 
 // Looks for the text in the slots from the first index up to the last, which is not among them. A slot with
-// another tag than the text's is passed over: neither its key nor that key's text is read. In the first slot
+// another fingerprint than the text's is passed over: neither its key nor that key's text is read. In the first slot
 // only the text is looked for, since a present text is mostly there. Empty slots are looked for in groups of
 // sixteen, the first slot included, so that no branch of a search for an absent text depends on how full the
 // table is. It is inlined, as `locate` is: a search mostly ends after a few slots, and a call would cost
@@ -60,34 +60,34 @@ pub fn scan_slots<K: Key, A: Allocator, T: Texts>(
     slots: &KeySlots<K, A>,
     texts: &T,
     text: &str,
-    tag: u8,
+    fingerprint: u8,
     from: usize,
     to: usize,
 ) -> Scan
     requires in_list { AllInList (T.list texts.now) slots.now.slots }
-    requires tagged { HaveTag (T.list texts.now) text.now tag slots.now }
-    requires filled { 0 < tag }
+    requires fitting { HaveFingerprint (T.list texts.now) text.now fingerprint slots.now }
+    requires filled { 0 < fingerprint }
     requires range { to ≤ length slots.now.slots }
     requires ordered { from ≤ to }
     ensures { Tells (T.list texts.now) text.now slots.now.slots from to result }
 {
-    let tags = slots.tags();
+    let fingerprints = slots.fingerprints();
     if from < to {
-        if let Some(position) = found_at(slots, texts, text, tag, from) {
+        if let Some(position) = found_at(slots, texts, text, fingerprint, from) {
             return Scan::Found(position);
         }
     }
-    let j = passed_over(tags, from, to, tag);
+    let j = passed_over(fingerprints, from, to, fingerprint);
     if j >= to {
         return Scan::Passed;
     }
-    if tags[j] == 0 {
+    if fingerprints[j] == 0 {
         return Scan::Ended(j);
     }
-    if let Some(position) = found_at(slots, texts, text, tag, j) {
+    if let Some(position) = found_at(slots, texts, text, fingerprint, j) {
         return Scan::Found(position);
     }
-    scan_further(slots, texts, text, tag, j + 1, to)
+    scan_further(slots, texts, text, fingerprint, j + 1, to)
 }
 
 // The same from a later slot on, out of line: few searches come so far.
@@ -96,48 +96,48 @@ fn scan_further<K: Key, A: Allocator, T: Texts>(
     slots: &KeySlots<K, A>,
     texts: &T,
     text: &str,
-    tag: u8,
+    fingerprint: u8,
     from: usize,
     to: usize,
 ) -> Scan
     requires in_list { AllInList (T.list texts.now) slots.now.slots }
-    requires tagged { HaveTag (T.list texts.now) text.now tag slots.now }
-    requires filled { 0 < tag }
+    requires fitting { HaveFingerprint (T.list texts.now) text.now fingerprint slots.now }
+    requires filled { 0 < fingerprint }
     requires range { to ≤ length slots.now.slots }
     requires ordered { from ≤ to }
     ensures { Tells (T.list texts.now) text.now slots.now.slots from to result }
 {
-    let tags = slots.tags();
-    let mut j = passed_over(tags, from, to, tag);
+    let fingerprints = slots.fingerprints();
+    let mut j = passed_over(fingerprints, from, to, fingerprint);
     while j < to {
-        if tags[j] == 0 {
+        if fingerprints[j] == 0 {
             return Scan::Ended(j);
         }
-        if let Some(position) = found_at(slots, texts, text, tag, j) {
+        if let Some(position) = found_at(slots, texts, text, fingerprint, j) {
             return Scan::Found(position);
         }
-        j = passed_over(tags, j + 1, to, tag);
+        j = passed_over(fingerprints, j + 1, to, fingerprint);
     }
     Scan::Passed
 }
 
-// The position of the slot's key, where the slot has the tag and its key the text that is looked for.
+// The position of the slot's key, where the slot has the fingerprint and its key the text that is looked for.
 #[inline(always)]
 fn found_at<K: Key, A: Allocator, T: Texts>(
     slots: &KeySlots<K, A>,
     texts: &T,
     text: &str,
-    tag: u8,
+    fingerprint: u8,
     j: usize,
 ) -> Option<usize>
     requires in_list { AllInList (T.list texts.now) slots.now.slots }
-    requires tagged { HaveTag (T.list texts.now) text.now tag slots.now }
-    requires filled { 0 < tag }
+    requires fitting { HaveFingerprint (T.list texts.now) text.now fingerprint slots.now }
+    requires filled { 0 < fingerprint }
     requires inside { j < length slots.now.slots }
     ensures found { IfSome result (λ n. Holds slots.now.slots n × (slice_get (T.list texts.now) n ≡ Some text.now)) }
     ensures missing { IfNone result ((n : ℕ) → slot slots.now.slots j ≡ Some n → slice_get (T.list texts.now) n ≢ Some text.now) }
 {
-    if slots.tags()[j] != tag {
+    if slots.fingerprints()[j] != fingerprint {
         return None;
     }
     let position = slots.key(j).into_usize();
@@ -147,20 +147,20 @@ fn found_at<K: Key, A: Allocator, T: Texts>(
     None
 }
 
-// The position of the first key with the tag of that hash among the sixteen slots from the home slot on,
+// The position of the first key with the fingerprint of that hash among the sixteen slots from the home slot on,
 // unless an empty slot comes before it. No text is read.
 #[inline(always)]
-pub fn first_tagged<K: Key, A: Allocator>(slots: &KeySlots<K, A>, hash: u64) -> Option<usize>
+pub fn first_fitting<K: Key, A: Allocator>(slots: &KeySlots<K, A>, hash: u64) -> Option<usize>
     ensures { IfSome result (λ n. Holds slots.now.slots n) }
 {
-    let tags = slots.tags();
+    let fingerprints = slots.fingerprints();
     let count = slots.len();
     if count == 0 {
         return None;
     }
-    let tag = tag_of(hash);
-    let j = first_in_group(tags, home_slot(hash, count), tag);
-    if j < count && tags[j] == tag {
+    let fingerprint = fingerprint_of(hash);
+    let j = first_in_group(fingerprints, home_slot(hash, count), fingerprint);
+    if j < count && fingerprints[j] == fingerprint {
         return Some(slots.key(j).into_usize());
     }
     None
@@ -177,9 +177,9 @@ fn first_empty<K: Key, A: Allocator>(
     ensures found { IfSome result (λ j. (from ≤ j) × (j < to) × (slot slots.now.slots j ≡ None) × IsFull slots.now.slots from j) }
     ensures full { IfNone result (IsFull slots.now.slots from to) }
 {
-    let tags = slots.tags();
+    let fingerprints = slots.fingerprints();
     for j in from..to {
-        if tags[j] == 0 {
+        if fingerprints[j] == 0 {
             return Some(j);
         }
     }

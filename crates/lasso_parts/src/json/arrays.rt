@@ -3,7 +3,7 @@ ghost use Rattle.std.specs.Prelude.{◌≡◌, ◌<◌, ◌⊎◌, ◌++◌, ◌
 ghost use Rattle.serde_json.specs.Find.{as_str};
 ghost use Rattle.serde_json.specs.View.{view, items_view};
 ghost use Rattle.lasso_parts.specs.declared.util.LassoErrorKind.TheVariants.{FailedAllocation};
-ghost use Rattle.lasso_parts.specs.Hashing.{text_hash};
+ghost use Rattle.lasso_parts.specs.Hashing.{hash_by};
 ghost use Rattle.lasso_parts.specs.Index.{HoldsNone, IsIndexOf};
 ghost use Rattle.lasso_parts.specs.Json.{json_array, read_array, read_items, item_text, new_text, key_or_too_many, earlier, shown, no_memory, TakesText, ReadsOr};
 
@@ -91,10 +91,10 @@ fn enter_text<K: Key, S: BuildHasher, A: Allocator + Clone>(
     text: &str,
     distinct: bool,
 ) -> Result<(), JsonError>
-    requires { IsTrue distinct → IsIndexOf (text_hash S.build_hasher S.Hasher.write S.Hasher.finish hasher.now) (map (λ t. t.now) texts.now) index.old }
+    requires { IsTrue distinct → IsIndexOf (hash_by S.BuildHasher S.Hasher.Hasher hasher.now) (map (λ t. t.now) texts.now) index.old }
     ensures taken { OnOk result (new_text K.key_at (length texts.now) text.now (earlier distinct (map (λ t. t.now) texts.now) text.now) ≡ Ok text.now) }
     ensures fault { IfErr result (λ e. (new_text K.key_at (length texts.now) text.now (earlier distinct (map (λ t. t.now) texts.now) text.now) ≡ Err e) ⊎ (e ≡ JsonError.Lasso FailedAllocation)) }
-    ensures whole { OnOk result (IsTrue distinct → IsIndexOf (text_hash S.build_hasher S.Hasher.write S.Hasher.finish hasher.now) (map (λ t. t.now) texts.now ++ text.now ∷ []) index.new) }
+    ensures whole { OnOk result (IsTrue distinct → IsIndexOf (hash_by S.BuildHasher S.Hasher.Hasher hasher.now) (map (λ t. t.now) texts.now ++ text.now ∷ []) index.new) }
 {
     let at = texts.len();
     if !distinct {

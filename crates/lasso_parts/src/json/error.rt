@@ -44,12 +44,12 @@ impl fmt::Display for JsonError {
     fn fmt<W: fmt::Write>(&self, f: &mut fmt::Formatter<W>) -> fmt::Result {
         match self {
             JsonError::NotAnArray => f.write_str("The value is not an array"),
-            JsonError::NotText(at) => write!(f, "Item {at} is not a text"),
-            JsonError::Doubled(at) => write!(f, "Item {at} is the text of an earlier item"),
-            JsonError::TooMany(at) => write!(f, "Item {at} has a position without a key"),
+            JsonError::NotText(at) => write!(f, "item {at} is not a text"),
+            JsonError::Doubled(at) => write!(f, "item {at} is the text of an earlier item"),
+            JsonError::TooMany(at) => write!(f, "item {at} has a position without a key"),
             JsonError::NotAnObject => f.write_str("The value is not an object"),
-            JsonError::NotAPosition(at) => write!(f, "Item {at} is not a position"),
-            JsonError::Taken(at) => write!(f, "Item {at} is the position of an earlier item"),
+            JsonError::NotAPosition(at) => write!(f, "item {at} is not a position"),
+            JsonError::Taken(at) => write!(f, "item {at} is the position of an earlier item"),
             JsonError::Lasso(kind) => write!(f, "Lasso encountered an error: {kind}"),
             JsonError::NotAKey => f.write_str("The value is not a key"),
         }

@@ -3,7 +3,7 @@
 //! The texts are hashed once to find their shards. Then each shard takes those of its number, in the order of their positions: one walk over the hashes for
 //! each of the sixteen.
 ghost use Rattle.std.specs.Prelude.{◌≡◌, ◌<◌, [], ℕ, Some, IfOk, IfErr, length, map, slice_get};
-ghost use Rattle.lasso_parts.specs.Hashing.{text_hash};
+ghost use Rattle.lasso_parts.specs.Hashing.{hash_by};
 ghost use Rattle.lasso_parts.specs.Texts.{IsDistinct, Fits};
 ghost use Rattle.lasso_parts.specs.declared.util.LassoErrorKind.TheVariants.{FailedAllocation};
 ghost use Rattle.lasso_log.specs.Views.{list_of};
@@ -11,7 +11,7 @@ ghost use Rattle.lasso_shared.specs.Shards.{Counts, IsShard};
 
 use crate::shards::shard::{BoxedShard, Shard};
 use crate::shards::tag::{SHARDS, ShardTag, number_of};
-use lasso_log::locks::TaggedRwLock;
+use lasso_lock::locks::TaggedRwLock;
 use lasso_parts::index::{Index, Texts, hash_text};
 use lasso_parts::keys::Key;
 use lasso_parts::util::LassoResult;
@@ -35,7 +35,7 @@ impl<K: Key, S: BuildHasher + Drop> ShardTag<K, S> {
         ensures same { (self.new.log ≡ self.old.log) × (self.new.hasher ≡ self.old.hasher) }
         ensures all { IfOk result (λ made. length made.locks.items ≡ 16) }
         ensures tags { IfOk result (λ made. (i : ℕ) → i < 16 → slice_get made.locks.items i ≡ Some (record self.old { number = i })) }
-        ensures counts { IfOk result (λ made. (length made.counts ≡ 16) × Counts (text_hash S.build_hasher S.Hasher.write S.Hasher.finish self.old.hasher) (list_of self.old.log []) made.counts) }
+        ensures counts { IfOk result (λ made. (length made.counts ≡ 16) × Counts (hash_by S.BuildHasher S.Hasher.Hasher self.old.hasher) (list_of self.old.log []) made.counts) }
         ensures refused { IfErr result (λ error. error ≡ FailedAllocation) }
     {
         let hashes = self.hashes(alloc, len)?;
@@ -53,7 +53,7 @@ impl<K: Key, S: BuildHasher + Drop> ShardTag<K, S> {
     // The hashes of the opening's texts, of which there are `len`, in order.
     fn hashes(&self, alloc: Global, len: usize) -> Result<Vec<u64>, AllocError>
         requires { len ≡ length (list_of self.now.log []) }
-        ensures { IfOk result (λ hashes. hashes.items ≡ map (text_hash S.build_hasher S.Hasher.write S.Hasher.finish self.now.hasher) (list_of self.now.log [])) }
+        ensures { IfOk result (λ hashes. hashes.items ≡ map (hash_by S.BuildHasher S.Hasher.Hasher self.now.hasher) (list_of self.now.log [])) }
     {
         let pass = self.log.pass();
         let texts = self.log.seen_texts(&pass);
@@ -66,10 +66,10 @@ impl<K: Key, S: BuildHasher + Drop> ShardTag<K, S> {
 
     // The shard of the tag's number, of an interner whose opening's texts have these hashes.
     fn shard(&self, alloc: Global, hashes: &[u64]) -> LassoResult<Shard<K, S>>
-        requires hashes { hashes.now ≡ map (text_hash S.build_hasher S.Hasher.write S.Hasher.finish self.now.hasher) (list_of self.now.log []) }
+        requires hashes { hashes.now ≡ map (hash_by S.BuildHasher S.Hasher.Hasher self.now.hasher) (list_of self.now.log []) }
         requires distinct { IsDistinct (list_of self.now.log []) }
         requires fits { Fits K.key_at (length (list_of self.now.log [])) }
-        ensures shard { IfOk result (λ s. IsShard (text_hash S.build_hasher S.Hasher.write S.Hasher.finish self.now.hasher) self.now.number self.now.log s.known s.index s.count) }
+        ensures shard { IfOk result (λ s. IsShard (hash_by S.BuildHasher S.Hasher.Hasher self.now.hasher) self.now.number self.now.log s.known s.index s.count) }
         ensures known { IfOk result (λ s. s.known.notes ≡ []) }
         ensures refused { IfErr result (λ error. error ≡ FailedAllocation) }
     {

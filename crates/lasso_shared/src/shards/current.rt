@@ -1,14 +1,14 @@
 //! Comparing a held shard with the spine: the shard's index is exact for a list that has no more texts of the shard.
 ghost use Rattle.std.specs.Prelude.{◌≡◌, ◌<◌, [], true};
 ghost use mathlib.Core.List.{IsPrefix};
-ghost use Rattle.lasso_parts.specs.Hashing.{text_hash};
+ghost use Rattle.lasso_parts.specs.Hashing.{hash_by};
 ghost use Rattle.lasso_log.specs.Notes.{Since};
 ghost use Rattle.lasso_log.specs.Views.{PassView, InternerId, SnapshotView, IsSamePass, list_of};
 ghost use Rattle.lasso_shared.specs.Shards.{IsShard, IsTally, IsWholeShard};
 
 use crate::shards::Shards;
 use crate::shards::shard::{BoxedTally, Shard, Tally};
-use lasso_log::locks::TaggedMutexGuard;
+use lasso_lock::locks::TaggedMutexGuard;
 use lasso_log::log::Pass;
 use lasso_parts::keys::Key;
 use std::hash::BuildHasher;
@@ -24,13 +24,13 @@ impl<K: Key, S: BuildHasher + Drop> Shards<K, S> {
         number: usize,
     ) -> bool
         requires of { (pass.old.of ≡ self.now.log) × (number < 16) }
-        requires held { IsShard (text_hash S.build_hasher S.Hasher.write S.Hasher.finish self.now.hasher) number self.now.log shard.now.known shard.now.index shard.now.count }
-        requires tally { IsTally (text_hash S.build_hasher S.Hasher.write S.Hasher.finish self.now.hasher) self.now.log tally.now.spine tally.now.counts }
+        requires held { IsShard (hash_by S.BuildHasher S.Hasher.Hasher self.now.hasher) number self.now.log shard.now.known shard.now.index shard.now.count }
+        requires tally { IsTally (hash_by S.BuildHasher S.Hasher.Hasher self.now.hasher) self.now.log tally.now.spine tally.now.counts }
         requires begins { IsPrefix shard.now.known.notes pass.old.notes }
         ensures same { IsSamePass pass.new pass.old }
         ensures since { Since pass.old.number pass.old.notes pass.new.notes [] }
         ensures begins { IsPrefix shard.now.known.notes pass.new.notes }
-        ensures whole { result ≡ true → IsWholeShard (text_hash S.build_hasher S.Hasher.write S.Hasher.finish self.now.hasher) number self.now.log shard.now.known.notes pass.new.notes }
+        ensures whole { result ≡ true → IsWholeShard (hash_by S.BuildHasher S.Hasher.Hasher self.now.hasher) number self.now.log shard.now.known.notes pass.new.notes }
         ensures list { result ≡ true → list_of self.now.log pass.new.notes ≡ list_of self.now.log tally.now.spine.notes }
     {
         if self.log.len(pass) != tally.spine.len() {
@@ -50,13 +50,13 @@ impl<K: Key, S: BuildHasher + Drop> Shards<K, S> {
         number: usize,
     ) -> (TaggedMutexGuard<'_, BoxedTally<K, S>>, BoxedTally<K, S>)
         requires of { (pass.old.of ≡ self.now.log) × (number < 16) }
-        requires held { IsShard (text_hash S.build_hasher S.Hasher.write S.Hasher.finish self.now.hasher) number self.now.log shard.now.known shard.now.index shard.now.count }
+        requires held { IsShard (hash_by S.BuildHasher S.Hasher.Hasher self.now.hasher) number self.now.log shard.now.known shard.now.index shard.now.count }
         requires begins { IsPrefix shard.now.known.notes pass.old.notes }
         ensures same { IsSamePass pass.new pass.old }
         ensures since { Since pass.old.number pass.old.notes pass.new.notes [] }
-        ensures whole { IsWholeShard (text_hash S.build_hasher S.Hasher.write S.Hasher.finish self.now.hasher) number self.now.log shard.now.known.notes pass.new.notes }
+        ensures whole { IsWholeShard (hash_by S.BuildHasher S.Hasher.Hasher self.now.hasher) number self.now.log shard.now.known.notes pass.new.notes }
         ensures spine { result.0 ≡ self.now.spine }
-        ensures tally { IsTally (text_hash S.build_hasher S.Hasher.write S.Hasher.finish self.now.hasher) self.now.log result.1.tally.value.spine result.1.tally.value.counts }
+        ensures tally { IsTally (hash_by S.BuildHasher S.Hasher.Hasher self.now.hasher) self.now.log result.1.tally.value.spine result.1.tally.value.counts }
         ensures list { list_of self.now.log pass.new.notes ≡ list_of self.now.log result.1.tally.value.spine.notes }
     {
         for _ in rt.forever() {
@@ -80,11 +80,11 @@ impl<K: Key, S: BuildHasher + Drop> Shards<K, S> {
         number: usize,
     )
         requires of { (pass.old.of ≡ self.now.log) × (number < 16) }
-        requires held { IsShard (text_hash S.build_hasher S.Hasher.write S.Hasher.finish self.now.hasher) number self.now.log shard.now.known shard.now.index shard.now.count }
+        requires held { IsShard (hash_by S.BuildHasher S.Hasher.Hasher self.now.hasher) number self.now.log shard.now.known shard.now.index shard.now.count }
         requires begins { IsPrefix shard.now.known.notes pass.old.notes }
         ensures same { IsSamePass pass.new pass.old }
         ensures since { Since pass.old.number pass.old.notes pass.new.notes [] }
-        ensures whole { IsWholeShard (text_hash S.build_hasher S.Hasher.write S.Hasher.finish self.now.hasher) number self.now.log shard.now.known.notes pass.new.notes }
+        ensures whole { IsWholeShard (hash_by S.BuildHasher S.Hasher.Hasher self.now.hasher) number self.now.log shard.now.known.notes pass.new.notes }
     {
         let (guard, held) = self.lock_current(rt, shard, pass, number);
         guard.unlock(rt, held);

@@ -5,7 +5,7 @@
 //! Then room is made, the bytes of a text that is copied are stored, and the text is put last. The shard is held
 //! to the end: so what was looked up stays. A text that is static or empty has no bytes to be stored.
 ghost use Rattle.std.specs.Prelude.{◌≡◌};
-ghost use Rattle.lasso_parts.specs.Hashing.{text_hash};
+ghost use Rattle.lasso_parts.specs.Hashing.{hash_by};
 ghost use Rattle.lasso_log.specs.Replies.{Copied, Static, Intern, Interned};
 ghost use Rattle.lasso_log.specs.Calls.{IsCall, IsPlainCall};
 ghost use Rattle.lasso_log.specs.Views.{PassView, InternerId, IsSamePass, seen};
@@ -34,11 +34,11 @@ impl<K: Key, S: BuildHasher + Drop> Shards<K, S> {
         text: NewText<'_>,
     ) -> LassoResult<K>
         requires of { pass.old.of ≡ self.now.log }
-        requires hashed { hash ≡ text_hash S.build_hasher S.Hasher.write S.Hasher.finish self.now.hasher (text_of text) }
-        requires held { IsShard (text_hash S.build_hasher S.Hasher.write S.Hasher.finish self.now.hasher) (shard_of hash) self.now.log shard.old.known shard.old.index shard.old.count }
+        requires hashed { hash ≡ hash_by S.BuildHasher S.Hasher.Hasher self.now.hasher (text_of text) }
+        requires held { IsShard (hash_by S.BuildHasher S.Hasher.Hasher self.now.hasher) (shard_of hash) self.now.log shard.old.known shard.old.index shard.old.count }
         ensures same { IsSamePass pass.new pass.old }
         ensures call { IsCall K.key_at self.now.log.opening (seen pass.old) (seen pass.new) pass.old.number (Intern (keeping_of text.entry) (text_of text.entry)) (Interned result) }
-        ensures held { IsShard (text_hash S.build_hasher S.Hasher.write S.Hasher.finish self.now.hasher) (shard_of hash) self.now.log shard.new.known shard.new.index shard.new.count }
+        ensures held { IsShard (hash_by S.BuildHasher S.Hasher.Hasher self.now.hasher) (shard_of hash) self.now.log shard.new.known shard.new.index shard.new.count }
     {
         if let Some(key) = self.find(shard, pass, hash, text.as_str()) {
             return Ok(key);
@@ -59,7 +59,7 @@ impl<K: Key, S: BuildHasher + Drop> Shards<K, S> {
         text: NewText<'_>,
     ) -> LassoResult<K>
         requires of { pass.old.of ≡ self.now.log }
-        requires hashed { hash ≡ text_hash S.build_hasher S.Hasher.write S.Hasher.finish self.now.hasher (text_of text) }
+        requires hashed { hash ≡ hash_by S.BuildHasher S.Hasher.Hasher self.now.hasher (text_of text) }
         ensures same { IsSamePass pass.new pass.old }
         ensures call { IsCall K.key_at self.now.log.opening (seen pass.old) (seen pass.new) pass.old.number (Intern (keeping_of text.entry) (text_of text.entry)) (Interned result) }
     {

@@ -1,7 +1,7 @@
 //! Looking a text up: by the hints of a pass, in a shard that is read, and in one that is held.
 ghost use Rattle.std.specs.Prelude.{◌≡◌, ◌<◌, List, [], length, Some, IfSome, IfNone};
 ghost use mathlib.Core.List.{IsPrefix};
-ghost use Rattle.lasso_parts.specs.Hashing.{text_hash};
+ghost use Rattle.lasso_parts.specs.Hashing.{hash_by};
 ghost use Rattle.lasso_parts.specs.Texts.{position_of, key_of};
 ghost use Rattle.lasso_log.specs.History.{IsLegal, Lacks};
 ghost use Rattle.lasso_log.specs.Notes.{NoteView, Since, history};
@@ -42,8 +42,8 @@ impl<K: Key, S: BuildHasher + Drop> Shards<K, S> {
     ) -> Option<usize>
         requires of { known.now.of ≡ self.now.log }
         requires begins { IsPrefix shard.now.known.notes known.now.notes }
-        requires hashed { hash ≡ text_hash S.build_hasher S.Hasher.write S.Hasher.finish self.now.hasher text.now }
-        requires held { IsShard (text_hash S.build_hasher S.Hasher.write S.Hasher.finish self.now.hasher) (shard_of hash) self.now.log shard.now.known shard.now.index shard.now.count }
+        requires hashed { hash ≡ hash_by S.BuildHasher S.Hasher.Hasher self.now.hasher text.now }
+        requires held { IsShard (hash_by S.BuildHasher S.Hasher.Hasher self.now.hasher) (shard_of hash) self.now.log shard.now.known shard.now.index shard.now.count }
         ensures found { IfSome result (λ n. (position_of (list_of self.now.log known.now.notes) text.now ≡ Some n) × (n < length (list_of self.now.log known.now.notes))) }
         ensures missing { IfNone result (Lacks (list_of self.now.log shard.now.known.notes) text.now) }
     {
@@ -56,8 +56,8 @@ impl<K: Key, S: BuildHasher + Drop> Shards<K, S> {
     // legal, lacks it.
     #[inline(always)]
     fn find_key(&self, shard: &Shard<K, S>, hash: u64, text: &str) -> Option<K>
-        requires hashed { hash ≡ text_hash S.build_hasher S.Hasher.write S.Hasher.finish self.now.hasher text.now }
-        requires held { IsShard (text_hash S.build_hasher S.Hasher.write S.Hasher.finish self.now.hasher) (shard_of hash) self.now.log shard.now.known shard.now.index shard.now.count }
+        requires hashed { hash ≡ hash_by S.BuildHasher S.Hasher.Hasher self.now.hasher text.now }
+        requires held { IsShard (hash_by S.BuildHasher S.Hasher.Hasher self.now.hasher) (shard_of hash) self.now.log shard.now.known shard.now.index shard.now.count }
         ensures found { IfSome result (λ k. IsLegal K.key_at self.now.log.opening (history shard.now.known.notes) × (key_of K.key_at (list_of self.now.log shard.now.known.notes) text.now ≡ Some k)) }
         ensures missing { IfNone result (Lacks (list_of self.now.log shard.now.known.notes) text.now) }
     {
@@ -79,8 +79,8 @@ impl<K: Key, S: BuildHasher + Drop> Shards<K, S> {
         text: &str,
     ) -> Option<K>
         requires of { pass.old.of ≡ self.now.log }
-        requires hashed { hash ≡ text_hash S.build_hasher S.Hasher.write S.Hasher.finish self.now.hasher text.now }
-        requires held { IsShard (text_hash S.build_hasher S.Hasher.write S.Hasher.finish self.now.hasher) (shard_of hash) self.now.log shard.now.known shard.now.index shard.now.count }
+        requires hashed { hash ≡ hash_by S.BuildHasher S.Hasher.Hasher self.now.hasher text.now }
+        requires held { IsShard (hash_by S.BuildHasher S.Hasher.Hasher self.now.hasher) (shard_of hash) self.now.log shard.now.known shard.now.index shard.now.count }
         ensures same { IsSamePass pass.new pass.old }
         ensures since { Since pass.old.number pass.old.notes pass.new.notes [] }
         ensures begins { IsPrefix shard.now.known.notes pass.new.notes }
@@ -123,7 +123,7 @@ impl<K: Key, S: BuildHasher + Drop> Shards<K, S> {
         text: &str,
     ) -> Option<K>
         requires of { pass.old.of ≡ self.now.log }
-        requires hashed { hash ≡ text_hash S.build_hasher S.Hasher.write S.Hasher.finish self.now.hasher text.now }
+        requires hashed { hash ≡ hash_by S.BuildHasher S.Hasher.Hasher self.now.hasher text.now }
         ensures same { IsSamePass pass.new pass.old }
         ensures since { Since pass.old.number pass.old.notes pass.new.notes [] }
         ensures found { IfSome result (λ k. key_of K.key_at (list_of self.now.log pass.new.notes) text.now ≡ Some k) }
@@ -141,7 +141,7 @@ impl<K: Key, S: BuildHasher + Drop> Shards<K, S> {
     // same time.
     #[inline(always)]
     pub(super) fn glance<R: Wait>(&self, rt: &R, hash: u64, text: &str) -> Option<K>
-        requires hashed { hash ≡ text_hash S.build_hasher S.Hasher.write S.Hasher.finish self.now.hasher text.now }
+        requires hashed { hash ≡ hash_by S.BuildHasher S.Hasher.Hasher self.now.hasher text.now }
         ensures told { IfSome result (λ k. (notes : List NoteView) × IsLegal K.key_at self.now.log.opening (history notes) × (key_of K.key_at (list_of self.now.log notes) text.now ≡ Some k)) }
     {
         let guard = self.lock(number_of(hash)).read(rt);
@@ -161,8 +161,8 @@ impl<K: Key, S: BuildHasher + Drop> Shards<K, S> {
         text: &str,
     ) -> Option<K>
         requires of { pass.old.of ≡ self.now.log }
-        requires hashed { hash ≡ text_hash S.build_hasher S.Hasher.write S.Hasher.finish self.now.hasher text.now }
-        requires held { IsShard (text_hash S.build_hasher S.Hasher.write S.Hasher.finish self.now.hasher) (shard_of hash) self.now.log shard.now.known shard.now.index shard.now.count }
+        requires hashed { hash ≡ hash_by S.BuildHasher S.Hasher.Hasher self.now.hasher text.now }
+        requires held { IsShard (hash_by S.BuildHasher S.Hasher.Hasher self.now.hasher) (shard_of hash) self.now.log shard.now.known shard.now.index shard.now.count }
         ensures same { IsSamePass pass.new pass.old }
         ensures since { Since pass.old.number pass.old.notes pass.new.notes [] }
         ensures found { result ≡ key_of K.key_at (list_of self.now.log pass.new.notes) text.now }
@@ -184,7 +184,7 @@ impl<K: Key, S: BuildHasher + Drop> Shards<K, S> {
         text: &str,
     ) -> Option<K>
         requires of { pass.old.of ≡ self.now.log }
-        requires hashed { hash ≡ text_hash S.build_hasher S.Hasher.write S.Hasher.finish self.now.hasher text.now }
+        requires hashed { hash ≡ hash_by S.BuildHasher S.Hasher.Hasher self.now.hasher text.now }
         ensures same { IsSamePass pass.new pass.old }
         ensures since { Since pass.old.number pass.old.notes pass.new.notes [] }
         ensures found { result ≡ key_of K.key_at (list_of self.now.log pass.new.notes) text.now }

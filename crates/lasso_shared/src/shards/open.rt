@@ -6,13 +6,13 @@ ghost use Rattle.lasso_single.specs.Copies.{bytes_of, clone_size};
 ghost use Rattle.lasso_log.specs.History.{opened};
 ghost use Rattle.lasso_log.specs.Openings.{OpeningView, opening_with};
 
-mod words;
+mod from_static;
 
 use crate::shards::Shards;
 use crate::shards::building::NewShards;
 use crate::shards::shard::BoxedTally;
 use crate::shards::tag::ShardTag;
-use lasso_log::locks::TaggedMutex;
+use lasso_lock::locks::TaggedMutex;
 use lasso_log::log::bucket_list::BucketList;
 use lasso_log::log::{Log, NewLog, Opened, OpeningTexts};
 use lasso_parts::keys::Key;

@@ -1,7 +1,7 @@
 //! Putting a new text last, while its shard is held.
 //!
 //! Memory is asked for first: room in the index, and cells of the log ahead of its length. Then the bytes of
-//! a copied text are stored. Then, in one hold of the spine, a slot is kept among those cells, the key type
+//! a copied text are stored. Then, in one hold of the spine, one of those cells is kept, the key type
 //! is asked, and the text is appended. Its position goes into the index. The shard is held throughout: so
 //! what was looked up stays, what was stored is not stored again, and a retry compares numbers alone and asks
 //! for no memory.
@@ -9,7 +9,7 @@ ghost use Rattle.std.specs.Prelude.{◌≡◌, ◌<◌, ◌-◌, [], IfOk, IfErr
 ghost use base.Fml.{Incl};
 ghost use mathlib.Core.List.{IsPrefix};
 ghost use Rattle.lasso_parts.specs.declared.util.LassoErrorKind.TheVariants.{FailedAllocation};
-ghost use Rattle.lasso_parts.specs.Hashing.{text_hash};
+ghost use Rattle.lasso_parts.specs.Hashing.{hash_by};
 ghost use Rattle.lasso_parts.specs.Index.{room};
 ghost use Rattle.lasso_log.specs.Chunks.{era_named};
 ghost use Rattle.lasso_log.specs.Eras.{life};
@@ -22,8 +22,8 @@ ghost use Rattle.lasso_log.specs.Views.{PassView, InternerId, SnapshotView, IsSa
 use crate::shards::Shards;
 use crate::shards::shard::{Shard, Tally};
 use crate::shards::tag::number_of;
-use lasso_log::log::{CellsAhead, KeptSlot, Pass};
-use lasso_log::shared_arena::piece::Piece;
+use lasso_log::log::{CellsAhead, KeptCell, Pass};
+use lasso_log::shared_memory::piece::Piece;
 use lasso_parts::keys::Key;
 use lasso_parts::util::{LassoError, LassoErrorKind, LassoResult};
 use std::hash::BuildHasher;
@@ -57,12 +57,12 @@ impl<K: Key, S: BuildHasher + Drop> Shards<K, S> {
         number: usize,
     ) -> LassoResult<CellsAhead<K>>
         requires of { pass.old.of ≡ self.now.log }
-        requires held { IsShard (text_hash S.build_hasher S.Hasher.write S.Hasher.finish self.now.hasher) number self.now.log shard.old.known shard.old.index shard.old.count }
+        requires held { IsShard (hash_by S.BuildHasher S.Hasher.Hasher self.now.hasher) number self.now.log shard.old.known shard.old.index shard.old.count }
         requires begins { IsPrefix shard.old.known.notes pass.old.notes }
         ensures same { IsSamePass pass.new pass.old }
         ensures since { Since pass.old.number pass.old.notes pass.new.notes [] }
         ensures begins { IsPrefix shard.old.known.notes pass.new.notes }
-        ensures held { IsShard (text_hash S.build_hasher S.Hasher.write S.Hasher.finish self.now.hasher) number self.now.log shard.new.known shard.new.index shard.new.count }
+        ensures held { IsShard (hash_by S.BuildHasher S.Hasher.Hasher self.now.hasher) number self.now.log shard.new.known shard.new.index shard.new.count }
         ensures known { shard.new.known ≡ shard.old.known }
         ensures room { OnOk result (0 < room shard.new.index.slots) }
         ensures ahead { IfOk result (λ a. (a.of ≡ self.now.log) × (a.notes ≡ pass.new.notes)) }
@@ -82,14 +82,14 @@ impl<K: Key, S: BuildHasher + Drop> Shards<K, S> {
         number: usize,
     ) -> LassoResult<CellsAhead<K>>
         requires of { (pass.old.of ≡ self.now.log) × (number < 16) }
-        requires held { IsShard (text_hash S.build_hasher S.Hasher.write S.Hasher.finish self.now.hasher) number self.now.log shard.old.known shard.old.index shard.old.count }
+        requires held { IsShard (hash_by S.BuildHasher S.Hasher.Hasher self.now.hasher) number self.now.log shard.old.known shard.old.index shard.old.count }
         requires begins { IsPrefix shard.old.known.notes pass.old.notes }
         ensures same { IsSamePass pass.new pass.old }
         ensures since { Since pass.old.number pass.old.notes pass.new.notes [] }
         ensures begins { IsPrefix shard.old.known.notes pass.new.notes }
-        ensures held { IsShard (text_hash S.build_hasher S.Hasher.write S.Hasher.finish self.now.hasher) number self.now.log shard.new.known shard.new.index shard.new.count }
+        ensures held { IsShard (hash_by S.BuildHasher S.Hasher.Hasher self.now.hasher) number self.now.log shard.new.known shard.new.index shard.new.count }
         ensures known { shard.new.known ≡ shard.old.known }
-        ensures whole { OnErr result (IsWholeShard (text_hash S.build_hasher S.Hasher.write S.Hasher.finish self.now.hasher) number self.now.log shard.old.known.notes pass.new.notes) }
+        ensures whole { OnErr result (IsWholeShard (hash_by S.BuildHasher S.Hasher.Hasher self.now.hasher) number self.now.log shard.old.known.notes pass.new.notes) }
         ensures room { OnOk result (0 < room shard.new.index.slots) }
         ensures ahead { IfOk result (λ a. (a.of ≡ self.now.log) × (a.notes ≡ pass.new.notes)) }
         ensures refused { IfErr result (λ error. error ≡ FailedAllocation) }
@@ -104,38 +104,38 @@ impl<K: Key, S: BuildHasher + Drop> Shards<K, S> {
     }
 
     // Puts the text last, where the shard is whole for what the pass has seen, and the spine has seen that list. Where the key
-    // type has no key for its position, the slot is given back.
+    // type has no key for its position, the cell is given back.
     fn append_at<R: Wait>(
         &self,
         rt: &R,
         tally: &mut Tally<K, S>,
         shard: &mut Shard<K, S>,
         pass: &mut Pass<K>,
-        slot: KeptSlot<K>,
+        cell: KeptCell<K>,
         hash: u64,
         text: Piece,
     ) -> LassoResult<K>
-        requires of { (pass.old.of ≡ self.now.log) × (slot ≡ self.now.log) }
+        requires of { (pass.old.of ≡ self.now.log) × (cell ≡ self.now.log) }
         requires lasts { Incl (life (era_named self.now.log.chunks)) text.until }
-        requires hashed { hash ≡ text_hash S.build_hasher S.Hasher.write S.Hasher.finish self.now.hasher text.text }
-        requires held { IsShard (text_hash S.build_hasher S.Hasher.write S.Hasher.finish self.now.hasher) (shard_of hash) self.now.log shard.old.known shard.old.index shard.old.count }
-        requires tally { IsTally (text_hash S.build_hasher S.Hasher.write S.Hasher.finish self.now.hasher) self.now.log tally.old.spine tally.old.counts }
-        requires whole { IsWholeShard (text_hash S.build_hasher S.Hasher.write S.Hasher.finish self.now.hasher) (shard_of hash) self.now.log shard.old.known.notes pass.old.notes }
+        requires hashed { hash ≡ hash_by S.BuildHasher S.Hasher.Hasher self.now.hasher text.text }
+        requires held { IsShard (hash_by S.BuildHasher S.Hasher.Hasher self.now.hasher) (shard_of hash) self.now.log shard.old.known shard.old.index shard.old.count }
+        requires tally { IsTally (hash_by S.BuildHasher S.Hasher.Hasher self.now.hasher) self.now.log tally.old.spine tally.old.counts }
+        requires whole { IsWholeShard (hash_by S.BuildHasher S.Hasher.Hasher self.now.hasher) (shard_of hash) self.now.log shard.old.known.notes pass.old.notes }
         requires list { list_of self.now.log pass.old.notes ≡ list_of self.now.log tally.old.spine.notes }
         requires lacks { Lacks (list_of self.now.log shard.old.known.notes) text.text }
         requires room { 0 < room shard.old.index.slots }
         ensures same { IsSamePass pass.new pass.old }
         ensures put { PutsLast K.key_at self.now.log pass.old.number pass.old.notes pass.new.notes text.text result }
-        ensures held { IsShard (text_hash S.build_hasher S.Hasher.write S.Hasher.finish self.now.hasher) (shard_of hash) self.now.log shard.new.known shard.new.index shard.new.count }
-        ensures tally { IsTally (text_hash S.build_hasher S.Hasher.write S.Hasher.finish self.now.hasher) self.now.log tally.new.spine tally.new.counts }
+        ensures held { IsShard (hash_by S.BuildHasher S.Hasher.Hasher self.now.hasher) (shard_of hash) self.now.log shard.new.known shard.new.index shard.new.count }
+        ensures tally { IsTally (hash_by S.BuildHasher S.Hasher.Hasher self.now.hasher) self.now.log tally.new.spine tally.new.counts }
         ensures kept { tally.new.spine.kept ≡ tally.old.spine.kept - 1 }
     {
         pass.prove_legal();
         let Some(key) = K::try_from_usize(tally.spine.len() as usize) else {
-            tally.spine.give_back(slot);
+            tally.spine.give_back(cell);
             return Err(LassoError::new(LassoErrorKind::KeySpaceExhaustion));
         };
-        self.log.append(rt, &mut tally.spine, pass, slot, text);
+        self.log.append(rt, &mut tally.spine, pass, cell, text);
         let _len = tally.spine.len();
         shard.index.insert_reserved(hash, key);
         shard.known = pass.snapshot();
@@ -158,20 +158,20 @@ impl<K: Key, S: BuildHasher + Drop> Shards<K, S> {
     ) -> LassoResult<K>
         requires of { (pass.old.of ≡ self.now.log) × (ahead.of ≡ self.now.log) }
         requires lasts { Incl (life (era_named self.now.log.chunks)) text.until }
-        requires hashed { hash ≡ text_hash S.build_hasher S.Hasher.write S.Hasher.finish self.now.hasher text.text }
-        requires held { IsShard (text_hash S.build_hasher S.Hasher.write S.Hasher.finish self.now.hasher) (shard_of hash) self.now.log shard.old.known shard.old.index shard.old.count }
+        requires hashed { hash ≡ hash_by S.BuildHasher S.Hasher.Hasher self.now.hasher text.text }
+        requires held { IsShard (hash_by S.BuildHasher S.Hasher.Hasher self.now.hasher) (shard_of hash) self.now.log shard.old.known shard.old.index shard.old.count }
         requires begins { IsPrefix shard.old.known.notes pass.old.notes }
         requires lacks { Lacks (list_of self.now.log shard.old.known.notes) text.text }
         requires room { 0 < room shard.old.index.slots }
         ensures same { IsSamePass pass.new pass.old }
         ensures put { PutsLast K.key_at self.now.log pass.old.number pass.old.notes pass.new.notes text.text result }
-        ensures held { IsShard (text_hash S.build_hasher S.Hasher.write S.Hasher.finish self.now.hasher) (shard_of hash) self.now.log shard.new.known shard.new.index shard.new.count }
+        ensures held { IsShard (hash_by S.BuildHasher S.Hasher.Hasher self.now.hasher) (shard_of hash) self.now.log shard.new.known shard.new.index shard.new.count }
     {
         for _ in rt.forever() {
             let (guard, mut held) = self.lock_current(rt, shard, pass, number_of(hash));
             let tally: &mut Tally<K, S> = &mut held.tally;
-            if let Some(slot) = self.log.reserve_ahead(&mut tally.spine, &ahead) {
-                let reply = self.append_at(rt, tally, shard, pass, slot, hash, text);
+            if let Some(cell) = self.log.reserve_ahead(&mut tally.spine, &ahead) {
+                let reply = self.append_at(rt, tally, shard, pass, cell, hash, text);
                 guard.unlock(rt, held);
                 return reply;
             }

@@ -3,11 +3,11 @@ ghost use Rattle.std.specs.Prelude.{◌≡◌, IfOk, IfErr};
 ghost use Rattle.lasso_parts.specs.declared.util.LassoErrorKind.TheVariants.{FailedAllocation};
 
 use crate::shards::tag::ShardTag;
+use lasso_lock::latch::Fits;
 use lasso_log::log::{Snapshot, Spine};
 use lasso_parts::index::Index;
 use lasso_parts::keys::Key;
 use lasso_parts::util::LassoResult;
-use lasso_slot::Fits;
 use std::alloc::Global;
 use std::hash::BuildHasher;
 use std::marker::PhantomData;
@@ -42,10 +42,10 @@ impl<K: Key, S: BuildHasher + Drop> BoxedShard<K, S> {
 impl<K: Key, S: BuildHasher + Drop> Fits for BoxedShard<K, S> {
     type Tag = ShardTag<K, S>;
 
-    ghost use Rattle.lasso_parts.specs.Hashing.{text_hash};
+    ghost use Rattle.lasso_parts.specs.Hashing.{hash_by};
     ghost use Rattle.lasso_shared.specs.Shards.{IsShard};
 
-    ghost fits = { λ tag b. IsShard (text_hash S.build_hasher S.Hasher.write S.Hasher.finish tag.hasher) tag.number tag.log b.shard.value.known b.shard.value.index b.shard.value.count };
+    ghost fits = { λ tag b. IsShard (hash_by S.BuildHasher S.Hasher.Hasher tag.hasher) tag.number tag.log b.shard.value.known b.shard.value.index b.shard.value.count };
 }
 
 /// The spine, and how many texts each shard has in the history that the spine has seen.
@@ -83,8 +83,8 @@ impl<K: Key, S: BuildHasher + Drop> BoxedTally<K, S> {
 impl<K: Key, S: BuildHasher + Drop> Fits for BoxedTally<K, S> {
     type Tag = ShardTag<K, S>;
 
-    ghost use Rattle.lasso_parts.specs.Hashing.{text_hash};
+    ghost use Rattle.lasso_parts.specs.Hashing.{hash_by};
     ghost use Rattle.lasso_shared.specs.Shards.{IsTally};
 
-    ghost fits = { λ tag b. IsTally (text_hash S.build_hasher S.Hasher.write S.Hasher.finish tag.hasher) tag.log b.tally.value.spine b.tally.value.counts };
+    ghost fits = { λ tag b. IsTally (hash_by S.BuildHasher S.Hasher.Hasher tag.hasher) tag.log b.tally.value.spine b.tally.value.counts };
 }

@@ -7,7 +7,7 @@ ghost use Rattle.std.specs.Prelude.{◌≡◌, ◌≢◌, ◌⊎◌, [], List, l
 ghost use mathlib.Core.List.{IsPrefix};
 ghost use base.Fml.{Incl};
 ghost use Rattle.lasso_parts.specs.declared.util.LassoErrorKind.TheVariants.{FailedAllocation, MemoryLimitReached};
-ghost use Rattle.lasso_parts.specs.Hashing.{text_hash};
+ghost use Rattle.lasso_parts.specs.Hashing.{hash_by};
 ghost use Rattle.lasso_log.specs.Calls.{IsCall, TakesBytes, Stores};
 ghost use Rattle.lasso_log.specs.Chunks.{era_named};
 ghost use Rattle.lasso_log.specs.Eras.{life};
@@ -25,7 +25,7 @@ use crate::shards::new_text::NewText;
 use crate::shards::shard::{Shard, Tally};
 use crate::shards::tag::number_of;
 use lasso_log::log::Pass;
-use lasso_log::shared_arena::piece::{Piece, Range};
+use lasso_log::shared_memory::piece::{Piece, Range};
 use lasso_parts::keys::Key;
 use lasso_parts::util::LassoResult;
 use std::hash::BuildHasher;
@@ -70,8 +70,8 @@ impl<K: Key, S: BuildHasher + Drop> Shards<K, S> {
         text: &str,
     ) -> LassoResult<Range>
         requires of { pass.old.of ≡ self.now.log }
-        requires hashed { hash ≡ text_hash S.build_hasher S.Hasher.write S.Hasher.finish self.now.hasher text.now }
-        requires held { IsShard (text_hash S.build_hasher S.Hasher.write S.Hasher.finish self.now.hasher) (shard_of hash) self.now.log shard.now.known shard.now.index shard.now.count }
+        requires hashed { hash ≡ hash_by S.BuildHasher S.Hasher.Hasher self.now.hasher text.now }
+        requires held { IsShard (hash_by S.BuildHasher S.Hasher.Hasher self.now.hasher) (shard_of hash) self.now.log shard.now.known shard.now.index shard.now.count }
         requires begins { IsPrefix shard.now.known.notes pass.old.notes }
         requires lacks { Lacks (list_of self.now.log shard.now.known.notes) text.now }
         requires some { text.now ≢ [] }
@@ -101,8 +101,8 @@ impl<K: Key, S: BuildHasher + Drop> Shards<K, S> {
         text: NewText<'_>,
     ) -> LassoResult<Piece>
         requires of { pass.old.of ≡ self.now.log }
-        requires hashed { hash ≡ text_hash S.build_hasher S.Hasher.write S.Hasher.finish self.now.hasher (text_of text) }
-        requires held { IsShard (text_hash S.build_hasher S.Hasher.write S.Hasher.finish self.now.hasher) (shard_of hash) self.now.log shard.now.known shard.now.index shard.now.count }
+        requires hashed { hash ≡ hash_by S.BuildHasher S.Hasher.Hasher self.now.hasher (text_of text) }
+        requires held { IsShard (hash_by S.BuildHasher S.Hasher.Hasher self.now.hasher) (shard_of hash) self.now.log shard.now.known shard.now.index shard.now.count }
         requires begins { IsPrefix shard.now.known.notes pass.old.notes }
         requires lacks { Lacks (list_of self.now.log shard.now.known.notes) (text_of text) }
         ensures same { IsSamePass pass.new pass.old }

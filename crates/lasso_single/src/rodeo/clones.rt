@@ -5,7 +5,7 @@ ghost use Rattle.lasso_single.specs.Copies.{bytes_of, clone_size, clone_of, clon
 ghost use Rattle.lasso_single.specs.Interner.{IsMadeWith};
 
 use super::Rodeo;
-use crate::copying::copy_all;
+use crate::list_copies::copy_all;
 use crate::room::one_bucket;
 use lasso_parts::index::Index;
 use lasso_parts::keys::Key;

@@ -6,7 +6,7 @@ ghost use Rattle.lasso_single.specs.Copies.{bytes_of, clone_size, read_of};
 ghost use Rattle.lasso_single.specs.Interner.{IsMadeWith};
 
 use super::Rodeo;
-use crate::copying::{CopyTarget, copy_all};
+use crate::list_copies::{CopyTarget, copy_all};
 use crate::room::one_bucket;
 use lasso_parts::index::Texts;
 use lasso_parts::keys::Key;

@@ -57,8 +57,8 @@ lasso_text_spec 𝓤 𝓛 𝓜 𝓡 wired =
     let y : W.Ghost = ((κs, qs, bounds, a, vs), tt) in
     let L : RattleType = Lent.the_row (named_lft 2 0 tt κs) in
     let T : RattleType = LassoText.the_row (named_lft 2 0 tt κs) in
-    let Status : ℕ → Type 0 = λ s. s ≡ outcome_status (code_lookup a.0.now.slot.value a.1.0) in
-    let Text : ℕ → T.Denot → Type 0 = λ s t. s ≡ DONE → slice_get (texts_in a.0.now.slot.value) a.1.0 ≡ Some t.bytes.now in
+    let Status : ℕ → Type 0 = λ s. s ≡ outcome_status (code_lookup a.0.now.seat.value a.1.0) in
+    let Text : ℕ → T.Denot → Type 0 = λ s t. s ≡ DONE → slice_get (texts_in a.0.now.seat.value) a.1.0 ≡ Some t.bytes.now in
     let Kept : ℕ → T.Denot → Type 0 = λ s t. ¬ (s ≡ DONE) → t ≡ a.1.1.0.now in
     let t₀ : Item 𝓤 = ‵ (flft κs.0 qs.0) in let t₁ : Item 𝓤 = ‵ (flft κs.1.0 qs.1.0) in
     let G = triple_of 𝓛 g.signature (g.spec 𝓛 𝓜.mem 𝓡.returns) in

@@ -58,7 +58,7 @@ lasso_texts_spec 𝓤 𝓛 𝓜 𝓡 wired =
     let y : W.Ghost = ((κs, qs, bounds, a, vs), tt) in
     let L : RattleType = Lent.the_row (named_lft 2 0 tt κs) in
     let T : RattleType = LassoText.the_row (named_lft 2 0 tt κs) in
-    let all = texts_in a.0.now.slot.value in let old = a.1.1.0.now in
+    let all = texts_in a.0.now.seat.value in let old = a.1.1.0.now in
     let Count : ℕ → Type 0 = λ n. n ≡ min (length old) (length all - a.1.0) in
     let Texts : ℕ → List T.Denot → Type 0 = λ n ts. take n (map (λ t. t.bytes.now) ts) ≡ take n (drop a.1.0 all) in
     let Rest : ℕ → List T.Denot → Type 0 = λ n ts. drop n ts ≡ drop n old in

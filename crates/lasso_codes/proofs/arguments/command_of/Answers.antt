@@ -1,6 +1,6 @@
 use Rattle.std.proofs.Common.{◌∙◌, ap, sym, map, Some}
 use Rattle.std.specs.Prelude.{string_bytes}
-use Rattle.lasso_codes.proofs.Words.{first_word, no_verb_is}
+use Rattle.lasso_codes.proofs.CommandWords.{first_word, no_verb_is}
 use Rattle.lasso_codes.proofs.arguments.command_of.Goals as goal
 
 pub returns-in-None : goal.returns-in-None

@@ -1,7 +1,7 @@
 use Rattle.std.proofs.Common.{◌≡◌, ◌∙◌, ◌∷◌, ◌++◌, drop, sym, subst, arith}
 use Rattle.std.proofs.lemmas.Result.{err_from_is_err_and}
 use Rattle.lasso_single.specs.Interner.{InternerView}
-use Rattle.lasso_columns.specs.Faults.{IsFaultOf}
+use Rattle.lasso_codes.specs.Limits.{IsLineFault}
 use Rattle.lasso_input.specs.Lines.{lines_of}
 use Rattle.lasso_codes.specs.Stages.{Counting}
 use Rattle.lasso_codes.proofs.Feeds.{no_line, one_line}
@@ -17,8 +17,8 @@ returns-in_err-next-clause-error g c =
     rw (p.1, p.2) (λ bytes e limit made.
     let ahead = at.invariant.ahead bytes e in
     let hand = c.buffered-shown.ensures.first ahead.0 ahead.1 in
-    let so_far = subst (λ bs. Counting bytes bs at.number c.args.rodeo.now at.rodeo at.counts.items) hand.1 ahead.2 in
-    c.in_err-next.ensures.error bytes hand.0 limit (subst (λ (i : InternerView). Counting bytes (c.buffered-shown.result.now ++ hand.0) at.number i at.rodeo at.counts.items) made so_far))
+    let so_far = subst (λ bs. Counting bytes bs c.args.rule.only_utf8 at.number c.args.rodeo.now at.rodeo at.counts.items) hand.1 ahead.2 in
+    c.in_err-next.ensures.error bytes hand.0 limit (subst (λ (i : InternerView). Counting bytes (c.buffered-shown.result.now ++ hand.0) c.args.rule.only_utf8 at.number i at.rodeo at.counts.items) made so_far))
 
 pub returns-in_err-next_line-clause-error : goal.returns-in_err-next_line-clause-error
 returns-in_err-next_line-clause-error g c =
@@ -28,9 +28,9 @@ returns-in_err-next_line-clause-error g c =
     let ahead = at.invariant.ahead bytes e in
     let hand = c.buffered-shown.ensures.first ahead.0 ahead.1 in
     let left = drop c.in_ok-next.used c.buffered-shown.result.now ++ hand.0 in
-    let so_far = subst (λ bs. Counting bytes bs at.number c.args.rodeo.now at.rodeo at.counts.items) hand.1 ahead.2 in
+    let so_far = subst (λ bs. Counting bytes bs c.args.rule.only_utf8 at.number c.args.rodeo.now at.rodeo at.counts.items) hand.1 ahead.2 in
     let then = c.in_ok-next.ensures.counted bytes hand.0 c.args.rodeo.now so_far in
-    counting_read_fails bytes left c.in_ok-next.next c.args.rodeo.now c.count_stretch.new.rodeo c.count_stretch.new.counts.items then limit c.in_err-next_line.field-0.0 made c.in_err-next_line.ensures.errors)
+    counting_read_fails bytes left c.args.rule.only_utf8 c.in_ok-next.next c.args.rodeo.now c.count_stretch.new.rodeo c.count_stretch.new.counts.items then limit c.in_err-next_line.field-0.0 made c.in_err-next_line.ensures.errors)
 
 pub returns-then-not-branch-clause-counted : goal.returns-then-not-branch-clause-counted
 returns-then-not-branch-clause-counted g c = λ bytes e.
@@ -39,10 +39,10 @@ returns-then-not-branch-clause-counted g c = λ bytes e.
     let hand = c.buffered-shown.ensures.first ahead.0 ahead.1 in
     let shown = c.buffered-shown.result.now in
     let left = drop c.in_ok-next.used shown ++ hand.0 in
-    let so_far = subst (λ bs. Counting bytes bs at.number c.args.rodeo.now at.rodeo at.counts.items) hand.1 ahead.2 in
+    let so_far = subst (λ bs. Counting bytes bs c.args.rule.only_utf8 at.number c.args.rodeo.now at.rodeo at.counts.items) hand.1 ahead.2 in
     let then = c.in_ok-next.ensures.counted bytes hand.0 c.args.rodeo.now so_far in
     let known = left_after _ _ _ shown hand.0 ahead.0 c.in_ok-next.used c.buffered-shown.ensures.value c.consume.ensures.left ahead.1 hand.1 in
-    counting_ends bytes left c.in_ok-next.next c.args.rodeo.now c.count_stretch.new.rodeo c.count_stretch.new.counts.items then (no_line _ _ c.in_ok-next_line.field-0 _ c.in_ok-next_line.ensures.taken c.if-not-branch.true left known)
+    counting_ends bytes left c.args.rule.only_utf8 c.in_ok-next.next c.args.rodeo.now c.count_stretch.new.rodeo c.count_stretch.new.counts.items then (no_line _ _ c.in_ok-next_line.field-0 _ c.in_ok-next_line.ensures.taken c.if-not-branch.true left known)
 
 pub returns-then-not-branch-clause-interned : goal.returns-then-not-branch-clause-interned
 returns-then-not-branch-clause-interned g c = λ bytes e.
@@ -51,10 +51,10 @@ returns-then-not-branch-clause-interned g c = λ bytes e.
     let hand = c.buffered-shown.ensures.first ahead.0 ahead.1 in
     let shown = c.buffered-shown.result.now in
     let left = drop c.in_ok-next.used shown ++ hand.0 in
-    let so_far = subst (λ bs. Counting bytes bs at.number c.args.rodeo.now at.rodeo at.counts.items) hand.1 ahead.2 in
+    let so_far = subst (λ bs. Counting bytes bs c.args.rule.only_utf8 at.number c.args.rodeo.now at.rodeo at.counts.items) hand.1 ahead.2 in
     let then = c.in_ok-next.ensures.counted bytes hand.0 c.args.rodeo.now so_far in
     let known = left_after _ _ _ shown hand.0 ahead.0 c.in_ok-next.used c.buffered-shown.ensures.value c.consume.ensures.left ahead.1 hand.1 in
-    counting_interned bytes left c.in_ok-next.next c.args.rodeo.now c.count_stretch.new.rodeo c.count_stretch.new.counts.items then (no_line _ _ c.in_ok-next_line.field-0 _ c.in_ok-next_line.ensures.taken c.if-not-branch.true left known)
+    counting_interned bytes left c.args.rule.only_utf8 c.in_ok-next.next c.args.rodeo.now c.count_stretch.new.rodeo c.count_stretch.new.counts.items then (no_line _ _ c.in_ok-next_line.field-0 _ c.in_ok-next_line.ensures.taken c.if-not-branch.true left known)
 
 pub returns-in-Err-clause-error : goal.returns-in-Err-clause-error
 returns-in-Err-clause-error g c = λ bytes e limit made.
@@ -63,12 +63,12 @@ returns-in-Err-clause-error g c = λ bytes e limit made.
     let hand = c.buffered-shown.ensures.first ahead.0 ahead.1 in
     let shown = c.buffered-shown.result.now in
     let left = drop c.in_ok-next.used shown ++ hand.0 in
-    let so_far = subst (λ bs. Counting bytes bs at.number c.args.rodeo.now at.rodeo at.counts.items) hand.1 ahead.2 in
+    let so_far = subst (λ bs. Counting bytes bs c.args.rule.only_utf8 at.number c.args.rodeo.now at.rodeo at.counts.items) hand.1 ahead.2 in
     let then = c.in_ok-next.ensures.counted bytes hand.0 c.args.rodeo.now so_far in
     let known = left_after _ _ _ shown hand.0 ahead.0 c.in_ok-next.used c.buffered-shown.ensures.value c.consume.ensures.left ahead.1 hand.1 in
     let cut = one_line _ _ c.in_ok-next_line.field-0 _ c.in_ok-next_line.ensures.taken c.if-not-branch.false left known in
-    let is = subst (λ l. IsFaultOf c.count_stretch.new.rodeo l c.in_ok-next.next c.in-Err.error) (c.untested-whole.ensures ∙ c.deref.ensures.value) c.in-Err.ensures.error in
-    counting_line_fails bytes left c.in_ok-next.next c.args.rodeo.now c.count_stretch.new.rodeo c.count_stretch.new.counts.items then limit c.next_line.new.line.items cut.0 c.in-Err.error made cut.2 is
+    let is = subst (λ l. IsLineFault c.args.rule.only_utf8 c.count_stretch.new.rodeo l c.in_ok-next.next c.in-Err.error) (c.untested-whole.ensures ∙ c.deref.ensures.value) c.in-Err.ensures.error in
+    counting_line_fails bytes left c.args.rule.only_utf8 c.in_ok-next.next c.args.rodeo.now c.count_stretch.new.rodeo c.count_stretch.new.counts.items then limit c.next_line.new.line.items cut.0 c.in-Err.error made cut.2 is
 
 pub loop-number-preserved : goal.loop-number-preserved
 loop-number-preserved g c =
@@ -82,17 +82,17 @@ loop-number-preserved g c =
           let hand = c.buffered-shown.ensures.first ahead.0 ahead.1 in
           let shown = c.buffered-shown.result.now in
           let left = drop c.in_ok-next.used shown ++ hand.0 in
-          let so_far = subst (λ bs. Counting bytes bs at.number c.args.rodeo.now at.rodeo at.counts.items) hand.1 ahead.2 in
+          let so_far = subst (λ bs. Counting bytes bs c.args.rule.only_utf8 at.number c.args.rodeo.now at.rodeo at.counts.items) hand.1 ahead.2 in
           let then = c.in_ok-next.ensures.counted bytes hand.0 c.args.rodeo.now so_far in
           let known = left_after _ _ _ shown hand.0 ahead.0 c.in_ok-next.used c.buffered-shown.ensures.value c.consume.ensures.left ahead.1 hand.1 in
           let cut = one_line _ _ c.in_ok-next_line.field-0 _ c.in_ok-next_line.ensures.taken c.if-not-branch.false left known in
           let line_is = subst (λ l. lines_of left ≡ l ∷ lines_of cut.0) (sym (c.untested-whole.ensures ∙ c.deref.ensures.value)) cut.2 in
           let told = c.in_default.ensures in
-          (cut.0, cut.1, counting_push bytes left c.in_ok-next.next c.args.rodeo.now c.count_stretch.new.rodeo c.count_line.new.rodeo c.count_stretch.new.counts.items c.untested-whole.result cut.0 c.count_line.new.counts.items told.interned.1.0 then line_is told.interned.0 told.interned.1.1 told.counted);
+          (cut.0, cut.1, counting_push bytes left c.args.rule.only_utf8 c.in_ok-next.next c.args.rodeo.now c.count_stretch.new.rodeo c.count_line.new.rodeo c.count_stretch.new.counts.items c.untested-whole.result cut.0 c.count_line.new.counts.items told.interned.1.0 then line_is told.interned.0 told.interned.1.1 told.counted);
     }
 
 pub returns-clause-error : goal.returns-clause-error
 returns-clause-error g c = λ bytes e limit made.
     let at = c.loop-number in
     let ahead = at.invariant.ahead bytes e in
-    counting_many bytes ahead.0 at.number c.args.rodeo.now at.rodeo at.counts.items ahead.2 limit (omega (arith, c.loop-number-test.false))
+    counting_many bytes ahead.0 c.args.rule.only_utf8 at.number c.args.rodeo.now at.rodeo at.counts.items ahead.2 limit (omega (arith, c.loop-number-test.false))

@@ -8,7 +8,7 @@ abbrev pub invariant-loop-number : goal.invariant-loop-number
 invariant-loop-number g l = record {
   lengths : vec_len l.counts ≡ length l.rodeo.texts;
   total : sum l.counts.items + 1 ≡ l.number;
-  ahead : (bytes : List ℕ) → l.fn.input.left ≡ Some bytes → (rest : List ℕ) × (l.input.left ≡ Some rest) × Counting bytes rest l.number l.fn.rodeo l.rodeo l.counts.items;
+  ahead : (bytes : List ℕ) → l.fn.input.left ≡ Some bytes → (rest : List ℕ) × (l.input.left ≡ Some rest) × Counting bytes rest l.fn.rule.only_utf8 l.number l.fn.rodeo l.rodeo l.counts.items;
   reads : l.input.failures ≡ l.fn.input.failures;
 }
 

@@ -11,5 +11,5 @@ invariant-loop-number l = record {
   lengths : vec_len l.counts ≡ length l.rodeo.texts;
   total : sum l.counts.items + 1 ≡ l.number;
   end : IsEndOf l.lines l.fn.stretch;
-  counted : (input later : List ℕ) (start : InternerView) → Counting input (l.fn.stretch ++ later) l.fn.first start l.fn.rodeo l.fn.counts.items → Counting input (l.lines ++ later) l.number start l.rodeo l.counts.items;
+  counted : (input later : List ℕ) (start : InternerView) → Counting input (l.fn.stretch ++ later) l.fn.rule.only_utf8 l.fn.first start l.fn.rodeo l.fn.counts.items → Counting input (l.lines ++ later) l.fn.rule.only_utf8 l.number start l.rodeo l.counts.items;
 }

@@ -18,7 +18,7 @@ returns-clause-written g c =
     let digits = decimal c.args.ranked.now.0.0 in
     let back = c.args.ranked.now.1.now ++ 10 ∷ [] in
     let result = c.write_line.result in
-    let line = subst (λ t. Writes c.write_bytes.new.output.written c.write_line.new.output.written (WritesAll (t ++ 10 ∷ []) result)) c.as_bytes.ensures.value c.write_line.ensures.written in
+    let line = c.write_line.ensures.written in
     writes_then _ _ _ (λ part. part ≡ digits) (WritesAll (32 ∷ back) result) (WritesAll (digits ++ (32 ∷ back)) result) c.in_ok-write_number.ensures.written
     (writes_then _ _ _ (λ part. part ≡ 32 ∷ []) (WritesAll back result) (WritesAll (32 ∷ back) result) c.in_ok-write_bytes.ensures.written line (λ part more is w. front_then part more (32 ∷ []) back result is w))
     (λ part more is w. front_then part more digits (32 ∷ back) result is w)

@@ -1,7 +1,7 @@
 use Rattle.std.proofs.Common.{◌≡◌, Err, map, take}
 use Rattle.std.specs.Prelude.{flat_map}
 use Rattle.std.proofs.lemmas.Result.{err_from_is_err_and}
-use Rattle.lasso_counts.specs.Counts.{pair_of}
+use Rattle.lasso_columns.specs.Counts.{pair_of}
 use Rattle.lasso_codes.specs.Counts.{count_line}
 use Rattle.lasso_codes.specs.Streams.{WritesAll}
 use Rattle.lasso_codes.proofs.Written.{writes_then}

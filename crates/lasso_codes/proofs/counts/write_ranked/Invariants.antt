@@ -1,6 +1,6 @@
 use Rattle.std.proofs.Common.{◌≡◌, map, take}
 use Rattle.std.specs.Prelude.{flat_map}
-use Rattle.lasso_counts.specs.Counts.{pair_of}
+use Rattle.lasso_columns.specs.Counts.{pair_of}
 use Rattle.lasso_codes.specs.Counts.{count_line}
 use Rattle.lasso_codes.specs.Streams.{Writes}
 use Rattle.lasso_codes.proofs.counts.write_ranked.Given as goal

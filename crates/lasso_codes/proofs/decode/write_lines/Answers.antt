@@ -1,6 +1,6 @@
 use Rattle.std.proofs.Common.{◌≡◌, ◌+◌, ◌-◌, ◌<◌, ◌++◌, Ok, Err, drop, refl, subst, arith}
 use Rattle.std.proofs.lemmas.Result.{err_from_is_err_and}
-use Rattle.lasso_codes.specs.Arguments.{word_of}
+use Rattle.lasso_columns.specs.Rows.{word_of}
 use Rattle.lasso_codes.specs.Decode.{line_at, WritesEntry, WritesLines, DecodingError}
 use Rattle.lasso_codes.specs.Stages.{LinesAhead}
 use Rattle.lasso_codes.specs.Reading.{items_from}
@@ -16,7 +16,7 @@ returns-in_err-next-clause-written g c = λ bytes e.
     let p = err_from_is_err_and c.from_residual.result c.from_residual.ensures.1 in
     let at = c.loop-count in
     let header = c.args.header in
-    let make = line_at (word_of c.args.null) c.args.rodeo.now.texts in
+    let make = line_at (word_of c.args.null) c.args.table.now in
     let read = items_from make header.lines header.binary 1 bytes in
     let before = c.args.output.now.written in
     let ahead = at.invariant.ahead bytes e in
@@ -29,7 +29,7 @@ pub returns-then-next-header-clause-written : goal.returns-then-next-header-clau
 returns-then-next-header-clause-written g c = λ bytes e.
     let at = c.loop-count in
     let header = c.args.header in
-    let make = line_at (word_of c.args.null) c.args.rodeo.now.texts in
+    let make = line_at (word_of c.args.null) c.args.table.now in
     let read = items_from make header.lines header.binary 1 bytes in
     let before = c.args.output.now.written in
     let ahead = at.invariant.ahead bytes e in
@@ -50,7 +50,7 @@ returns-in_err-entry-clause-written g c = λ bytes e.
     let p = err_from_is_err_and c.from_residual-in_err-entry.result c.from_residual-in_err-entry.ensures.1 in
     let at = c.loop-count in
     let header = c.args.header in
-    let make = line_at (word_of c.args.null) c.args.rodeo.now.texts in
+    let make = line_at (word_of c.args.null) c.args.table.now in
     let read = items_from make header.lines header.binary 1 bytes in
     let before = c.args.output.now.written in
     let ahead = at.invariant.ahead bytes e in
@@ -70,7 +70,7 @@ returns-in_err-write_entry_line-clause-written g c = λ bytes e.
     let at = c.loop-count in
     let header = c.args.header in
     let null = word_of c.args.null in
-    let texts = c.args.rodeo.now.texts in
+    let texts = c.args.table.now in
     let make = line_at null texts in
     let read = items_from make header.lines header.binary 1 bytes in
     let before = c.args.output.now.written in
@@ -96,7 +96,7 @@ loop-count-preserved g c =
     let at = c.loop-count in
     let header = c.args.header in
     let null = word_of c.args.null in
-    let texts = c.args.rodeo.now.texts in
+    let texts = c.args.table.now in
     let make = line_at null texts in
     let next = c.in_ok-next.next in
     let small : next < header.lines = omega (arith, c.in_ok-next.ensures.more, c.if-next-header.false) in
@@ -131,7 +131,7 @@ pub returns-clause-written : goal.returns-clause-written
 returns-clause-written g c = λ bytes e.
     let at = c.loop-count in
     let header = c.args.header in
-    let make = line_at (word_of c.args.null) c.args.rodeo.now.texts in
+    let make = line_at (word_of c.args.null) c.args.table.now in
     let read = items_from make header.lines header.binary 1 bytes in
     let ahead = at.invariant.ahead bytes e in
     let others = items_from make (header.lines - at.count) header.binary (at.count + 1) ahead.0 in

@@ -1,5 +1,5 @@
 use Rattle.std.proofs.Common.{ℕ, ◌≡◌, ◌+◌, ◌-◌, ◌≤◌, List, Some}
-use Rattle.lasso_codes.specs.Arguments.{word_of}
+use Rattle.lasso_columns.specs.Rows.{word_of}
 use Rattle.lasso_codes.specs.Decode.{line_at}
 use Rattle.lasso_codes.specs.Stages.{LinesAhead}
 use Rattle.lasso_codes.specs.Reading.{items_from}
@@ -12,7 +12,7 @@ invariant-loop-count g l = record {
   within : l.count ≤ l.header.lines;
   ahead : (bytes : List ℕ) → l.fn.input.left ≡ Some bytes → (rest : List ℕ) × (l.input.left ≡ Some rest)
       × Writes l.fn.output.written l.output.written
-      (LinesAhead (items_from (line_at (word_of l.null) l.rodeo.texts) (l.header.lines - l.count) l.header.binary (l.count + 1) rest) (items_from (line_at (word_of l.null) l.rodeo.texts) l.header.lines l.header.binary 1 bytes));
+      (LinesAhead (items_from (line_at (word_of l.null) l.table) (l.header.lines - l.count) l.header.binary (l.count + 1) rest) (items_from (line_at (word_of l.null) l.table) l.header.lines l.header.binary 1 bytes));
   reads : l.input.failures ≡ l.fn.input.failures;
   writes : l.output.failures ≡ l.fn.output.failures;
   gone : l.output.gone ≡ l.fn.output.gone;

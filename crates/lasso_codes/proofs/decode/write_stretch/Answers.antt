@@ -1,7 +1,7 @@
 use Rattle.std.proofs.Common.{◌≡◌, ◌+◌, ◌-◌, ◌++◌, Ok, Err, length, take, drop, ap, subst, refl, arith, length-drop}
 use Rattle.std.proofs.lemmas.Result.{err_from_is_err_and}
 use Rattle.lasso_input.proofs.FirstLines.{rest_behind}
-use Rattle.lasso_codes.specs.Arguments.{word_of}
+use Rattle.lasso_columns.specs.Rows.{word_of}
 use Rattle.lasso_codes.specs.Decode.{line_at, DecodingError, WritesEntry}
 use Rattle.lasso_codes.specs.Stages.{LinesAhead}
 use Rattle.lasso_codes.specs.Reading.{items_from}
@@ -19,7 +19,7 @@ returns-in_err-write_entry_line-clause-error g c =
     let rest = take (length stretch - at.used) (drop at.used stretch) in
     let header = c.args.header in
     let null = word_of c.args.null in
-    let texts = c.args.rodeo.now.texts in
+    let texts = c.args.table.now in
     let column = c.args.column in
     let entry = c.in-Some.entry in
     let len = c.in-Some.len in
@@ -42,7 +42,7 @@ loop-position-preserved g c =
     let long : length rest ≡ length (drop at.used stretch) = ap (λ bs. length bs) same in
     let header = c.args.header in
     let null = word_of c.args.null in
-    let texts = c.args.rodeo.now.texts in
+    let texts = c.args.table.now in
     let column = c.args.column in
     let entry = c.in-Some.entry in
     let len = c.in-Some.len in
@@ -65,7 +65,7 @@ pub returns-clause-written : goal.returns-clause-written
 returns-clause-written g c = λ read later before so_far.
     let at = c.loop-position in
     let header = c.args.header in
-    let make = line_at (word_of c.args.null) c.args.rodeo.now.texts in
+    let make = line_at (word_of c.args.null) c.args.table.now in
     let all : at.position ≡ header.lines = omega (arith, c.loop-position-test.false, at.auto.position-end, c.requires) in
     let left = drop at.used c.args.stretch.now ++ later in
     subst (λ n. Writes before at.output.written (LinesAhead (items_from make (header.lines - n) header.binary (n + 1) left) read)) all (at.invariant.written read later before so_far)

@@ -1,6 +1,6 @@
 use Rattle.std.proofs.Common.{ℕ, ◌+◌, ◌-◌, ◌≤◌, List, ◌++◌, Option, length, drop, ◌≡◌}
 use Rattle.lasso_parts.specs.Texts.{Text}
-use Rattle.lasso_codes.specs.Arguments.{word_of}
+use Rattle.lasso_columns.specs.Rows.{word_of}
 use Rattle.lasso_codes.specs.Decode.{line_at}
 use Rattle.lasso_codes.specs.Stages.{LinesAhead}
 use Rattle.lasso_codes.specs.Reading.{ReadItems, items_from}
@@ -10,7 +10,7 @@ use Rattle.lasso_codes.proofs.decode.write_stretch.Given as goal
 -- the lines of the entries before the position were written, and the others follow
 abbrev pub invariant-loop-position : goal.invariant-loop-position
 invariant-loop-position g l =
-    let make = line_at (word_of l.fn.null) l.fn.rodeo.texts in
+    let make = line_at (word_of l.fn.null) l.fn.table in
     record {
       within : l.used ≤ length l.fn.stretch;
       written : (read : ReadItems Text) (later : List ℕ) (before : Option (List ℕ))

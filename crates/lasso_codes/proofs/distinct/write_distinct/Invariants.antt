@@ -7,7 +7,7 @@ use Rattle.lasso_codes.proofs.distinct.write_distinct.Given as goal
 abbrev pub invariant-loop-number : goal.invariant-loop-number
 invariant-loop-number g l = record {
   ahead : (bytes : List ℕ) → l.fn.input.left ≡ Some bytes → (rest : List ℕ) × (l.input.left ≡ Some rest)
-      × Writes l.fn.output.written l.output.written (OnTheWay bytes l.fn.limits rest l.number l.rodeo);
+      × Writes l.fn.output.written l.output.written (OnTheWay bytes l.fn.rule.only_utf8 l.fn.limits rest l.number l.rodeo);
   reads : l.input.failures ≡ l.fn.input.failures;
   writes : l.output.failures ≡ l.fn.output.failures;
   gone : l.output.gone ≡ l.fn.output.gone;

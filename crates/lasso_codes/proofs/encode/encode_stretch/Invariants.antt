@@ -1,7 +1,7 @@
 use Rattle.std.proofs.Common.{ℕ, List, ◌++◌}
 use Rattle.lasso_single.specs.Interner.{InternerView}
 use Rattle.lasso_input.proofs.Remaining.{IsEndOf}
-use Rattle.lasso_codes.specs.Arguments.{word_of}
+use Rattle.lasso_columns.specs.Rows.{word_of}
 use Rattle.lasso_codes.specs.Stages.{Encoding}
 use Rattle.lasso_codes.proofs.encode.encode_stretch.Given as goal
 
@@ -9,5 +9,5 @@ use Rattle.lasso_codes.proofs.encode.encode_stretch.Given as goal
 abbrev pub invariant-loop-number : goal.invariant-loop-number
 invariant-loop-number l = record {
   end : IsEndOf l.lines l.fn.stretch;
-  numbered : (input later : List ℕ) (start : InternerView) → Encoding input (l.fn.stretch ++ later) l.fn.first (word_of l.fn.null) start l.fn.rodeo l.fn.numbers.items → Encoding input (l.lines ++ later) l.number (word_of l.fn.null) start l.rodeo l.numbers.items;
+  numbered : (input later : List ℕ) (start : InternerView) → Encoding input (l.fn.stretch ++ later) l.fn.rule.only_utf8 l.fn.first (word_of l.fn.null) start l.fn.rodeo l.fn.numbers.items → Encoding input (l.lines ++ later) l.fn.rule.only_utf8 l.number (word_of l.fn.null) start l.rodeo l.numbers.items;
 }

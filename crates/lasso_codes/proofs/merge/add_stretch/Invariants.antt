@@ -1,6 +1,6 @@
 use Rattle.std.proofs.Common.{ℕ, ◌+◌, ◌-◌, ◌^◌, ◌<◌, ◌≤◌, List, ◌++◌, Option, length, drop}
 use Rattle.lasso_parts.specs.Texts.{Text}
-use Rattle.lasso_encode.specs.Codes.{AreCodes}
+use Rattle.lasso_single.specs.Codes.{AreCodes}
 use Rattle.lasso_codes.specs.Merge.{recoded}
 use Rattle.lasso_codes.specs.Stages.{EntriesAhead}
 use Rattle.lasso_codes.specs.Reading.{ReadItems, items_from}

@@ -1,7 +1,8 @@
 use Rattle.std.proofs.Common.{◌+◌, ◌∙◌, ◌∷◌, ap, sym, drop, map}
 use Rattle.std.specs.Prelude.{string_bytes}
-use Rattle.lasso_codes.specs.Arguments.{options_of, wanted_of, word_of}
-use Rattle.lasso_codes.proofs.Words.{next_word, told_none, told_some}
+use Rattle.lasso_columns.specs.Rows.{word_of}
+use Rattle.lasso_codes.specs.Arguments.{options_of, wanted_of}
+use Rattle.lasso_codes.proofs.CommandWords.{next_word, told_none, told_some}
 use Rattle.lasso_codes.proofs.options.options_of.Goals as goal
 
 pub returns-in-Ok-None : goal.returns-in-Ok-None

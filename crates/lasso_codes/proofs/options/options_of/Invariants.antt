@@ -1,6 +1,7 @@
 use Rattle.std.proofs.Common.{◌≡◌, drop, map, None}
 use Rattle.std.specs.Prelude.{string_bytes}
-use Rattle.lasso_codes.specs.Arguments.{options_of, unset, wanted_of, word_of}
+use Rattle.lasso_columns.specs.Rows.{word_of}
+use Rattle.lasso_codes.specs.Arguments.{options_of, unset, wanted_of}
 use Rattle.lasso_codes.proofs.options.options_of.Given as goal
 
 -- the words before the index were read

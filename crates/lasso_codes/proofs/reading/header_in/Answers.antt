@@ -1,7 +1,7 @@
 use Rattle.std.proofs.Common.{◌≡◌, ◌+◌, ◌-◌, ◌∙◌, length, length-drop, arith, ap, sym, subst, take, drop, Some, None}
 use Rattle.std.proofs.lemmas.List.{take_all}
 use Rattle.memchr.specs.Find.{IsFirstByte, is_byte}
-use Rattle.lasso_codes.specs.Arguments.{digits_value}
+use Rattle.lasso_input.specs.Numbers.{digits_value}
 use Rattle.lasso_codes.specs.Reading.{header_at, header_with}
 use Rattle.lasso_codes.proofs.FirstBytes.{first_byte_at}
 use Rattle.lasso_codes.proofs.reading.header_in.Goals as goal

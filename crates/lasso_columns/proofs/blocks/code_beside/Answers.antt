@@ -1,6 +1,6 @@
 use Rattle.std.proofs.Common.{is_some, sym, ap, ◌∙◌}
 use Rattle.lasso_parts.proofs.TextLemmas.{key_of_present}
-use Rattle.lasso_encode.specs.Encoding.{spur_at}
+use Rattle.lasso_single.specs.Coding.{spur_at}
 use Rattle.lasso_columns.specs.Blocks.{IsAddedAt, IsCodedBeside}
 use Rattle.lasso_columns.proofs.Beside.{found_beside, added_beside, if_some_then}
 use Rattle.lasso_columns.proofs.blocks.code_beside.Goals as goal

@@ -2,7 +2,7 @@ use Rattle.std.proofs.Common.{◌≡◌, ◌<◌, ◌++◌, ◌∷◌, List, [],
 use Rattle.std.specs.Prelude.{slice_get}
 use Rattle.std.proofs.lemmas.Option.{slice_get-get_or, slice_get_past}
 use Rattle.lasso_parts.specs.Texts.{Text}
-use Rattle.lasso_encode.specs.Codes.{AddsTexts}
+use Rattle.lasso_single.specs.Codes.{AddsTexts}
 use Rattle.lasso_columns.proofs.Decoded.{none_decoded, one_decoded, decoded_length, count_is, decoded_told, push_failed, push_done}
 use Rattle.lasso_columns.proofs.decoding.decode.Goals as goal
 

@@ -1,5 +1,5 @@
 use Rattle.std.proofs.Common.{take}
-use Rattle.lasso_encode.specs.Codes.{AddsTexts}
+use Rattle.lasso_single.specs.Codes.{AddsTexts}
 use Rattle.lasso_columns.proofs.decoding.decode.Given as goal
 
 -- the codes before the position were decoded

@@ -1,6 +1,6 @@
 use Rattle.std.proofs.Common.{length, ap, arith}
 use Rattle.std.proofs.lemmas.Result.{err_from_is_err_and}
-use Rattle.lasso_encode.proofs.Encoded.{told_list, told_codes}
+use Rattle.lasso_single.proofs.Encoded.{told_list, told_codes}
 use Rattle.lasso_columns.proofs.EncodedLines.{LinesSoFar, lines_begin, lines_push, lines_still, told_texts, told_next, told_fault}
 use Rattle.lasso_columns.specs.Faults.{LineMayLackMemory}
 use Rattle.lasso_columns.proofs.encoding.encode_lines.Given.{Over}

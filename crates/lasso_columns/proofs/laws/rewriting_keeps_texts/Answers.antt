@@ -1,4 +1,4 @@
-use Rattle.lasso_encode.proofs.Coded.{rewriting_keeps_texts_lem}
+use Rattle.lasso_single.proofs.Coded.{rewriting_keeps_texts_lem}
 use Rattle.lasso_columns.proofs.laws.rewriting_keeps_texts.Goals as goal
 
 pub returns : goal.returns

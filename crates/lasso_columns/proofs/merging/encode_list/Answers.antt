@@ -4,9 +4,9 @@ use Rattle.std.proofs.lemmas.Option.{slice_get_within}
 use Rattle.lasso_parts.proofs.TextLemmas.{take_more_at}
 use Rattle.lasso_parts.specs.Texts.{Text}
 use Rattle.lasso_parts.specs.declared.util.LassoErrorKind.TheVariants.{FailedAllocation}
-use Rattle.lasso_encode.proofs.Encoded.{Encoded, encoded_push, encoded_still}
+use Rattle.lasso_single.proofs.Encoded.{Encoded, encoded_push, encoded_still}
 use Rattle.lasso_columns.proofs.PartLists.{ListEncoded, list_encoded, list_next, not_full}
-use Rattle.lasso_encode.specs.Encoding.{IsRefused, IsAdmitted}
+use Rattle.lasso_single.specs.Coding.{IsRefused, IsAdmitted}
 use Rattle.lasso_columns.proofs.merging.encode_list.Given.{Over}
 use Rattle.lasso_columns.proofs.merging.encode_list.Goals as goal
 

@@ -1,5 +1,5 @@
 use Rattle.std.proofs.Common.{◌≤◌, length, take, vec_capacity}
-use Rattle.lasso_encode.proofs.Encoded.{Encoded}
+use Rattle.lasso_single.proofs.Encoded.{Encoded}
 use Rattle.lasso_columns.proofs.merging.encode_list.Given as goal
 
 -- the texts before the position were encoded, and the codes have room for all

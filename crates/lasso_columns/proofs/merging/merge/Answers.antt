@@ -1,8 +1,8 @@
 use Rattle.std.proofs.Common.{List, subst, arith}
 use Rattle.std.proofs.lemmas.List.{take_all}
 use Rattle.lasso_parts.specs.Texts.{Text}
-use Rattle.lasso_encode.proofs.Coded.{codes_stand}
-use Rattle.lasso_encode.specs.Codes.{AreCodes}
+use Rattle.lasso_single.proofs.Coded.{codes_stand}
+use Rattle.lasso_single.specs.Codes.{AreCodes}
 use Rattle.lasso_columns.proofs.merging.merge.Goals as goal
 
 pub returns-clause-texts : goal.returns-clause-texts

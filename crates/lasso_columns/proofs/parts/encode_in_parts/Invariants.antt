@@ -1,5 +1,5 @@
 use Rattle.std.proofs.Common.{◌≡◌, ◌*◌, length, map, min, take}
-use Rattle.lasso_encode.proofs.Encoded.{Encoded}
+use Rattle.lasso_single.proofs.Encoded.{Encoded}
 use Rattle.lasso_columns.proofs.parts.encode_in_parts.Given as goal
 
 -- the texts of the earlier parts were encoded

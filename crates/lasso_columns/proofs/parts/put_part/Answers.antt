@@ -2,10 +2,10 @@ use Rattle.std.proofs.Common.{◌≡◌, inr, Bor, IfSome, map, take, length, sy
 use Rattle.std.proofs.lemmas.List.{take-append-drop, length-map}
 use Rattle.lasso_parts.specs.Texts.{Text}
 use Rattle.lasso_parts.specs.declared.util.LassoErrorKind.TheVariants.{FailedAllocation}
-use Rattle.lasso_encode.proofs.Encoded.{Encoded, told_list, told_codes}
+use Rattle.lasso_single.proofs.Encoded.{Encoded, told_list, told_codes}
 use Rattle.lasso_columns.proofs.PartLists.{part_encoded, part_whole, part_refused, on_ok_then, if_err_then, some_and_then}
 use Rattle.lasso_columns.proofs.Rewritten.{codes_inside}
-use Rattle.lasso_encode.specs.Encoding.{IsRefused, IsAdmitted, MayLackMemory}
+use Rattle.lasso_single.specs.Coding.{IsRefused, IsAdmitted, MayLackMemory}
 use Rattle.lasso_columns.specs.Parts.{IsEncoded, AddsRewritten}
 use Rattle.lasso_columns.proofs.parts.put_part.Given.{Over}
 use Rattle.lasso_columns.proofs.parts.put_part.Goals as goal

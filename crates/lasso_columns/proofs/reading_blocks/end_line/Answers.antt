@@ -1,7 +1,6 @@
-use Rattle.std.proofs.Common.{◌≡◌, ◌++◌, ℕ, List, take, length, ap, subst, ◌∙◌, arith}
-use Rattle.lasso_parts.specs.Texts.{Text}
-use Rattle.lasso_input.specs.Lines.{lines_of}
-use Rattle.lasso_columns.proofs.StreamLines.{line_read, line_read_short}
+use Rattle.std.proofs.Common.{◌≡◌, ◌++◌, drop, length, sym, ap, ◌∙◌}
+use Rattle.std.proofs.lemmas.List.{take-append-drop}
+use Rattle.lasso_columns.proofs.StreamLines.{line_read, lines_unread}
 use Rattle.lasso_columns.proofs.reading_blocks.end_line.Goals as goal
 
 pub returns-in-Ok : goal.returns-in-Ok
@@ -11,7 +10,6 @@ returns-in-Ok g c =
 pub returns-in-Err : goal.returns-in-Err
 returns-in-Err g c =
     let front = c.args.block.now.items in
-    let count : c.len-filled.result ≡ length front = omega (arith, c.len-filled.ensures) in
-    let same : c.truncate.new.self.items ≡ front = c.truncate.ensures.items ∙ ap (λ n. take n c.read_until.new.buf.items) count ∙ c.read_until.ensures.appends in
-    line_read_short (g.I.Read.remaining c.args.input.now) (g.I.Read.remaining c.read_until.new.self) front c.cut_last_line.new.block.items c.in-Err.error
-    (λ rest. subst (λ (bs : List ℕ). (more : List Text) × (lines_of (bs ++ rest) ≡ lines_of c.cut_last_line.new.block.items ++ more)) same (c.cut_last_line.ensures rest))
+    let whole = c.read_until.new.buf.items in
+    let is : whole ≡ front ++ drop (length front) whole = sym (take-append-drop (length front) whole) ∙ ap (λ bs. bs ++ drop (length front) whole) c.read_until.ensures.appends in
+    lines_unread (g.I.Read.remaining c.args.input.now) (g.I.Read.remaining c.read_until.new.self) front (drop (length front) whole) whole c.cut_last_line.new.block.items c.in-Err.error c.read_until.ensures.none_lost is c.cut_last_line.ensures

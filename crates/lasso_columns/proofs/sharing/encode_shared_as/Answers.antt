@@ -5,8 +5,8 @@ use Rattle.lasso_log.specs.History.{IsLegal}
 use Rattle.lasso_log.specs.Notes.{Since, history}
 use Rattle.lasso_log.specs.Views.{InternerId, list_of, seen}
 use Rattle.lasso_log.proofs.Tickets.{since_trans}
-use Rattle.lasso_encode.specs.Codes.{AreCodes}
-use Rattle.lasso_encode.specs.Encoding.{spur_at}
+use Rattle.lasso_single.specs.Codes.{AreCodes}
+use Rattle.lasso_single.specs.Coding.{spur_at}
 use Rattle.lasso_columns.specs.Sharing.{IsPartOf, IsRefusalIn}
 use Rattle.lasso_columns.proofs.Shared.{shared_join, refused_more, part_texts, part_contained, parts_reach, ok_at, err_at}
 use Rattle.lasso_columns.proofs.sharing.encode_shared_as.Goals as goal

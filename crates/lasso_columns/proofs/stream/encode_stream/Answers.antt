@@ -1,66 +1,9 @@
-use Rattle.std.proofs.Common.{◌≡◌, [], true, false, Ok, refl, sym, subst}
 use Rattle.lasso_input.specs.Lines.{lines_of}
-use Rattle.lasso_columns.specs.Blocks.{StopsInRound}
-use Rattle.lasso_columns.specs.Rows.{word_of, EncodesRows}
-use Rattle.lasso_columns.specs.Streams.{AreBlocksFor, lines_in}
-use Rattle.lasso_columns.proofs.EncodedRows.{rows_begin}
-use Rattle.lasso_columns.proofs.Streamed.{ok_is, stream_breaks, stream_ends, stream_next, stream_stops}
+use Rattle.lasso_columns.specs.Rows.{word_of}
+use Rattle.lasso_columns.proofs.TextLines.{err_then, stops_own}
 use Rattle.lasso_columns.proofs.stream.encode_stream.Goals as goal
 
-pub returns-in-Err-clause-stops : goal.returns-in-Err-clause-stops
-returns-in-Err-clause-stops g c = λ bytes known.
-    (lines_of bytes, rows_begin (word_of c.args.null) c.args.rodeo.now (lines_of bytes) (lines_of bytes) c.args.entries.now.items refl)
-
-pub put_blocks-outcome-requires : goal.put_blocks-outcome-requires
-put_blocks-outcome-requires g c =
-    let null = word_of c.args.null in
-    let list = c.loop.rodeo.texts in
-    record {
-      made =
-          subst (λ bs. AreBlocksFor null list bs c.deref-in-loop.result.now) (sym c.deref.ensures.value)
-          (subst (λ ms. AreBlocksFor null list c.loop.now.blocks.items ms) (sym c.deref-in-loop.ensures.value) c.encode_and_read-made.ensures.made);
-    }
-
-pub returns-in-Err-outcome-clause-stops : goal.returns-in-Err-outcome-clause-stops
-returns-in-Err-outcome-clause-stops g c = λ bytes known.
-    let null = word_of c.args.null in
-    let at = c.loop in
-    let new = c.put_blocks-outcome.new.rodeo in
-    let after = c.put_blocks-outcome.new.entries in
-    let stops =
-    subst (λ bs. StopsInRound null at.rodeo (lines_in bs) at.entries.items new after c.len-start.result c.in-Err-outcome.error) c.deref.ensures.value c.in-Err-outcome.ensures.stops in
-    stream_stops null c.args.rodeo.now bytes c.args.entries.now.items at.rodeo new at.entries.items at.now.blocks.items at.now.more (g.I.Read.remaining at.input) (at.invariant.stream bytes known) after c.len-start.result c.in-Err-outcome.error stops at.invariant.start
-
-pub returns-then-not-goes_on-clause-rows : goal.returns-then-not-goes_on-clause-rows
-returns-then-not-goes_on-clause-rows g c = λ bytes known.
-    let null = word_of c.args.null in
-    let at = c.loop in
-    let new = c.put_blocks-outcome.new.rodeo in
-    let after = c.put_blocks-outcome.new.entries.items in
-    let rows = subst (λ bs. EncodesRows null at.rodeo (lines_in bs) [] at.entries.items new after) c.deref.ensures.value c.in_default.ensures.rows in
-    let end : at.now.more ≡ Ok false = ok_is at.now.more c.in-Ok-more.goes_on false c.in-Ok-more.is c.if-not-goes_on.true in
-    stream_ends null c.args.rodeo.now bytes c.args.entries.now.items at.rodeo new at.entries.items at.now.blocks.items at.now.more (g.I.Read.remaining at.input) (at.invariant.stream bytes known) after rows end
-
-pub returns-in-Err-more-clause-stops : goal.returns-in-Err-more-clause-stops
-returns-in-Err-more-clause-stops g c = λ bytes known.
-    let null = word_of c.args.null in
-    let at = c.loop in
-    let new = c.put_blocks-outcome.new.rodeo in
-    let after = c.put_blocks-outcome.new.entries.items in
-    let rows = subst (λ bs. EncodesRows null at.rodeo (lines_in bs) [] at.entries.items new after) c.deref.ensures.value c.in_default.ensures.rows in
-    stream_breaks null c.args.rodeo.now bytes c.args.entries.now.items at.rodeo new at.entries.items at.now.blocks.items at.now.more (g.I.Read.remaining at.input) (at.invariant.stream bytes known) after rows
-
-pub loop-preserved : goal.loop-preserved
-loop-preserved g c =
-    let null = word_of c.args.null in
-    let at = c.loop in
-    let new = c.put_blocks-outcome.new.rodeo in
-    let after = c.put_blocks-outcome.new.entries.items in
-    let next = c.encode_and_read-made in
-    let rows = subst (λ bs. EncodesRows null at.rodeo (lines_in bs) [] at.entries.items new after) c.deref.ensures.value c.in_default.ensures.rows in
-    let goes : at.now.more ≡ Ok true = ok_is at.now.more c.in-Ok-more.goes_on true c.in-Ok-more.is c.if-not-goes_on.false in
-    record {
-      stream = λ bytes known. stream_next null c.args.rodeo.now bytes c.args.entries.now.items at.rodeo new at.entries.items at.now.blocks.items at.now.more (g.I.Read.remaining at.input) (at.invariant.stream bytes known) after (g.I.Read.remaining next.new.input) next.result.1.blocks.items next.result.1.more rows goes next.ensures.next;
-      start = at.invariant.start;
-      room = at.invariant.room;
-    }
+pub returns-clause-stops : goal.returns-clause-stops
+returns-clause-stops g c =
+    err_then c.encode_stream_by.result c.encode_stream_by.ensures.stops (λ error stops bytes known.
+    stops_own (word_of c.args.null) c.args.rodeo.now (lines_of bytes) c.args.entries.now.items c.encode_stream_by.new.rodeo c.encode_stream_by.new.entries (g.I.Read.remaining c.encode_stream_by.new.input) error (stops bytes known))

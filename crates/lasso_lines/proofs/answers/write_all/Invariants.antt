@@ -1,5 +1,5 @@
 use Rattle.std.proofs.Common.{◌≡◌, ◌++◌, length}
-use Rattle.lasso_lines.specs.Stream.{Grows, OnlyGrows, written}
+use Rattle.lasso_lines.specs.Stream.{OnlyGrows, Writes}
 use Rattle.lasso_lines.proofs.answers.write_all.Given as goal
 
 abbrev pub invariant-loop-rest : goal.invariant-loop-rest
@@ -8,7 +8,7 @@ invariant-loop-rest g l =
     record {
       failures : writer.failures l.writer ≡ writer.failures l.fn.writer;
       delivered : OnlyGrows (writer.delivered l.fn.writer) (writer.delivered l.writer);
-      bytes : Grows (written (writer.delivered l.fn.writer) (writer.pending l.fn.writer)) (written (writer.delivered l.writer) (writer.pending l.writer)) (λ part. part ++ l.rest ≡ l.fn.bytes);
+      bytes : Writes writer.delivered writer.pending l.fn.writer l.writer (λ part. part ++ l.rest ≡ l.fn.bytes);
     }
 
 abbrev pub decreases-loop-rest : goal.decreases-loop-rest

@@ -2,7 +2,7 @@ use Rattle.std.proofs.Common.{◌≡◌, ◌-◌, ◌<◌, [], ◌∷◌, ◌++�
 use Rattle.std.proofs.lemmas.List.{length-drop}
 use Rattle.std.proofs.lemmas.Grind.{common_steps}
 use Rattle.std.proofs.lemmas.Result.{err_from_is_err_and}
-use Rattle.lasso_lines.specs.Report.{holding}
+use Rattle.lasso_lines.specs.Report.{held_by}
 use Rattle.lasso_lines.specs.Stretch.{LeadsTo, FailsWith}
 use Rattle.lasso_lines.proofs.FailedCalls.{then_failed}
 use Rattle.lasso_lines.proofs.Known.{grows_as, grows_then, only_grows_then, write_fault}
@@ -11,13 +11,13 @@ use Rattle.lasso_lines.proofs.engine.answer_end.Goals as goal
 
 pub returns-then-is_empty-clause-answers : goal.returns-then-is_empty-clause-answers
 returns-then-is_empty-clause-answers g c =
-    let before = holding c.args.rodeo.now.texts c.args.rodeo.now.account in
+    let before = held_by c.args.rodeo.now in
     grows_as _ _ _ _ c.answer_counts.ensures.bytes (λ part wrote. no_last before c.args.number c.args.line.now part _ (grind (arith, common_steps)) wrote)
 
 pub returns-in_err-answer_lines-clause-answers : goal.returns-in_err-answer_lines-clause-answers
 returns-in_err-answer_lines-clause-answers g c =
     let p = err_from_is_err_and c.from_residual.result c.from_residual.ensures.1 in
-    let before = holding c.args.rodeo.now.texts c.args.rodeo.now.account in
+    let before = held_by c.args.rodeo.now in
     let line = c.args.line.now in
     let filled : 0 < length line = grind (arith, common_steps) in
     let same : line ++ 10 ∷ c.new.result ≡ line ++ 10 ∷ [] = ap (λ bs. line ++ 10 ∷ bs) c.new.ensures in
@@ -26,8 +26,8 @@ returns-in_err-answer_lines-clause-answers g c =
 
 pub returns-clause-answers : goal.returns-clause-answers
 returns-clause-answers g c =
-    let before = holding c.args.rodeo.now.texts c.args.rodeo.now.account in
-    let after = holding c.answer_lines.new.rodeo.texts c.answer_lines.new.rodeo.account in
+    let before = held_by c.args.rodeo.now in
+    let after = held_by c.answer_lines.new.rodeo in
     let line = c.args.line.now in
     let reply = c.in_ok-answer_lines.field-0 in
     let rest = drop (length c.new.result - reply.1) c.new.result in

@@ -1,7 +1,7 @@
 use Rattle.std.proofs.Common.{◌≡◌, [], Some, Err, inr, arith, refl, sym, subst, drop, length}
 use Rattle.std.proofs.lemmas.Result.{err_from_is_err_and}
 use Rattle.std.proofs.lemmas.Grind.{common_steps}
-use Rattle.lasso_lines.specs.Report.{Ends, EndsFrom, holding}
+use Rattle.lasso_lines.specs.Report.{Ends, EndsFrom, held_by}
 use Rattle.lasso_lines.specs.Answer.{last_lines}
 use Rattle.lasso_lines.specs.declared.fault.RunFault.TheVariants.{Refused}
 use Rattle.lasso_lines.proofs.EndFaults.{answer_reads, answer_no_read, answer_no_usage, stream_no_usage}
@@ -20,7 +20,7 @@ pub returns-in_err-number-clause-report : goal.returns-in_err-number-clause-repo
 returns-in_err-number-clause-report g c = λ input e.
     let ahead = c.stretches.invariant.ahead input e in
     let buffer = c.buffer-buffer.result.now in
-    let held = holding c.stretches.rodeo.texts c.stretches.rodeo.account in
+    let held = held_by c.stretches.rodeo in
     let begun = c.stretches.begun.items in
     let number = c.stretches.number in
     let p = err_from_is_err_and c.from_residual.result c.from_residual.ensures.1 in
@@ -36,8 +36,8 @@ returns-in_err-ask_for_more-clause-report g c = λ input e.
     let ahead = c.stretches.invariant.ahead input e in
     let buffer = c.buffer-buffer.result.now in
     let rest = drop (length buffer) ahead.0 in
-    let held = holding c.stretches.rodeo.texts c.stretches.rodeo.account in
-    let after = holding c.answer_stretch.new.rodeo.texts c.answer_stretch.new.rodeo.account in
+    let held = held_by c.stretches.rodeo in
+    let after = held_by c.answer_stretch.new.rodeo in
     let begun = c.answer_stretch.new.begun.items in
     let number = c.in_ok-number.number in
     let p = err_from_is_err_and c.from_residual-in_err-ask_for_more.result c.from_residual-in_err-ask_for_more.ensures.1 in
@@ -55,8 +55,8 @@ returns-then-is_empty-clause-report g c = λ input e.
     let ahead = c.stretches.invariant.ahead input e in
     let buffer = c.buffer-buffer.result.now in
     let rest = drop (length buffer) ahead.0 in
-    let held = holding c.stretches.rodeo.texts c.stretches.rodeo.account in
-    let after = holding c.answer_stretch.new.rodeo.texts c.answer_stretch.new.rodeo.account in
+    let held = held_by c.stretches.rodeo in
+    let after = held_by c.answer_stretch.new.rodeo in
     let begun = c.answer_stretch.new.begun.items in
     let number = c.in_ok-number.number in
     let none : g.I.ByteReader.at_hand c.ask_for_more.new.reader ≡ [] = grind (arith, common_steps) in
@@ -85,8 +85,8 @@ returns-then-is_empty-clause-delivered g c =
 pub stretches-preserved : goal.stretches-preserved
 stretches-preserved g c =
     let buffer = c.buffer-buffer.result.now in
-    let held = holding c.stretches.rodeo.texts c.stretches.rodeo.account in
-    let after = holding c.answer_stretch.new.rodeo.texts c.answer_stretch.new.rodeo.account in
+    let held = held_by c.stretches.rodeo in
+    let after = held_by c.answer_stretch.new.rodeo in
     let begun = c.answer_stretch.new.begun.items in
     let number = c.in_ok-number.number in
     record {

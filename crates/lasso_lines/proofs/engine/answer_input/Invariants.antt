@@ -1,6 +1,6 @@
 use Rattle.std.proofs.Common.{◌≡◌, ◌<◌, ℕ, List, Some}
-use Rattle.lasso_lines.specs.Stream.{Grows, OnlyGrows, written}
-use Rattle.lasso_lines.specs.Report.{holding, first_bytes}
+use Rattle.lasso_lines.specs.Stream.{OnlyGrows, Writes}
+use Rattle.lasso_lines.specs.Report.{held_by, first_bytes}
 use Rattle.lasso_input.specs.Lines.{NoFeed}
 use Rattle.lasso_lines.proofs.Ways.{OnTheWay}
 use Rattle.lasso_lines.proofs.engine.answer_input.Given as goal
@@ -17,5 +17,5 @@ invariant-stretches g l =
       delivered : OnlyGrows (writer.delivered l.fn.writer) (writer.delivered l.writer);
       no_feed : NoFeed l.begun.items;
       ahead : (input : List ℕ) → reader.left l.fn.reader ≡ Some input → (left : List ℕ) × (reader.left l.reader ≡ Some left)
-          × Grows (written (writer.delivered l.fn.writer) (writer.pending l.fn.writer)) (written (writer.delivered l.writer) (writer.pending l.writer)) (OnTheWay input l.fn.limits (holding l.rodeo.texts l.rodeo.account) l.number l.begun.items left);
+          × Writes writer.delivered writer.pending l.fn.writer l.writer (OnTheWay input l.fn.limits (held_by l.rodeo) l.number l.begun.items left);
     }

@@ -4,7 +4,7 @@ use Rattle.std.proofs.lemmas.Result.{err_from_is_err_and}
 use Rattle.std.proofs.lemmas.List.{length-map}
 use Rattle.lasso_parts.specs.Texts.{Text}
 use Rattle.lasso_log.specs.Views.{list_of, seen}
-use Rattle.lasso_encode.specs.Codes.{AreCodes}
+use Rattle.lasso_single.specs.Codes.{AreCodes}
 use Rattle.lasso_lines.specs.Shares.{IsRefusalIn, line_at, share}
 use Rattle.lasso_lines.proofs.Lowest.{still_there, lines_coded}
 use Rattle.lasso_lines.proofs.ShareLines.{line_read, share_next}

@@ -1,6 +1,6 @@
 use Rattle.std.proofs.Common.{◌≡◌, ◌+◌, ◌-◌, ◌*◌, ◌<◌, ◌≤◌, ℕ, length, map}
 use Rattle.lasso_log.specs.Views.{list_of}
-use Rattle.lasso_encode.specs.Codes.{AreCodes}
+use Rattle.lasso_single.specs.Codes.{AreCodes}
 use Rattle.lasso_lines.specs.Shares.{share}
 use Rattle.lasso_lines.proofs.shares.intern_by.Given as goal
 

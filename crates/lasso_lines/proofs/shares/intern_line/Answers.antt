@@ -1,7 +1,7 @@
 use Rattle.std.proofs.Common.{ℕ, ◌∷◌, ◌++◌, ◌∙◌, [], List, ap, sym, subst}
 use Rattle.std.proofs.lemmas.List.Elements.{Contains-push}
 use Rattle.lasso_log.specs.Views.{list_of, seen}
-use Rattle.lasso_encode.specs.Codes.{AreCodes}
+use Rattle.lasso_single.specs.Codes.{AreCodes}
 use Rattle.lasso_lines.proofs.Listed.{call_grows}
 use Rattle.lasso_lines.proofs.SharedCalls.{shared_push, shared_refused}
 use Rattle.lasso_lines.proofs.shares.intern_line.Goals as goal

@@ -1,7 +1,7 @@
 use Rattle.std.proofs.Common.{ℕ, ◌<◌, ◌≤◌, ◌∙◌, List, Option, None, Bor, inr, map, refl, sym, subst, arith}
 use Rattle.std.specs.Prelude.{IfSome}
 use Rattle.lasso_parts.specs.Texts.{Text}
-use Rattle.lasso_encode.specs.Encoding.{spur_at}
+use Rattle.lasso_single.specs.Coding.{spur_at}
 use Rattle.lasso_log.specs.History.{IsLegal}
 use Rattle.lasso_log.specs.Views.{InternerId, list_of, seen}
 use Rattle.lasso_log.proofs.Lengths.{texts_past}

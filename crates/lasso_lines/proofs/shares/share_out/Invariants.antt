@@ -1,6 +1,6 @@
 use Rattle.std.proofs.Common.{◌≡◌, None, map}
 use Rattle.std.specs.Prelude.{IfSome}
-use Rattle.lasso_encode.specs.Encoding.{spur_at}
+use Rattle.lasso_single.specs.Coding.{spur_at}
 use Rattle.lasso_log.specs.History.{IsLegal}
 use Rattle.lasso_log.specs.Views.{list_of, seen, IsSamePass}
 use Rattle.lasso_lines.specs.Shares.{IsRefusedIn}

@@ -1,7 +1,7 @@
 use Rattle.std.proofs.Common.{◌≡◌, ◌+◌, ◌-◌, [], ◌∷◌, ◌++◌, length, drop, ap, sym, subst, ◌∙◌, arith}
 use Rattle.std.proofs.lemmas.List.{length-append}
 use Rattle.std.proofs.lemmas.Result.{err_from_is_err_and}
-use Rattle.lasso_lines.specs.Report.{holding}
+use Rattle.lasso_lines.specs.Report.{held_by}
 use Rattle.lasso_lines.specs.Stretch.{LeadsTo}
 use Rattle.lasso_lines.proofs.FailedCalls.{then_failed, none_failed}
 use Rattle.lasso_lines.proofs.Known.{grows_then, only_grows_then}
@@ -11,8 +11,8 @@ use Rattle.lasso_lines.proofs.stretches.answer_lines.Goals as goal
 -- a line fails
 pub returns-in_err-answer_line-clause-answers : goal.returns-in_err-answer_line-clause-answers
 returns-in_err-answer_line-clause-answers g c =
-    let before = holding c.args.rodeo.now.texts c.args.rodeo.now.account in
-    let mid = holding c.lines.rodeo.texts c.lines.rodeo.account in
+    let before = held_by c.args.rodeo.now in
+    let mid = held_by c.lines.rodeo in
     let p = err_from_is_err_and c.from_residual.result c.from_residual.ensures.1 in
     rw (p.1, p.2) (grows_then _ _ _ _ _ _ c.lines.invariant.answers c.in_err-answer_line.ensures.answers (λ part reply leads fails.
     fails_then before mid c.args.number c.lines.number (c.args.first.now ++ 10 ∷ c.args.stretch) (c.lines.line ++ 10 ∷ c.lines.lines) part reply _ leads
@@ -37,9 +37,9 @@ returns-in_err-answer_line-clause-faults g c =
 -- another line follows
 pub lines-preserved : goal.lines-preserved
 lines-preserved g c =
-    let before = holding c.args.rodeo.now.texts c.args.rodeo.now.account in
-    let mid = holding c.lines.rodeo.texts c.lines.rodeo.account in
-    let after = holding c.answer_line.new.rodeo.texts c.answer_line.new.rodeo.account in
+    let before = held_by c.args.rodeo.now in
+    let mid = held_by c.lines.rodeo in
+    let after = held_by c.answer_line.new.rodeo in
     let whole = c.args.first.now ++ 10 ∷ c.args.stretch in
     let rest = c.in-Some.next ++ 10 ∷ c.next_ended.new.self in
     record {
@@ -59,9 +59,9 @@ lines-preserved g c =
 -- no line follows
 pub returns-in_default-clause-answers : goal.returns-in_default-clause-answers
 returns-in_default-clause-answers g c =
-    let before = holding c.args.rodeo.now.texts c.args.rodeo.now.account in
-    let mid = holding c.lines.rodeo.texts c.lines.rodeo.account in
-    let after = holding c.answer_line.new.rodeo.texts c.answer_line.new.rodeo.account in
+    let before = held_by c.args.rodeo.now in
+    let mid = held_by c.lines.rodeo in
+    let after = held_by c.answer_line.new.rodeo in
     let whole = c.args.first.now ++ 10 ∷ c.args.stretch in
     let front = c.lines.invariant.rest.0 in
     let count : length c.rest.result.now ≡ length c.lines.lines = ap length (c.rest.ensures ∙ c.in_default.ensures.line.1) in

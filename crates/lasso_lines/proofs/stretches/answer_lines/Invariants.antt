@@ -1,7 +1,7 @@
 use Rattle.std.proofs.Common.{ℕ, ◌≡◌, ◌<◌, List, ◌∷◌, ◌++◌, length}
 use Rattle.lasso_input.specs.Lines.{NoFeed}
-use Rattle.lasso_lines.specs.Stream.{Grows, OnlyGrows, written}
-use Rattle.lasso_lines.specs.Report.{holding, first_bytes}
+use Rattle.lasso_lines.specs.Stream.{OnlyGrows, Writes}
+use Rattle.lasso_lines.specs.Report.{held_by, first_bytes}
 use Rattle.lasso_lines.specs.Stretch.{LeadsTo}
 use Rattle.lasso_lines.proofs.stretches.answer_lines.Given as goal
 
@@ -16,8 +16,7 @@ invariant-lines g l =
       first : l.rodeo.first ≡ first_bytes;
       failures : writer.failures l.writer ≡ writer.failures l.fn.writer;
       delivered : OnlyGrows (writer.delivered l.fn.writer) (writer.delivered l.writer);
-      answers : Grows (written (writer.delivered l.fn.writer) (writer.pending l.fn.writer)) (written (writer.delivered l.writer) (writer.pending l.writer))
-          (LeadsTo (holding l.fn.rodeo.texts l.fn.rodeo.account) l.fn.number (l.fn.first ++ 10 ∷ l.fn.stretch) (holding l.rodeo.texts l.rodeo.account) l.number (l.line ++ 10 ∷ l.lines));
+      answers : Writes writer.delivered writer.pending l.fn.writer l.writer (LeadsTo (held_by l.fn.rodeo) l.fn.number (l.fn.first ++ 10 ∷ l.fn.stretch) (held_by l.rodeo) l.number (l.line ++ 10 ∷ l.lines));
     }
 
 abbrev pub decreases-lines : goal.decreases-lines

@@ -2,7 +2,7 @@ use Rattle.std.proofs.Common.{◌≡◌, ◌-◌, ◌<◌, [], ◌∷◌, ◌++�
 use Rattle.std.proofs.lemmas.Result.{err_from_is_err_and}
 use Rattle.lasso_input.specs.Lines.{NoFeed}
 use Rattle.lasso_lines.specs.Answer.{LineFails, no_memory}
-use Rattle.lasso_lines.specs.Report.{holding}
+use Rattle.lasso_lines.specs.Report.{held_by}
 use Rattle.lasso_lines.specs.Stretch.{LeadsTo, FailsWith}
 use Rattle.lasso_lines.proofs.FailedCalls.{none_failed}
 use Rattle.lasso_lines.proofs.Known.{nothing_more, grows_as}
@@ -12,7 +12,7 @@ use Rattle.lasso_lines.proofs.stretches.answer_stretch.Goals as goal
 -- the buffer has no line feed, and out of memory for its bytes
 pub returns-in_err-hold-clause-answers : goal.returns-in_err-hold-clause-answers
 returns-in_err-hold-clause-answers g c =
-    let before = holding c.args.rodeo.now.texts c.args.rodeo.now.account in
+    let before = held_by c.args.rodeo.now in
     let p = err_from_is_err_and c.from_residual.result c.from_residual.ensures.1 in
     rw (p.1, p.2) (nothing_more _ _ (fails_held before c.args.number c.args.begun.now.items c.args.buffer.now _ c.in_err-hold.ensures.lacks))
 
@@ -35,7 +35,7 @@ returns-in_err-hold-clause-faults g c =
 -- the buffer's bytes are held
 pub returns-in_default-clause-answers : goal.returns-in_default-clause-answers
 returns-in_default-clause-answers g c =
-    let before = holding c.args.rodeo.now.texts c.args.rodeo.now.account in
+    let before = held_by c.args.rodeo.now in
     nothing_more _ _ (leads_held before c.args.number (c.args.begun.now.items ++ c.args.buffer.now) _ c.in_ok-hold.ensures.held)
 
 pub returns-in_default-clause-held : goal.returns-in_default-clause-held
@@ -57,7 +57,7 @@ returns-in_default-clause-counted g c = c.requires.counted
 -- out of memory for the end of the first line
 pub returns-in_err-hold-2-clause-answers : goal.returns-in_err-hold-2-clause-answers
 returns-in_err-hold-2-clause-answers g c =
-    let before = holding c.args.rodeo.now.texts c.args.rodeo.now.account in
+    let before = held_by c.args.rodeo.now in
     let begun = c.args.begun.now.items in
     let line = c.bytes.result.now in
     let cut : NoFeed line × (c.args.buffer.now ≡ line ++ 10 ∷ c.next_ended.new.self) = rw (c.bytes.ensures, sym c.new-lines.ensures) c.in-Some.ensures.line in
@@ -91,7 +91,7 @@ answer_lines-requires-clause-line g c =
 -- a line fails
 pub returns-in_err-next-clause-answers : goal.returns-in_err-next-clause-answers
 returns-in_err-next-clause-answers g c =
-    let before = holding c.args.rodeo.now.texts c.args.rodeo.now.account in
+    let before = held_by c.args.rodeo.now in
     let begun = c.args.begun.now.items in
     let line = c.bytes.result.now in
     let cut : c.args.buffer.now ≡ line ++ 10 ∷ c.next_ended.new.self = rw (c.bytes.ensures, sym c.new-lines.ensures) c.in-Some.ensures.line.1 in
@@ -119,8 +119,8 @@ returns-in_err-next-clause-faults g c =
 -- the lines are answered, and out of memory for the bytes after them
 pub returns-in_err-hold-3-clause-answers : goal.returns-in_err-hold-3-clause-answers
 returns-in_err-hold-3-clause-answers g c =
-    let before = holding c.args.rodeo.now.texts c.args.rodeo.now.account in
-    let after = holding c.answer_lines.new.rodeo.texts c.answer_lines.new.rodeo.account in
+    let before = held_by c.args.rodeo.now in
+    let after = held_by c.answer_lines.new.rodeo in
     let begun = c.args.begun.now.items in
     let buffer = c.args.buffer.now in
     let line = c.bytes.result.now in
@@ -153,8 +153,8 @@ returns-in_err-hold-3-clause-faults g c =
 -- the lines are answered, and the bytes after them are held
 pub returns-clause-answers : goal.returns-clause-answers
 returns-clause-answers g c =
-    let before = holding c.args.rodeo.now.texts c.args.rodeo.now.account in
-    let after = holding c.answer_lines.new.rodeo.texts c.answer_lines.new.rodeo.account in
+    let before = held_by c.args.rodeo.now in
+    let after = held_by c.answer_lines.new.rodeo in
     let begun = c.args.begun.now.items in
     let buffer = c.args.buffer.now in
     let line = c.bytes.result.now in

@@ -1,5 +1,5 @@
-use Rattle.std.proofs.Common.{◌-◌, ◌≤◌, length, drop, Some}
-use Rattle.lasso_lines.specs.Stream.{OnlyGrows, Stays, written}
+use Rattle.std.proofs.Common.{◌-◌, ◌≤◌, length}
+use Rattle.lasso_lines.specs.Stream.{OnlyGrows, Stays, taken}
 use Rattle.lasso_lines.proofs.standard.Outgoing.send.Given as goal
 
 abbrev pub invariant-loop-self : goal.invariant-loop-self
@@ -8,7 +8,7 @@ invariant-loop-self g l =
     record {
       in_range : l.self.sent ≤ length l.self.buffer.items;
       delivered : OnlyGrows (W.contents l.fn.self.inner) (W.contents l.self.inner);
-      written : Stays (written (W.contents l.fn.self.inner) (Some (drop l.fn.self.sent l.fn.self.buffer.items))) (written (W.contents l.self.inner) (Some (drop l.self.sent l.self.buffer.items)));
+      written : Stays (taken W.contents l.fn.self.inner l.fn.self.sent l.fn.self.buffer) (taken W.contents l.self.inner l.self.sent l.self.buffer);
     }
 
 abbrev pub decreases-loop-self : goal.decreases-loop-self

@@ -7,7 +7,7 @@ use Rattle.logbook.specs.Kept.{offer_owns}
 use Rattle.logbook.specs.contracts.tokens.Seen as Seen
 use Rattle.lasso_log.specs.Eras.{free}
 use Rattle.lasso_log.specs.LentBuckets.{LentBucket, AddsBucket, IsRightTo}
-use Rattle.lasso_log.specs.contracts.shared_arena.rights.Free as Free
+use Rattle.lasso_log.specs.contracts.shared_memory.rights.Free as Free
 use Rattle.lasso_log.specs.contracts.chunks.rule.InChunks as InChunks
 use Rattle.lasso_log.specs.contracts.chunks.rule.BytesTaken as BytesTaken
 use Rattle.lasso_log.specs.contracts.chunks.rule.InChunksRuleU64.TheImpl as law

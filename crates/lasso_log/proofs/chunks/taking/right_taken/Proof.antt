@@ -2,7 +2,7 @@
 use Rattle.lasso_log.proofs.WalkWords.{◌≡◌, ◌+◌, List, [], ◌∷◌, refl, subst, a_type, dcons, dnil, inst_fn, Val, SProp, emp, ‵, raw, ◌⊛◌, ◌$◌, ◌∵◌, !, qed, by, move, keep, let_go, split, fsplit, fjoin, use0, rewrite, no_more, and_then, returns, enter, alloc_all, pass_all, free_all, look_at, get, sets, agg, fact, fact_i, tables, no, RattleType, owns, types_at, plain, u64, unit, param, bounded, nothing, heard, Tuple, alive, Stays, stay_dropped, walk_of, Goes-dropped, proved, token, Token, token_made, token_told, ends}
 use Rattle.logbook.specs.contracts.tokens.Gained as Gained
 use Rattle.lasso_log.specs.LentBuckets.{LentBucket, IsRightTo, bytes_gained}
-use Rattle.lasso_log.specs.contracts.shared_arena.rights.Free as Free
+use Rattle.lasso_log.specs.contracts.shared_memory.rights.Free as Free
 use Rattle.lasso_log.specs.contracts.chunks.rule.BytesTaken as BytesTaken
 use Rattle.lasso_log.specs.contracts.chunks.rule.BytesTakenGainU64.TheImpl as gain
 use Rattle.lasso_log.specs.contracts.chunks.taking.right_taken.{ended, clauses}

@@ -6,7 +6,7 @@ abbrev pub invariant-loop-at : goal.invariant-loop-at
 invariant-loop-at l = record {
   from : l.from ≤ l.at;
   to : l.at ≤ l.to;
-  others : AreOthers l.tags l.tag l.from l.at;
+  others : AreOthers l.fingerprints l.fingerprint l.from l.at;
 }
 
 abbrev pub decreases-loop-at : goal.decreases-loop-at

@@ -1,5 +1,5 @@
 use Rattle.std.proofs.Common.{◌≡◌, ◌<◌, refl, sym, ◌∙◌, subst, arith}
-use Rattle.lasso_parts.specs.Hashing.{text_hash}
+use Rattle.lasso_parts.specs.Hashing.{hash_by}
 use Rattle.lasso_parts.specs.IndexTable.{IsRefilled}
 use Rattle.lasso_parts.proofs.IndexTables.{below_more, IsRefilled-start, IsRefilled-more}
 use Rattle.lasso_parts.proofs.index.table.refill_in_order.Goals as goal
@@ -20,4 +20,4 @@ loop-position-preserved g c =
 pub returns-clause-refilled : goal.returns-clause-refilled
 returns-clause-refilled g c =
     let all : c.loop-position.position ≡ c.args.len = omega (arith, c.loop-position-test.false, c.loop-position.auto.position-end) in
-    subst (λ k. IsRefilled (text_hash g.S.BuildHasher.build_hasher g.S.Hasher.Hasher.write g.S.Hasher.Hasher.finish c.args.hasher.now) (g.T.Texts.list c.args.texts.now) c.loop-position.slots (λ n. n < k) k) all c.loop-position.invariant.refilled
+    subst (λ k. IsRefilled (hash_by g.S.BuildHasher g.S.Hasher.Hasher c.args.hasher.now) (g.T.Texts.list c.args.texts.now) c.loop-position.slots (λ n. n < k) k) all c.loop-position.invariant.refilled

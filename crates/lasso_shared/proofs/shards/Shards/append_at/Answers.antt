@@ -1,7 +1,7 @@
 use Rattle.std.proofs.Common.{◌≡◌, ◌+◌, ◌++◌, ◌∷◌, [], ℕ, List, Some, None, length, refl, sym, ap, ◌∙◌, subst, arith}
 use Rattle.std.proofs.lemmas.List.{length-set}
 use Rattle.lasso_parts.specs.Texts.{Text, IsDistinct}
-use Rattle.lasso_parts.specs.Hashing.{text_hash}
+use Rattle.lasso_parts.specs.Hashing.{hash_by}
 use Rattle.lasso_log.specs.History.{Lacks}
 use Rattle.lasso_log.specs.Views.{InternerId, list_of}
 use Rattle.lasso_shared.specs.Shards.{shard_of, is_in, count_in, IsShardOf, Counts}
@@ -11,7 +11,7 @@ use Rattle.lasso_shared.proofs.shards.Shards.append_at.Goals as goal
 
 pub returns-in_default-clause-put : goal.returns-in_default-clause-put
 returns-in_default-clause-put g c =
-    let hash_of = text_hash g.S.BuildHasher.build_hasher g.S.Hasher.Hasher.write g.S.Hasher.Hasher.finish c.args.self.now.hasher in
+    let hash_of = hash_by g.S.BuildHasher g.S.Hasher.Hasher c.args.self.now.hasher in
     let n = shard_of c.args.hash in
     let log = c.args.self.now.log in
     let t = c.args.text.text in
@@ -25,7 +25,7 @@ returns-in_default-clause-put g c =
 
 pub append-requires-clause-may : goal.append-requires-clause-may
 append-requires-clause-may g c =
-    let hash_of = text_hash g.S.BuildHasher.build_hasher g.S.Hasher.Hasher.write g.S.Hasher.Hasher.finish c.args.self.now.hasher in
+    let hash_of = hash_by g.S.BuildHasher g.S.Hasher.Hasher c.args.self.now.hasher in
     let n = shard_of c.args.hash in
     let log = c.args.self.now.log in
     let t = c.args.text.text in
@@ -38,7 +38,7 @@ append-requires-clause-may g c =
 
 pub overflow_add-shard : goal.overflow_add-shard
 overflow_add-shard g c =
-    let hash_of = text_hash g.S.BuildHasher.build_hasher g.S.Hasher.Hasher.write g.S.Hasher.Hasher.finish c.args.self.now.hasher in
+    let hash_of = hash_by g.S.BuildHasher g.S.Hasher.Hasher c.args.self.now.hasher in
     let n = shard_of c.args.hash in
     let log = c.args.self.now.log in
     let t = c.args.text.text in
@@ -63,7 +63,7 @@ overflow_add-shard g c =
 
 pub returns-clause-put : goal.returns-clause-put
 returns-clause-put g c =
-    let hash_of = text_hash g.S.BuildHasher.build_hasher g.S.Hasher.Hasher.write g.S.Hasher.Hasher.finish c.args.self.now.hasher in
+    let hash_of = hash_by g.S.BuildHasher g.S.Hasher.Hasher c.args.self.now.hasher in
     let n = shard_of c.args.hash in
     let log = c.args.self.now.log in
     let t = c.args.text.text in
@@ -82,7 +82,7 @@ returns-clause-put g c =
 
 pub returns-clause-held : goal.returns-clause-held
 returns-clause-held g c =
-    let hash_of = text_hash g.S.BuildHasher.build_hasher g.S.Hasher.Hasher.write g.S.Hasher.Hasher.finish c.args.self.now.hasher in
+    let hash_of = hash_by g.S.BuildHasher g.S.Hasher.Hasher c.args.self.now.hasher in
     let n = shard_of c.args.hash in
     let log = c.args.self.now.log in
     let t = c.args.text.text in
@@ -112,7 +112,7 @@ returns-clause-held g c =
 
 pub returns-clause-tally : goal.returns-clause-tally
 returns-clause-tally g c =
-    let hash_of = text_hash g.S.BuildHasher.build_hasher g.S.Hasher.Hasher.write g.S.Hasher.Hasher.finish c.args.self.now.hasher in
+    let hash_of = hash_by g.S.BuildHasher g.S.Hasher.Hasher c.args.self.now.hasher in
     let n = shard_of c.args.hash in
     let log = c.args.self.now.log in
     let t = c.args.text.text in

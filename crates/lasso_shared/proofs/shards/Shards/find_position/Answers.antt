@@ -1,7 +1,7 @@
 use Rattle.std.proofs.Common.{◌≡◌, ◌≢◌, ℕ, List, Some, sym, ap, ◌∙◌, subst}
 use Rattle.std.specs.Prelude.{IfSome, IfNone, slice_get}
 use Rattle.lasso_parts.specs.Texts.{Text, IsDistinct}
-use Rattle.lasso_parts.specs.Hashing.{text_hash}
+use Rattle.lasso_parts.specs.Hashing.{hash_by}
 use Rattle.lasso_parts.specs.Index.{IsFiled, Holds}
 use Rattle.lasso_log.specs.Views.{InternerId, list_of}
 use Rattle.lasso_shared.specs.Shards.{shard_of}
@@ -11,7 +11,7 @@ use Rattle.lasso_shared.proofs.shards.Shards.find_position.Goals as goal
 
 pub find_hashed-requires-clause-filed : goal.find_hashed-requires-clause-filed
 find_hashed-requires-clause-filed g c =
-    let hash_of = text_hash g.S.BuildHasher.build_hasher g.S.Hasher.Hasher.write g.S.Hasher.Hasher.finish c.args.self.now.hasher in
+    let hash_of = hash_by g.S.BuildHasher g.S.Hasher.Hasher c.args.self.now.hasher in
     let log = c.args.self.now.log in
     let notes = c.args.known.now.notes in
     let is : c.snapshot_texts-texts.result ≡ list_of log notes = c.snapshot_texts-texts.ensures ∙ ap (λ of. list_of of notes) c.requires.of in
@@ -19,7 +19,7 @@ find_hashed-requires-clause-filed g c =
 
 pub returns-clause-found : goal.returns-clause-found
 returns-clause-found g c =
-    let hash_of = text_hash g.S.BuildHasher.build_hasher g.S.Hasher.Hasher.write g.S.Hasher.Hasher.finish c.args.self.now.hasher in
+    let hash_of = hash_by g.S.BuildHasher g.S.Hasher.Hasher c.args.self.now.hasher in
     let log = c.args.self.now.log in
     let notes = c.args.known.now.notes in
     let of : c.args.known.now.of ≡ log = c.requires.of in
@@ -31,7 +31,7 @@ returns-clause-found g c =
 
 pub returns-clause-missing : goal.returns-clause-missing
 returns-clause-missing g c =
-    let hash_of = text_hash g.S.BuildHasher.build_hasher g.S.Hasher.Hasher.write g.S.Hasher.Hasher.finish c.args.self.now.hasher in
+    let hash_of = hash_by g.S.BuildHasher g.S.Hasher.Hasher c.args.self.now.hasher in
     let log = c.args.self.now.log in
     let notes = c.args.known.now.notes in
     let of : c.args.known.now.of ≡ log = c.requires.of in

@@ -1,7 +1,7 @@
 use Rattle.std.proofs.Common.{◌≡◌, ◌∙◌, None, Some, [], ap, refl, subst, sym}
 use Rattle.std.specs.Prelude.{option_and_then}
 use Rattle.lasso_parts.specs.Texts.{IsDistinct}
-use Rattle.lasso_parts.specs.Hashing.{text_hash}
+use Rattle.lasso_parts.specs.Hashing.{hash_by}
 use Rattle.lasso_log.specs.History.{IsLegal, Lacks}
 use Rattle.lasso_log.specs.Notes.{Since, history}
 use Rattle.lasso_log.specs.Replies.{Get, Found}
@@ -27,7 +27,7 @@ returns g c =
     let learned = c.learn.new.self in
     let after = c.wait_current.new.pass in
     let since : Since pass.number pass.notes after.notes [] = since_both pass.number learned.number pass.notes learned.notes after.notes c.learn.ensures.same.0 c.learn.ensures.since c.wait_current.ensures.since in
-    let hash_of = text_hash g.S.BuildHasher.build_hasher g.S.Hasher.Hasher.write g.S.Hasher.Hasher.finish c.args.self.now.hasher in
+    let hash_of = hash_by g.S.BuildHasher g.S.Hasher.Hasher c.args.self.now.hasher in
     let log = c.args.self.now.log in
     let known = c.deref-shard.result.now.known.notes in
     let t = c.args.text.now in

@@ -1,6 +1,6 @@
 use Rattle.std.proofs.Common.{◌≡◌, List, sym, ap, ◌∙◌, subst}
 use Rattle.lasso_parts.specs.Texts.{Text}
-use Rattle.lasso_parts.specs.Hashing.{text_hash}
+use Rattle.lasso_parts.specs.Hashing.{hash_by}
 use Rattle.lasso_parts.specs.Index.{IsFiled}
 use Rattle.lasso_log.specs.Views.{list_of}
 use Rattle.lasso_log.proofs.Lengths.{texts_past}
@@ -9,7 +9,7 @@ use Rattle.lasso_shared.proofs.shards.Shards.grow.Goals as goal
 
 pub reserve_one-requires : goal.reserve_one-requires
 reserve_one-requires g c =
-    let hash_of = text_hash g.S.BuildHasher.build_hasher g.S.Hasher.Hasher.write g.S.Hasher.Hasher.finish c.args.self.now.hasher in
+    let hash_of = hash_by g.S.BuildHasher g.S.Hasher.Hasher c.args.self.now.hasher in
     let log = c.args.self.now.log in
     let notes = c.args.pass.now.notes in
     let is : c.seen_texts-seen_texts.result ≡ list_of log notes = c.seen_texts-seen_texts.ensures ∙ ap (λ of. list_of of notes) c.requires.of in
@@ -17,7 +17,7 @@ reserve_one-requires g c =
 
 pub returns-clause-held : goal.returns-clause-held
 returns-clause-held g c =
-    let hash_of = text_hash g.S.BuildHasher.build_hasher g.S.Hasher.Hasher.write g.S.Hasher.Hasher.finish c.args.self.now.hasher in
+    let hash_of = hash_by g.S.BuildHasher g.S.Hasher.Hasher c.args.self.now.hasher in
     let log = c.args.self.now.log in
     let known = c.args.shard.now.known.notes in
     let notes = c.args.pass.now.notes in

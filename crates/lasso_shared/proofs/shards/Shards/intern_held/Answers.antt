@@ -2,7 +2,7 @@ use Rattle.std.proofs.Common.{◌≡◌, ℕ, ◌∙◌, subst}
 use Rattle.std.proofs.lemmas.Result.{err_from_is_err_and}
 use Rattle.std.specs.Prelude.{Err}
 use Rattle.lasso_parts.specs.Texts.{Text}
-use Rattle.lasso_parts.specs.Hashing.{text_hash}
+use Rattle.lasso_parts.specs.Hashing.{hash_by}
 use Rattle.lasso_log.specs.Calls.{IsCall}
 use Rattle.lasso_log.specs.History.{Lacks}
 use Rattle.lasso_log.specs.Notes.{Since}
@@ -19,7 +19,7 @@ use Rattle.lasso_shared.proofs.shards.Shards.intern_held.Goals as goal
 pub returns-in_err-ahead-clause-call : goal.returns-in_err-ahead-clause-call
 returns-in_err-ahead-clause-call g c =
     let since = since_both c.args.pass.now.number c.find.new.pass.number c.args.pass.now.notes c.find.new.pass.notes c.make_room.new.pass.notes c.find.ensures.same.0 c.find.ensures.since c.make_room.ensures.since in
-    let hash_of = text_hash g.S.BuildHasher.build_hasher g.S.Hasher.Hasher.write g.S.Hasher.Hasher.finish c.args.self.now.hasher in
+    let hash_of = hash_by g.S.BuildHasher g.S.Hasher.Hasher c.args.self.now.hasher in
     let t = text_of c.args.text in
     let log = c.args.self.now.log in
     let lacks : Lacks (list_of log c.make_room.new.pass.notes) t =

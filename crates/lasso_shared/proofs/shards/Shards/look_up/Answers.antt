@@ -1,6 +1,6 @@
 use Rattle.std.proofs.Common.{sym, ap}
 use Rattle.std.specs.Prelude.{option_and_then}
-use Rattle.lasso_parts.specs.Hashing.{text_hash}
+use Rattle.lasso_parts.specs.Hashing.{hash_by}
 use Rattle.lasso_log.specs.History.{Lacks}
 use Rattle.lasso_log.specs.Views.{list_of}
 use Rattle.lasso_shared.proofs.Whole.{since_both, still_lacks}
@@ -12,7 +12,7 @@ returns-clause-since g c =
 
 pub returns-clause-found : goal.returns-clause-found
 returns-clause-found g c =
-    let hash_of = text_hash g.S.BuildHasher.build_hasher g.S.Hasher.Hasher.write g.S.Hasher.Hasher.finish c.args.self.now.hasher in
+    let hash_of = hash_by g.S.BuildHasher g.S.Hasher.Hasher c.args.self.now.hasher in
     let log = c.args.self.now.log in
     let t = c.args.text.now in
     let lacks : Lacks (list_of log c.wait_current.new.pass.notes) t =

@@ -3,7 +3,7 @@
 use Rattle.std.proofs.Common.{List, length, ap, sym, ◌∙◌, subst}
 use Rattle.lasso_parts.specs.Texts.{Text}
 use Rattle.lasso_log.specs.Views.{InternerId, list_of}
-use Rattle.lasso_parts.specs.Hashing.{text_hash}
+use Rattle.lasso_parts.specs.Hashing.{hash_by}
 use Rattle.lasso_shared.specs.Shards.{Counts}
 use Rattle.lasso_shared.proofs.shards.Shards.open_with.Goals as goal
 
@@ -24,7 +24,7 @@ new-spine-requires g c =
     let log = c.open_with-log.result.log in
     let told = c.in_ok-locks.ensures.counts in
     let tally = c.in_ok-tally.ensures in
-    let hash_of = text_hash g.S.BuildHasher.build_hasher g.S.Hasher.Hasher.write g.S.Hasher.Hasher.finish c.args.hasher in record {
+    let hash_of = hash_by g.S.BuildHasher g.S.Hasher.Hasher c.args.hasher in record {
       mine = rw tally.spine (made.spine.0 ∙ sym c.shards.ensures.same.0);
       all = rw tally.counts told.0;
       counts_each = rw (tally.spine, tally.counts, c.shards.ensures.same.0, c.shards.ensures.same.1) (subst (λ (ts : List Text). Counts hash_of ts c.in_ok-locks.field-0.counts) (sym (ap (list_of log) made.spine.1)) told.1);

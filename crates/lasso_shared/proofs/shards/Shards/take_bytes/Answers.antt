@@ -1,7 +1,7 @@
 use Rattle.std.proofs.Common.{◌≡◌, ℕ, List, [], length, ap, ◌∙◌, subst}
 use Rattle.std.specs.Prelude.{OnErr}
 use Rattle.lasso_parts.specs.Texts.{Text}
-use Rattle.lasso_parts.specs.Hashing.{text_hash}
+use Rattle.lasso_parts.specs.Hashing.{hash_by}
 use Rattle.lasso_log.specs.History.{Lacks}
 use Rattle.lasso_log.specs.Notes.{Since}
 use Rattle.lasso_log.specs.Views.{list_of}
@@ -30,7 +30,7 @@ returns-clause-refused g c =
     let mid = c.lock_current-guard.new.pass.notes in
     let after = c.reserve_or_charge-range.new.pass.notes in
     let spine = c.deref_mut.result.now.spine.notes in
-    let hash_of = text_hash g.S.BuildHasher.build_hasher g.S.Hasher.Hasher.write g.S.Hasher.Hasher.finish c.args.self.now.hasher in
+    let hash_of = hash_by g.S.BuildHasher g.S.Hasher.Hasher c.args.self.now.hasher in
     let since = since_both p c.reserve_anywhere.new.pass.number c.args.pass.now.notes c.reserve_anywhere.new.pass.notes mid first.same.0 c.in_default.ensures.none w.since in
     let lacks : Lacks (list_of log mid) t = still_lacks hash_of c.args.hash c.number_of.result log known mid t w.whole c.requires.hashed c.number_of.ensures.0 c.requires.held.exact.distinct c.requires.lacks in
     let long : length (list_of log mid) ≡ length (list_of log spine) = rw c.deref_mut.ensures.value (ap (λ (ts : List Text). length ts) w.list) in

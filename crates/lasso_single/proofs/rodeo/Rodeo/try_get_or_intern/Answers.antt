@@ -3,7 +3,7 @@
 use Rattle.std.proofs.Common.{◌≡◌, ℕ, List, [], ◌∷◌, ◌++◌, length, Some, None, Ok, Err, IsSome, subst, sym, refl, ap, ◌∙◌}
 use Rattle.lasso_parts.specs.Account.{store}
 use Rattle.lasso_parts.specs.Texts.{Text, position_of, Fits}
-use Rattle.lasso_parts.specs.Hashing.{text_hash}
+use Rattle.lasso_parts.specs.Hashing.{hash_by}
 use Rattle.lasso_parts.specs.Index.{IsIndexOf}
 use Rattle.lasso_parts.specs.declared.util.LassoError.{LassoError}
 use Rattle.lasso_single.specs.Intern.{InternsIn}
@@ -39,7 +39,7 @@ invariant_of-self-2 g c =
     let made : Some c.in-Some.key ≡ g.K.Key.key_at (length texts) = subst (λ (n : ℕ). Some c.in-Some.key ≡ g.K.Key.key_at n) c.len.ensures c.in-Some.ensures in
     let number : g.K.Key.number c.in-Some.key ≡ length texts = (g.met.K.Key.made (length texts) c.in-Some.key (sym made)).2 in
     let same : c.push_in_room.new.list.texts ≡ texts = ap (λ (v : InternerView). v.texts) (c.if-push_in_room.ensures.same_list refl) in
-    let hash_of = text_hash g.S.BuildHasher.build_hasher g.S.Hasher.Hasher.write g.S.Hasher.Hasher.finish c.self.inside.hasher in
+    let hash_of = hash_by g.S.BuildHasher g.S.Hasher.Hasher c.self.inside.hasher in
     let whole = subst (λ (ts : List Text). IsIndexOf hash_of ts c.reserve_in_order.new.self) same c.reserve_in_order.ensures.whole in
     whole_pushed _ g.K.Key.key_at texts c.push_growing.new.self.texts c.args.text.now c.hash_text-hash.result (g.K.Key.number c.in-Some.key) c.self.inside.index c.reserve_in_order.new.self c.insert_at.new.self c.self.invariant whole (c.in-Err.ensures.whole c.self.invariant.0) (c.in_ok-push_growing.ensures.texts ∙ ap (λ (ts : List Text). ts ++ c.args.text.now ∷ []) same) number (subst IsSome made refl) c.hash_text-hash.ensures c.insert_at.ensures.holds c.insert_at.ensures.used c.insert_at.ensures.filed
 
@@ -104,6 +104,6 @@ invariant_of-self-in_err-vacancy g c =
 
 pub invariant_of-self-in_err-push_growing : goal.invariant_of-self-in_err-push_growing
 invariant_of-self-in_err-push_growing g c =
-    let hash_of = text_hash g.S.BuildHasher.build_hasher g.S.Hasher.Hasher.write g.S.Hasher.Hasher.finish c.self.inside.hasher in
+    let hash_of = hash_by g.S.BuildHasher g.S.Hasher.Hasher c.self.inside.hasher in
     let fits = subst (λ (v : InternerView). Fits g.K.Key.key_at (length v.texts)) (sym (c.if-push_in_room.ensures.same_list refl)) c.self.invariant.1 in
     subst (λ (ts : List Text). IsIndexOf hash_of ts c.reserve_in_order.new.self × Fits g.K.Key.key_at (length ts)) (sym c.in_err-push_growing.ensures.same_texts) (c.reserve_in_order.ensures.whole, fits)

@@ -7,7 +7,7 @@ use Rattle.lasso_log.specs.Chunks.{lined}
 use Rattle.lasso_log.specs.Eras.{free}
 use Rattle.lasso_log.specs.LentBuckets.{LentBucket, IsRightTo, all_untaken}
 use Rattle.lasso_log.proofs.Lined.{kept_keyless}
-use Rattle.lasso_log.specs.contracts.shared_arena.rights.Free as Free
+use Rattle.lasso_log.specs.contracts.shared_memory.rights.Free as Free
 use Rattle.lasso_log.specs.contracts.chunks.rule.InChunks as InChunks
 use Rattle.lasso_log.specs.contracts.chunks.facts.Lines as Lines
 use Rattle.lasso_log.specs.contracts.chunks.facts.Lines.start.{ended, clauses}

@@ -8,7 +8,7 @@ use Rattle.lasso_log.proofs.BucketWords.{has_taken, lacks_room, taken_within}
 use Rattle.lasso_log.proofs.Histories.{prefix_trans}
 use Rattle.lasso_log.proofs.Logs.{opening_first}
 use Rattle.lasso_log.proofs.Tickets.{since_trans}
-use Rattle.lasso_log.proofs.Words.{word_later}
+use Rattle.lasso_log.proofs.LogWords.{word_later}
 use Rattle.lasso_log.proofs.log.bucket.SharedBucket.taken.Given.{Over}
 use Rattle.lasso_log.proofs.log.bucket.SharedBucket.taken.Goals as goal
 

@@ -1,7 +1,7 @@
 -- A new pass has seen the opening alone, so the texts that it shows are the opening's. Each is hashed in its turn.
 use Rattle.std.proofs.Common.{◌≡◌, ◌+◌, ◌∷◌, ◌++◌, [], List, ℕ, Some, length, map, slice_get, take, ap, ◌∙◌, subst, arith, rules}
 use Rattle.std.proofs.lemmas.List.{take_all, length_push}
-use Rattle.lasso_parts.specs.Hashing.{text_hash}
+use Rattle.lasso_parts.specs.Hashing.{hash_by}
 use Rattle.lasso_parts.specs.Texts.{Text}
 use Rattle.lasso_log.specs.Views.{InternerId, list_of}
 use Rattle.lasso_shared.proofs.Built.{hashed_more}
@@ -16,7 +16,7 @@ text_at-requires g c =
 
 pub loop-position-preserved : goal.loop-position-preserved
 loop-position-preserved g c =
-    let hash_of = text_hash g.S.BuildHasher.build_hasher g.S.Hasher.Hasher.write g.S.Hasher.Hasher.finish c.args.self.now.hasher in
+    let hash_of = hash_by g.S.BuildHasher g.S.Hasher.Hasher c.args.self.now.hasher in
     let log = c.args.self.now.log in
     let n = c.loop-position.position in
     let t = c.text_at.result.now in
@@ -30,6 +30,6 @@ loop-position-preserved g c =
 
 pub returns : goal.returns
 returns g c =
-    let hash_of = text_hash g.S.BuildHasher.build_hasher g.S.Hasher.Hasher.write g.S.Hasher.Hasher.finish c.args.self.now.hasher in
+    let hash_of = hash_by g.S.BuildHasher g.S.Hasher.Hasher c.args.self.now.hasher in
     let texts = list_of c.args.self.now.log [] in
     c.loop-position.invariant.hashed ∙ ap (map hash_of) (take_all c.loop-position.position texts (omega (arith, c.requires)))

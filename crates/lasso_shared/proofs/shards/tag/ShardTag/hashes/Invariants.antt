@@ -1,6 +1,6 @@
 use Rattle.std.proofs.Common.{◌≡◌, ◌≤◌, [], length, map, take}
 use Rattle.std.specs.Prelude.{vec_capacity}
-use Rattle.lasso_parts.specs.Hashing.{text_hash}
+use Rattle.lasso_parts.specs.Hashing.{hash_by}
 use Rattle.lasso_log.specs.Views.{list_of}
 use Rattle.lasso_shared.proofs.shards.tag.ShardTag.hashes.Given as goal
 
@@ -9,5 +9,5 @@ abbrev pub invariant-loop-position : goal.invariant-loop-position
 invariant-loop-position g l = record {
   room : l.len ≤ vec_capacity l.hashes;
   long : length l.hashes.items ≡ l.position;
-  hashed : l.hashes.items ≡ map (text_hash g.S.BuildHasher.build_hasher g.S.Hasher.Hasher.write g.S.Hasher.Hasher.finish l.self.hasher) (take l.position (list_of l.self.log []));
+  hashed : l.hashes.items ≡ map (hash_by g.S.BuildHasher g.S.Hasher.Hasher l.self.hasher) (take l.position (list_of l.self.log []));
 }

@@ -1,7 +1,7 @@
 -- A new pass has seen the opening alone, so the texts that it shows are the opening's. After each position the index and the number are
 -- the shard's of the texts so far: a text of the shard is entered and counted, another one is passed over.
 use Rattle.std.proofs.Common.{◌≡◌, ◌+◌, ◌∙◌, [], List, take, get_or, sym, ap, refl, subst, arith}
-use Rattle.lasso_parts.specs.Hashing.{text_hash}
+use Rattle.lasso_parts.specs.Hashing.{hash_by}
 use Rattle.lasso_parts.specs.Index.{Table, IsFiled}
 use Rattle.lasso_parts.specs.Texts.{Text}
 use Rattle.lasso_log.specs.Views.{InternerId, list_of}
@@ -13,14 +13,14 @@ use Rattle.lasso_shared.proofs.shards.tag.ShardTag.shard.Goals as goal
 
 pub loop-position-init : goal.loop-position-init
 loop-position-init g c =
-    let hash_of = text_hash g.S.BuildHasher.build_hasher g.S.Hasher.Hasher.write g.S.Hasher.Hasher.finish c.args.self.now.hasher in record {
+    let hash_of = hash_by g.S.BuildHasher g.S.Hasher.Hasher c.args.self.now.hasher in record {
       exact = none_yet hash_of c.args.self.now.number [] c.new-index.result refl c.new-index.ensures.empty c.new-index.ensures.filed;
       counts = refl;
     }
 
 pub reserve_one-requires : goal.reserve_one-requires
 reserve_one-requires g c =
-    let hash_of = text_hash g.S.BuildHasher.build_hasher g.S.Hasher.Hasher.write g.S.Hasher.Hasher.finish c.args.self.now.hasher in
+    let hash_of = hash_by g.S.BuildHasher g.S.Hasher.Hasher c.args.self.now.hasher in
     let log = c.args.self.now.log in
     let is : c.seen_texts-texts.result ≡ list_of log [] = c.seen_texts-texts.ensures ∙ (ap (λ (o : InternerId). list_of o c.pass-pass.result.notes) c.pass-pass.ensures.of ∙ ap (list_of log) c.pass-pass.ensures.notes) in
     subst (λ (ts : List Text). IsFiled hash_of ts c.loop-position.index) (sym is)
@@ -28,7 +28,7 @@ reserve_one-requires g c =
 
 pub overflow_add-count : goal.overflow_add-count
 overflow_add-count g c =
-    let hash_of = text_hash g.S.BuildHasher.build_hasher g.S.Hasher.Hasher.write g.S.Hasher.Hasher.finish c.args.self.now.hasher in
+    let hash_of = hash_by g.S.BuildHasher g.S.Hasher.Hasher c.args.self.now.hasher in
     let texts = list_of c.args.self.now.log [] in
     let n = c.loop-position.position in
     let long = as_many hash_of texts c.args.hashes.now c.requires.hashes in
@@ -37,7 +37,7 @@ overflow_add-count g c =
 
 pub loop-position-preserved : goal.loop-position-preserved
 loop-position-preserved g c =
-    let hash_of = text_hash g.S.BuildHasher.build_hasher g.S.Hasher.Hasher.write g.S.Hasher.Hasher.finish c.args.self.now.hasher in
+    let hash_of = hash_by g.S.BuildHasher g.S.Hasher.Hasher c.args.self.now.hasher in
     let number = c.args.self.now.number in
     let log = c.args.self.now.log in
     let texts = list_of log [] in

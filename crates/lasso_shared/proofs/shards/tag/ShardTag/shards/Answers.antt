@@ -1,7 +1,7 @@
 -- The shards are made in the order of their numbers: each lock knows its number, and each shard's texts are counted under it.
 use Rattle.std.proofs.Common.{rules, ◌≡◌, [], ℕ, refl, ap, ◌∙◌, arith}
 use Rattle.std.proofs.lemmas.List.{length-set}
-use Rattle.lasso_parts.specs.Hashing.{text_hash}
+use Rattle.lasso_parts.specs.Hashing.{hash_by}
 use Rattle.lasso_log.specs.Views.{list_of}
 use Rattle.lasso_shared.specs.Shards.{count_in}
 use Rattle.lasso_shared.proofs.Built.{counted_below_more}
@@ -13,8 +13,8 @@ loop-number-preserved g c =
     let i = c.loop-number.invariant in
     let n = c.loop-number.number in
     let was = c.args.self.now in
-    let hash_of = text_hash g.S.BuildHasher.build_hasher g.S.Hasher.Hasher.write g.S.Hasher.Hasher.finish was.hasher in
-    let own = text_hash g.S.BuildHasher.build_hasher g.S.Hasher.Hasher.write g.S.Hasher.Hasher.finish c.loop-number.self.hasher in
+    let hash_of = hash_by g.S.BuildHasher g.S.Hasher.Hasher was.hasher in
+    let own = hash_by g.S.BuildHasher g.S.Hasher.Hasher c.loop-number.self.hasher in
     let told = c.in_ok-shard.ensures in
     let count : c.in_ok-shard.shard.count ≡ count_in hash_of n (list_of was.log []) = rw (← i.log, ← i.hasher) (told.shard.counts ∙ ap (λ notes. count_in own n (list_of c.loop-number.self.log notes)) told.known) in record {
       below = search rules;

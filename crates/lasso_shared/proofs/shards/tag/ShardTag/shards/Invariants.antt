@@ -1,6 +1,6 @@
 use Rattle.std.proofs.Common.{◌≡◌, ◌<◌, ◌≤◌, ℕ, [], Some, length, slice_get}
 use Rattle.std.specs.Prelude.{vec_capacity}
-use Rattle.lasso_parts.specs.Hashing.{text_hash}
+use Rattle.lasso_parts.specs.Hashing.{hash_by}
 use Rattle.lasso_log.specs.Views.{list_of}
 use Rattle.lasso_shared.proofs.Built.{CountedBelow}
 use Rattle.lasso_shared.proofs.shards.tag.ShardTag.shards.Given as goal
@@ -15,5 +15,5 @@ invariant-loop-number g l = record {
   long : length l.locks.items ≡ l.number;
   tags : (i : ℕ) → i < l.number → slice_get l.locks.items i ≡ Some (record l.fn.self { number = i });
   all : length l.counts ≡ 16;
-  counted : CountedBelow (text_hash g.S.BuildHasher.build_hasher g.S.Hasher.Hasher.write g.S.Hasher.Hasher.finish l.fn.self.hasher) (list_of l.fn.self.log []) l.number l.counts;
+  counted : CountedBelow (hash_by g.S.BuildHasher g.S.Hasher.Hasher l.fn.self.hasher) (list_of l.fn.self.log []) l.number l.counts;
 }

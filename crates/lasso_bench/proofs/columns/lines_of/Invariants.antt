@@ -1,6 +1,0 @@
-use Rattle.std.proofs.Common.{length}
-use Rattle.lasso_bench.proofs.columns.lines_of.Given as goal
-
--- each line leaves fewer bytes
-abbrev pub decreases-loop-line : goal.decreases-loop-line
-decreases-loop-line l = length l.rest

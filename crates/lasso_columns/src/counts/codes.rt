@@ -1,0 +1,37 @@
+//! Counts texts by their codes.
+ghost use Rattle.std.specs.Prelude.{◌≡◌, ◌+◌, ◌-◌, ◌^◌, ◌<◌, List, length, sum};
+ghost use Rattle.lasso_parts.specs.Texts.{Text};
+ghost use Rattle.lasso_single.specs.Codes.{AreCodes};
+ghost use Rattle.lasso_columns.specs.Adding.{AddsCounts};
+ghost use Rattle.lasso_columns.specs.Counts.{raised};
+
+/// Adds one to the count of each code. A code without a count is passed over.
+///
+/// The sum of the counts plus the number of codes must be below 2^64.
+///
+/// ```rust
+/// let mut counts = Vec::new(rt.alloc());
+/// counts.resize(2, 0)?;
+/// count_codes(&[0, 1, 0], &mut counts);
+/// assert!(rt; counts.as_slice() == [2, 1].as_slice());
+/// ```
+pub fn count_codes(codes: &[u32], counts: &mut Vec<u64>)
+    requires { sum counts.old.items + length codes.now < 2 ^ 64 }
+    ensures counts { (list texts : List Text) → length counts.old.items ≡ length list → AreCodes list texts codes.now → AddsCounts texts list counts.old.items list counts.new.items }
+    ensures len { length counts.new.items ≡ length counts.old.items }
+{
+    for position in 0..codes.len() {
+        count_code(counts, codes[position] as usize);
+    }
+}
+
+// Adds one to the count of the code, if it has one.
+#[inline]
+fn count_code(counts: &mut Vec<u64>, code: usize)
+    requires { sum counts.old.items < 2 ^ 64 - 1 }
+    ensures { counts.new.items ≡ raised counts.old.items code }
+{
+    if code < counts.len() {
+        counts[code] += 1;
+    }
+}

@@ -1,4 +1,0 @@
-pub mod Counted
-pub mod Rest
-pub mod Added
-pub mod Ranks

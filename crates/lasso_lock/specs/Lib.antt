@@ -1,0 +1,3 @@
+pub mod Latches
+pub mod LatchWords
+pub mod Locks

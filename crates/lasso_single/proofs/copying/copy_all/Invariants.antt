@@ -1,5 +1,0 @@
-use Rattle.lasso_single.proofs.Copied.{CopiedTo}
-use Rattle.lasso_single.proofs.copying.copy_all.Given as goal
-
-abbrev pub invariant-loop-position : goal.invariant-loop-position
-invariant-loop-position g l = CopiedTo (g.C.CopyTarget.holds l.initial.target) (g.T.Texts.list l.texts) l.position (g.C.CopyTarget.holds l.target)

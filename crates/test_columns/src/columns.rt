@@ -1,0 +1,359 @@
+//! Tests that each call succeeds when memory is available, which no contract can state; and whole columns,
+//! with values worked out by hand.
+use crate::calls::{decode, encode, encode_lines, interner, merge};
+use crate::checks::{all_right, are_texts, ends_so, is_by_the_limit, is_so};
+use crate::limited::limited;
+use lasso::{LassoError, LassoResult, SpurRodeo, SpurRodeoReader};
+use lasso_columns::{DecodeError, LineError};
+use std::alloc::Global;
+use std::process::Abort;
+use std::test::Fail;
+
+// How encoding lines ends. Lines are numbered from 1.
+#[derive(Clone, Copy)]
+enum Ended {
+    Well,
+    // the line of this number is not UTF-8
+    NotText(usize),
+    // the memory limit refuses the line of this number
+    Refused(usize),
+}
+
+// A call on an interner and the codes of a column, and what has to come of it; or what then has to hold.
+#[derive(Clone, Copy)]
+enum Step {
+    Encodes(&'static [&'static str]),
+    // the memory limit refuses one of the texts
+    Refuses(&'static [&'static str]),
+    // encoding the lines ends so
+    Lines(&'static [u8], Ended),
+    // merging an interner of these texts gives these codes, or is refused by the memory limit
+    Merges(&'static [&'static str], Option<&'static [u32]>),
+    // these are the codes, which are cleared then
+    Codes(&'static [u32]),
+    // these are the codes, which stay
+    Keeps(&'static [u32]),
+    // there is this number of texts
+    Counts(usize),
+}
+
+// Whether the memory limit refused the call. Out of memory is an error.
+pub(super) fn limit_refuses(refusal: Option<LassoError>) -> Result<bool, Fail> {
+    match refusal {
+        Some(error) => is_by_the_limit(error),
+        None => Ok(false),
+    }
+}
+
+// Whether a refused line has to be so refused.
+fn is_refused(line: usize, error: LassoError, wanted: Ended) -> Result<bool, Fail> {
+    match wanted {
+        Ended::Refused(number) if number == line => is_by_the_limit(error),
+        _ => Err(Fail::from(error)),
+    }
+}
+
+fn ends(ended: Result<(), LineError>, wanted: Ended) -> Result<bool, Fail> {
+    match ended {
+        Ok(()) => Ok(matches!(wanted, Ended::Well)),
+        Err(LineError::NotText(line)) => {
+            Ok(matches!(wanted, Ended::NotText(number) if number == line))
+        }
+        Err(LineError::Refused(line, error)) => is_refused(line, error, wanted),
+    }
+}
+
+// Whether merging gave these codes, or was refused by the memory limit if there are none.
+pub(super) fn is_merged(
+    merged: LassoResult<Vec<u32>>,
+    wanted: Option<&[u32]>,
+) -> Result<bool, Fail> {
+    match (merged, wanted) {
+        (Ok(codes), Some(wanted)) => Ok(codes.as_slice() == wanted),
+        (Ok(_codes), None) => Ok(false),
+        (Err(error), None) => is_by_the_limit(error),
+        (Err(error), Some(_)) => Err(Fail::from(error)),
+    }
+}
+
+fn merges(
+    alloc: Global,
+    into: &mut SpurRodeo,
+    texts: &[&str],
+    wanted: Option<&[u32]>,
+) -> Result<bool, Fail> {
+    let from = interner(alloc, texts)?.into_reader();
+    is_merged(merge(alloc, into, &from), wanted)
+}
+
+fn encodes(ended: LassoResult<()>) -> Result<bool, Fail> {
+    match ended {
+        Ok(()) => Ok(true),
+        Err(error) => Err(Fail::from(error)),
+    }
+}
+
+fn were_codes(codes: &mut Vec<u32>, wanted: &[u32]) -> bool {
+    let right = codes.as_slice() == wanted;
+    codes.clear();
+    right
+}
+
+// Takes the step. Returns whether all is as it says.
+fn is_taken(
+    alloc: Global,
+    rodeo: &mut SpurRodeo,
+    codes: &mut Vec<u32>,
+    step: Step,
+) -> Result<bool, Fail> {
+    match step {
+        Step::Encodes(texts) => encodes(encode(rodeo, texts, codes)),
+        Step::Refuses(texts) => limit_refuses(encode(rodeo, texts, codes).err()),
+        Step::Lines(lines, ended) => ends(encode_lines(rodeo, lines, codes), ended),
+        Step::Merges(texts, merged) => merges(alloc, rodeo, texts, merged),
+        Step::Codes(wanted) => Ok(were_codes(codes, wanted)),
+        Step::Keeps(wanted) => Ok(codes.as_slice() == wanted),
+        Step::Counts(count) => Ok(rodeo.len() == count),
+    }
+}
+
+// Takes the steps in turn, up to the first that is wrong. Returns how many are right.
+fn right_steps(
+    alloc: Global,
+    rodeo: &mut SpurRodeo,
+    codes: &mut Vec<u32>,
+    steps: &[Step],
+) -> Result<usize, Fail> {
+    for at in 0..steps.len() {
+        if !is_taken(alloc, rodeo, codes, steps[at])? {
+            return Ok(at);
+        }
+    }
+    Ok(steps.len())
+}
+
+// The same from a first step on an interner that was just made.
+fn runs<R: AllocGlobal + Abort>(rt: &R, rodeo: &mut SpurRodeo, steps: &[Step]) -> Result<(), Fail> {
+    let mut codes = Vec::new(rt.alloc());
+    all_right(
+        rt,
+        right_steps(rt.alloc(), rodeo, &mut codes, steps),
+        steps.len(),
+    )
+}
+
+// Whether the codes decode to the texts.
+pub(super) fn are_decoded(
+    alloc: Global,
+    reader: &SpurRodeoReader,
+    codes: &[u32],
+    texts: &[&str],
+) -> Result<bool, Fail> {
+    let mut decoded = Vec::new(alloc);
+    match decode(reader, codes, &mut decoded) {
+        Ok(()) => Ok(are_texts(&decoded, texts)),
+        Err(error) => Err(Fail::from(error)),
+    }
+}
+
+// Checks that the codes decode to the texts.
+fn decodes<R: AllocGlobal + Abort>(
+    rt: &R,
+    rodeo: SpurRodeo,
+    codes: &[u32],
+    texts: &[&str],
+) -> Result<(), Fail> {
+    let reader = rodeo.into_reader();
+    ends_so(
+        rt,
+        are_decoded(rt.alloc(), &reader, codes, texts),
+        "the decoded texts",
+    )
+}
+
+// Steps, and codes that then have to decode to these texts.
+type Column = (&'static [Step], &'static [u32], &'static [&'static str]);
+
+// Takes the steps on the interner that was just made, and decodes the codes.
+fn column<R: AllocGlobal + Abort>(
+    rt: &R,
+    made: Result<SpurRodeo, Fail>,
+    column: Column,
+) -> Result<(), Fail> {
+    let (steps, codes, texts) = column;
+    let mut rodeo = made?;
+    runs(rt, &mut rodeo, steps)?;
+    decodes(rt, rodeo, codes, texts)
+}
+
+// An interner that refuses a third text of five bytes.
+fn limited_interner(alloc: Global) -> Result<SpurRodeo, Fail> {
+    Ok(limited(alloc)?)
+}
+
+#[test]
+fn texts_are_encoded_and_decoded(rt: HostRuntime) -> Result<(), Fail> {
+    static COLUMN: Column = (
+        &[
+            Step::Encodes(&["red", "green", "red", ""]),
+            Step::Encodes(&["", "blue"]),
+            Step::Keeps(&[0, 1, 0, 2, 2, 3]),
+        ],
+        &[0, 1, 0, 2, 2, 3],
+        &["red", "green", "red", "", "", "blue"],
+    );
+    column(&rt, interner(rt.alloc(), &[]), COLUMN)
+}
+
+// Decodes codes of which the third has no text.
+fn stops_at_the_third(alloc: Global, reader: &SpurRodeoReader) -> bool {
+    let mut texts = Vec::new(alloc);
+    let fault = decode(reader, &[1, 0, 2, 1], &mut texts).err();
+    let (position, code) = (2, 2);
+    fault == Some(DecodeError::NoText { position, code }) && are_texts(&texts, &["green", "red"])
+}
+
+fn greatest_code_is_printed(alloc: Global) -> Result<bool, Fail> {
+    let (position, code) = (0, 4294967295);
+    let printed = format!(in alloc; "{}", DecodeError::NoText { position, code })?;
+    Ok(printed.as_str() == "code 4294967295 at position 0 has no text")
+}
+
+#[test]
+fn a_code_without_a_text_is_told(rt: HostRuntime) -> Result<(), Fail> {
+    let reader = interner(rt.alloc(), &["red", "green"])?.into_reader();
+    is_so(&rt, stops_at_the_third(rt.alloc(), &reader), "the code");
+    ends_so(&rt, greatest_code_is_printed(rt.alloc()), "the words")
+}
+
+#[test]
+fn a_refusal_in_mid_column_keeps_what_came_before(rt: HostRuntime) -> Result<(), Fail> {
+    static COLUMN: Column = (
+        &[
+            Step::Refuses(&["first", "other", "first", "third", "first"]),
+            Step::Keeps(&[0, 1, 0]),
+            Step::Counts(2),
+            Step::Encodes(&["first"]),
+            Step::Keeps(&[0, 1, 0, 0]),
+        ],
+        &[0, 1],
+        &["first", "other"],
+    );
+    column(&rt, limited_interner(rt.alloc()), COLUMN)
+}
+
+#[test]
+fn lines_are_cut_and_encoded(rt: HostRuntime) -> Result<(), Fail> {
+    static COLUMN: Column = (
+        &[
+            Step::Lines(b"to\nbe\n\nto\r\nbe", Ended::Well),
+            Step::Keeps(&[0, 1, 2, 3, 1]),
+            Step::Lines(b"be\n", Ended::Well),
+            Step::Lines(b"", Ended::Well),
+            Step::Keeps(&[0, 1, 2, 3, 1, 1]),
+        ],
+        &[0, 1, 2, 3, 1, 1],
+        &["to", "be", "", "to\r", "be", "be"],
+    );
+    column(&rt, interner(rt.alloc(), &[]), COLUMN)
+}
+
+#[test]
+fn a_faulty_line_is_told_by_its_number(rt: HostRuntime) -> Result<(), Fail> {
+    static COLUMN: Column = (
+        &[
+            Step::Lines(b"first\nother\n\xff\nfirst\n", Ended::NotText(3)),
+            Step::Keeps(&[0, 1]),
+            Step::Lines(b"other\nthird", Ended::Refused(2)),
+            Step::Keeps(&[0, 1, 1]),
+            Step::Counts(2),
+        ],
+        &[0, 1],
+        &["first", "other"],
+    );
+    column(&rt, limited_interner(rt.alloc()), COLUMN)
+}
+
+#[test]
+fn two_dictionaries_are_merged(rt: HostRuntime) -> Result<(), Fail> {
+    static WHOLE: Column = (
+        &[
+            Step::Merges(&["blue", "green", "white"], Some(&[2, 1, 3])),
+            Step::Counts(4),
+        ],
+        &[2, 3],
+        &["blue", "white"],
+    );
+    static REFUSED: Column = (
+        &[
+            Step::Merges(&["first", "other", "third"], None),
+            Step::Counts(2),
+        ],
+        &[0, 1],
+        &["first", "other"],
+    );
+    column(&rt, interner(rt.alloc(), &["red", "green"]), WHOLE)?;
+    column(&rt, limited_interner(rt.alloc()), REFUSED)
+}
+
+// The refused merges add no text: each is refused at the first text that `into` lacks.
+#[test]
+fn a_first_new_text_is_refused_by_the_limit(rt: HostRuntime) -> Result<(), Fail> {
+    static COLUMN: Column = (
+        &[
+            Step::Merges(&["first", "other"], Some(&[0, 1])),
+            Step::Merges(&["third"], None),
+            Step::Merges(&["first", "third"], None),
+            Step::Counts(2),
+        ],
+        &[0, 1],
+        &["first", "other"],
+    );
+    column(&rt, limited_interner(rt.alloc()), COLUMN)
+}
+
+#[test]
+fn long_columns_are_encoded(rt: HostRuntime) -> Result<(), Fail> {
+    const TEXTS: [&str; 1000] = ["first"; 1000];
+    const LINES: [u8; 1000] = [b'\n'; 1000];
+    const ZEROS: [u32; 1000] = [0; 1000];
+    const ONES: [u32; 1000] = [1; 1000];
+    static COLUMN: Column = (
+        &[
+            Step::Encodes(&TEXTS),
+            Step::Codes(&ZEROS),
+            Step::Lines(&LINES, Ended::Well),
+            Step::Codes(&ONES),
+        ],
+        &[1, 0],
+        &["", "first"],
+    );
+    column(&rt, interner(rt.alloc(), &[]), COLUMN)
+}
+
+#[test]
+fn long_dictionaries_are_merged(rt: HostRuntime) -> Result<(), Fail> {
+    const LETTERS: [&str; 26] = [
+        "a", "b", "c", "d", "e", "f", "g", "h", "i", "j", "k", "l", "m", "n", "o", "p", "q", "r",
+        "s", "t", "u", "v", "w", "x", "y", "z",
+    ];
+    static COLUMN: Column = (
+        &[
+            Step::Merges(&LETTERS, Some(CODES)),
+            Step::Counts(26),
+            Step::Lines(LINES, Ended::Well),
+            Step::Codes(CODES),
+        ],
+        CODES,
+        &LETTERS,
+    );
+    column(&rt, interner(rt.alloc(), &["z"]), COLUMN)
+}
+
+const LINES: &[u8] =
+    b"a\nb\nc\nd\ne\nf\ng\nh\ni\nj\nk\nl\nm\nn\no\np\nq\nr\ns\nt\nu\nv\nw\nx\ny\nz";
+
+// The codes of the letters where `z` came first.
+const CODES: &[u32] = &[
+    1, 2, 3, 4, 5, 6, 7, 8, 9, 10, 11, 12, 13, 14, 15, 16, 17, 18, 19, 20, 21, 22, 23, 24, 25, 0,
+];

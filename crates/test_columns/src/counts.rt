@@ -1,0 +1,320 @@
+//! Small texts, counted and ranked.
+ghost use Rattle.std.specs.Prelude.{◌≡◌, ◌+◌, ◌-◌, ◌^◌, ◌<◌, [], IfOk, OnOk, length, sum, vec_len};
+
+use crate::checks::{ends_so, resolves};
+use lasso::{Capacity, LassoError, LassoErrorKind, LassoResult, MemoryLimits, Rodeo, SpurRodeo};
+use lasso_columns::counts::{
+    CountError, Ranked, by_frequency, count_codes, count_in_parts, count_text,
+};
+use std::alloc::{AllocError, Global};
+use std::str::from_utf8;
+use std::test::Fail;
+use std::thread::Threads;
+
+// An interner without texts.
+fn empty(alloc: Global) -> LassoResult<SpurRodeo>
+    ensures { IfOk result (λ rodeo. rodeo.texts ≡ []) }
+{
+    Rodeo::default(alloc)
+}
+
+// Interns and counts the text.
+fn count(rodeo: &mut SpurRodeo, counts: &mut Vec<u64>, text: &str) -> LassoResult<()>
+    requires lengths { vec_len counts.old ≡ length rodeo.old.texts }
+    requires fits { sum counts.old.items < 2 ^ 64 - 1 }
+    ensures lengths { vec_len counts.new ≡ length rodeo.new.texts }
+    ensures total { OnOk result (sum counts.new.items ≡ sum counts.old.items + 1) }
+{
+    count_text(rodeo, text, counts)
+}
+
+// Whether there are just these counts, one for each text.
+fn are_counts(rodeo: &SpurRodeo, counts: &[u64], wanted: &[u64]) -> bool {
+    counts == wanted && rodeo.len() == wanted.len()
+}
+
+fn four_are_counted(rodeo: &mut SpurRodeo, counts: &mut Vec<u64>) -> LassoResult<bool>
+    requires texts { rodeo.old.texts ≡ [] }
+    requires counts { counts.old.items ≡ [] }
+{
+    count(rodeo, counts, "b")?;
+    count(rodeo, counts, "")?;
+    count(rodeo, counts, "b")?;
+    count(rodeo, counts, "a")?;
+    Ok(are_counts(rodeo, counts, &[2, 1, 1]))
+}
+
+fn texts_are_counted(alloc: Global) -> LassoResult<bool> {
+    let mut rodeo = empty(alloc)?;
+    let mut counts = Vec::new(alloc);
+    four_are_counted(&mut rodeo, &mut counts)
+}
+
+#[test]
+fn each_text_is_counted(rt: HostRuntime) -> Result<(), Fail> {
+    ends_so(&rt, Ok(texts_are_counted(rt.alloc())?), "the counts")
+}
+
+fn codes_are_counted(alloc: Global) -> Result<bool, AllocError> {
+    let mut counts = Vec::new(alloc);
+    counts.resize(3, 0)?;
+    count_codes(&[2, 0, 2, 3, 4_294_967_295, 2], &mut counts);
+    Ok(counts.as_slice() == [1, 0, 3].as_slice())
+}
+
+// A code past the counts is counted nowhere, nor is that of a null.
+#[test]
+fn each_code_is_counted(rt: HostRuntime) -> Result<(), Fail> {
+    ends_so(&rt, Ok(codes_are_counted(rt.alloc())?), "the counts")
+}
+
+static RANKED: [(u64, &str); 4] = [(2, "b"), (1, "ab"), (1, "z"), (1, "é")];
+
+fn are_ranked(ranked: &[Ranked<'_>]) -> bool {
+    if ranked.len() != RANKED.len() {
+        return false;
+    }
+    for position in 0..RANKED.len() {
+        let (count, text) = ranked[position];
+        if count.0 != RANKED[position].0 || text != RANKED[position].1 {
+            return false;
+        }
+    }
+    true
+}
+
+// Whether the texts have these ranks.
+fn has_ranks(alloc: Global, rodeo: &SpurRodeo, counts: &[u64]) -> Result<bool, AllocError>
+    requires { length counts.now ≡ length rodeo.now.texts }
+{
+    match by_frequency(alloc, rodeo, counts) {
+        Ok(ranked) => Ok(are_ranked(&ranked)),
+        Err(error) => Err(error),
+    }
+}
+
+fn count_five(rodeo: &mut SpurRodeo, counts: &mut Vec<u64>) -> LassoResult<()>
+    requires texts { rodeo.old.texts ≡ [] }
+    requires counts { counts.old.items ≡ [] }
+    ensures { vec_len counts.new ≡ length rodeo.new.texts }
+{
+    count(rodeo, counts, "é")?;
+    count(rodeo, counts, "b")?;
+    count(rodeo, counts, "ab")?;
+    count(rodeo, counts, "b")?;
+    count(rodeo, counts, "z")
+}
+
+fn five_are_ranked(
+    alloc: Global,
+    rodeo: &mut SpurRodeo,
+    counts: &mut Vec<u64>,
+) -> Result<bool, Fail>
+    requires texts { rodeo.old.texts ≡ [] }
+    requires counts { counts.old.items ≡ [] }
+{
+    count_five(rodeo, counts)?;
+    Ok(has_ranks(alloc, rodeo, counts)?)
+}
+
+fn texts_are_ranked(alloc: Global) -> Result<bool, Fail> {
+    let mut rodeo = empty(alloc)?;
+    let mut counts = Vec::new(alloc);
+    five_are_ranked(alloc, &mut rodeo, &mut counts)
+}
+
+#[test]
+fn equal_counts_go_by_bytes(rt: HostRuntime) -> Result<(), Fail> {
+    ends_so(&rt, texts_are_ranked(rt.alloc()), "the ranks")
+}
+
+// Counts the texts in parts. `None` if all are counted. Out of memory is an error.
+fn count_parts<R: AllocGlobal + Threads + Sync>(
+    rt: &R,
+    rodeo: &mut SpurRodeo,
+    counts: &mut Vec<u64>,
+    texts: &[&str],
+    workers: usize,
+) -> Result<Option<(usize, LassoErrorKind)>, Fail>
+    requires lengths { vec_len counts.old ≡ length rodeo.old.texts }
+    requires fits { sum counts.old.items + length texts.now < 2 ^ 64 }
+{
+    match count_in_parts(rt, rodeo, texts, counts, workers) {
+        Ok(()) => Ok(None),
+        Err(refused) if refused.error.kind().is_failed_alloc() => Err(Fail::from(refused.error)),
+        Err(refused) => Ok(Some((refused.position, refused.error.kind()))),
+    }
+}
+
+// Positions and their counts. 400 = 6 * 60 + 40, and 100 = 14 * 7 + 2: n from 400 begins at 1 modulo 7.
+static COUNTED: [(usize, u64); 7] = [
+    (0, 1 + 7 + 15),
+    (1, 7 + 14),
+    (2, 7 + 15),
+    (6, 7 + 14),
+    (39, 7),
+    (40, 6),
+    (59, 6),
+];
+
+fn are_sixty(rodeo: &SpurRodeo, counts: &[u64]) -> bool {
+    for row in 0..COUNTED.len() {
+        if counts.get(COUNTED[row].0) != Some(&COUNTED[row].1) {
+            return false;
+        }
+    }
+    rodeo.len() == 60
+        && counts.len() == 60
+        && resolves(rodeo, 0, "text 1")
+        && resolves(rodeo, 1, "text 0")
+        && resolves(rodeo, 2, "text 2")
+}
+
+fn parts_are_counted<R: AllocGlobal + Threads + Sync>(
+    rt: &R,
+    rodeo: &mut SpurRodeo,
+    counts: &mut Vec<u64>,
+    texts: &[&str],
+    workers: usize,
+) -> Result<bool, Fail>
+    requires texts { rodeo.old.texts ≡ [] }
+    requires counts { counts.old.items ≡ [] }
+{
+    count(rodeo, counts, "text 1")?;
+    let refused = count_parts(rt, rodeo, counts, texts, workers)?;
+    Ok(refused.is_none() && are_sixty(rodeo, counts))
+}
+
+fn counts_in_parts<R: AllocGlobal + Threads + Sync>(
+    rt: &R,
+    texts: &[&str],
+    workers: usize,
+) -> Result<bool, Fail> {
+    let mut rodeo = empty(rt.alloc())?;
+    let mut counts = Vec::new(rt.alloc());
+    parts_are_counted(rt, &mut rodeo, &mut counts, texts, workers)
+}
+
+fn names(alloc: Global) -> Result<Vec<String>, Fail> {
+    let mut names = Vec::new(alloc);
+    for k in 0..60u32 {
+        names.push(format!(in alloc; "text {k}")?)?;
+    }
+    Ok(names)
+}
+
+// 500 texts. Text n is "text k" for k = n modulo 60; for the last hundred, k = n modulo 7.
+fn texts_of(alloc: Global, names: &[String]) -> Result<Vec<&str>, Fail> {
+    let mut texts = Vec::new(alloc);
+    for n in 0..500usize {
+        let k = if n < 400 { n % 60 } else { n % 7 };
+        let name = names.get(k).ok_or("a name is missing")?;
+        texts.push(name.as_str())?;
+    }
+    Ok(texts)
+}
+
+// With each number of workers.
+#[test]
+fn parts_count_as_one(rt: HostRuntime) -> Result<(), Fail> {
+    static WORKERS: [usize; 6] = [0, 1, 2, 3, 7, 64];
+    let names = names(rt.alloc())?;
+    let texts = texts_of(rt.alloc(), &names)?;
+    for at in 0..WORKERS.len() {
+        ends_so(&rt, counts_in_parts(&rt, &texts, WORKERS[at]), "the counts")?;
+    }
+    Ok(())
+}
+
+// Eight texts, the position of the refused one, and how often `b` comes before it.
+type Row = (&'static [&'static str], usize, u64);
+
+const LONG: &str = "a long text that takes some bytes";
+
+static ROWS: [Row; 3] = [
+    (&[LONG, "b", "b", "b", "b", "b", "b", "b"], 0, 0),
+    (&["b", LONG, "b", LONG, "c", "b", "d", LONG], 1, 1),
+    (&["b", "b", "b", "b", "b", "b", LONG, "b"], 6, 6),
+];
+
+// Whether the filler is counted, and `b` as often as it came.
+fn are_before(rodeo: &SpurRodeo, counts: &[u64], times: u64) -> bool {
+    if times > 0 {
+        return are_counts(rodeo, counts, &[1, times]);
+    }
+    are_counts(rodeo, counts, &[1])
+}
+
+fn is_named<R: AllocGlobal + Threads + Sync>(
+    rt: &R,
+    rodeo: &mut SpurRodeo,
+    counts: &mut Vec<u64>,
+    filler: &str,
+    row: Row,
+    workers: usize,
+) -> Result<bool, Fail>
+    requires texts { rodeo.old.texts ≡ [] }
+    requires counts { counts.old.items ≡ [] }
+{
+    let (texts, position, times) = row;
+    count(rodeo, counts, filler)?;
+    let refused = count_parts(rt, rodeo, counts, texts, workers)?;
+    Ok(
+        refused == Some((position, LassoErrorKind::MemoryLimitReached))
+            && are_before(rodeo, counts, times),
+    )
+}
+
+// An interner of one bucket.
+fn limited(alloc: Global) -> LassoResult<SpurRodeo>
+    ensures { IfOk result (λ rodeo. rodeo.texts ≡ []) }
+{
+    Rodeo::with_capacity_and_memory_limits(alloc, Capacity::default(), MemoryLimits::new(4096))
+}
+
+fn names_the_refused<R: AllocGlobal + Threads + Sync>(
+    rt: &R,
+    filler: &str,
+    row: Row,
+    workers: usize,
+) -> Result<bool, Fail> {
+    let mut rodeo = limited(rt.alloc())?;
+    let mut counts = Vec::new(rt.alloc());
+    is_named(rt, &mut rodeo, &mut counts, filler, row, workers)
+}
+
+fn names_each<R: AllocGlobal + Threads + Sync>(rt: &R, filler: &str) -> Result<bool, Fail> {
+    static WORKERS: [usize; 4] = [1, 2, 3, 8];
+    for row in 0..ROWS.len() {
+        for at in 0..WORKERS.len() {
+            if !names_the_refused(rt, filler, ROWS[row], WORKERS[at])? {
+                return Ok(false);
+            }
+        }
+    }
+    Ok(true)
+}
+
+// The limit allows one bucket, which the first texts fill. The next text is refused, and those before it are
+// counted, also if it is in a later part or occurs again later.
+#[test]
+fn the_refused_text_is_named(rt: HostRuntime) -> Result<(), Fail> {
+    static FILLER: [u8; 4094] = [b'f'; 4094];
+    let filler = from_utf8(&FILLER).ok().ok_or("letters are no text")?;
+    ends_so(&rt, names_each(&rt, filler), "the refused text")
+}
+
+fn has_words(alloc: Global, error: &CountError, words: &str) -> Result<bool, Fail> {
+    Ok(error.to_string(alloc)?.as_str() == words)
+}
+
+#[test]
+fn a_refused_text_is_printed(rt: HostRuntime) -> Result<(), Fail> {
+    let error = CountError {
+        position: 7,
+        error: LassoError::new(LassoErrorKind::MemoryLimitReached),
+    };
+    let words =
+        "text at position 7: Lasso encountered an error: The configured memory limit was reached";
+    ends_so(&rt, has_words(rt.alloc(), &error, words), "the words")
+}

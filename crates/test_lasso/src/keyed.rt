@@ -1,0 +1,132 @@
+//! Texts that collide under the fixed seed, in an interner with keys of its own.
+use lasso::keyed::keyed_by;
+use test_common::collisions::colliding;
+use crate::answers::is_so;
+use lasso::index::hash_text;
+use lasso::{FixedState, Key, LassoResult, Rodeo, Spur, ThreadedRodeo};
+use std::alloc::{AllocError, Global};
+use std::hash::{BuildHasher, RandomState};
+use std::sync::Wait;
+use std::test::*;
+
+// How many texts collide.
+const TEXTS: u32 = 10_000;
+
+// The hashes of the texts, in increasing order.
+fn hashes<S: BuildHasher>(
+    alloc: Global,
+    hasher: &S,
+    texts: &[String],
+) -> Result<Vec<u64>, AllocError> {
+    let mut hashes = Vec::new(alloc);
+    for text in texts.iter() {
+        hashes.push(hash_text(hasher, text.as_str()))?;
+    }
+    hashes.sort()?;
+    Ok(hashes)
+}
+
+// How many of the sorted hashes differ from the one before them.
+fn distinct(hashes: &[u64]) -> usize {
+    let mut count: usize = 0;
+    for at in 0..hashes.len() {
+        if at == 0 || hashes[at - 1] != hashes[at] {
+            count = count.saturating_add(1);
+        }
+    }
+    count
+}
+
+// How many hashes the texts have under the fixed seed.
+fn fixed_hashes(alloc: Global, texts: &[String]) -> Result<usize, AllocError> {
+    Ok(distinct(&hashes(alloc, &FixedState::new(), texts)?))
+}
+
+// The same under these keys.
+fn keyed_hashes(alloc: Global, texts: &[String], keys: [u8; 16]) -> Result<usize, Fail> {
+    let hasher = keyed_by(keys)?;
+    Ok(distinct(&hashes(alloc, &hasher, texts)?))
+}
+
+#[test]
+fn texts_collide_under_the_fixed_seed_alone(rt: HostRuntime) -> Result<(), Fail> {
+    let texts = colliding(rt.alloc(), TEXTS)?;
+    is_so(
+        &rt,
+        fixed_hashes(rt.alloc(), &texts)? == 1,
+        "the fixed seed",
+    );
+    let keyed = keyed_hashes(rt.alloc(), &texts, *b"sixteen of bytes")?;
+    is_so(&rt, keyed == texts.len(), "a keyed hasher");
+    let keyed = keyed_hashes(rt.alloc(), &texts, *b"another sixteen ")?;
+    is_so(&rt, keyed == texts.len(), "another keyed hasher");
+    Ok(())
+}
+
+type Keyed = Rodeo<Spur, RandomState, Global>;
+
+// Interns the texts, and returns whether each got the next position.
+fn interns(rodeo: &mut Keyed, texts: &[String]) -> bool {
+    let mut all = true;
+    for position in 0..texts.len() {
+        match rodeo.try_get_or_intern(texts[position].as_str()) {
+            Ok(key) if key.into_usize() == position => {}
+            _ => all = false,
+        }
+    }
+    all
+}
+
+// How many of the texts are found at their positions.
+fn found(rodeo: &Keyed, texts: &[String]) -> usize {
+    let mut count: usize = 0;
+    for position in 0..texts.len() {
+        if let Some(key) = rodeo.get(texts[position].as_str())
+            && key.into_usize() == position
+        {
+            count = count.saturating_add(1);
+        }
+    }
+    count
+}
+
+// Whether each text gets the next position, and is found there.
+fn interns_and_finds(made: LassoResult<Keyed>, texts: &[String]) -> LassoResult<bool> {
+    let mut rodeo = made?;
+    Ok(interns(&mut rodeo, texts) && found(&rodeo, texts) == 10_000)
+}
+
+#[test]
+fn a_keyed_interner_has_texts_that_collide_under_the_fixed_seed(
+    rt: HostRuntime,
+) -> Result<(), Fail> {
+    let texts = colliding(rt.alloc(), TEXTS)?;
+    let made = Rodeo::with_hasher(rt.alloc(), keyed_by(*b"sixteen of bytes")?);
+    is_so(&rt, interns_and_finds(made, &texts)?, "the positions");
+    Ok(())
+}
+
+// Interns the first hundred texts. Returns how many got the next position, and how many texts there are.
+fn interns_hundred<R: Wait>(
+    rt: &R,
+    shared: &ThreadedRodeo<Spur, RandomState>,
+    texts: &[String],
+) -> LassoResult<(usize, usize)> {
+    let mut right: usize = 0;
+    for position in 0..texts.len().min(100) {
+        let key = shared.try_get_or_intern(rt, texts[position].as_str())?;
+        if key.into_usize() == position {
+            right = right.saturating_add(1);
+        }
+    }
+    Ok((right, shared.len()))
+}
+
+#[test]
+fn a_shared_interner_may_be_keyed(rt: HostRuntime) -> Result<(), Fail> {
+    let texts = colliding(rt.alloc(), TEXTS)?;
+    let shared = ThreadedRodeo::with_hasher(rt.alloc(), keyed_by(*b"sixteen of bytes")?)?;
+    let counts = interns_hundred(&rt, &shared, &texts)?;
+    is_so(&rt, counts == (100, 100), "the positions");
+    Ok(())
+}

@@ -1,0 +1,181 @@
+//! Interners and frozen forms whose type is not known where they are used.
+use crate::answers::{Answer, LIMIT, is_answer, is_so, is_text};
+use crate::interfaces::made_for;
+use crate::rodeos::of_hello;
+use crate::steps::Case;
+use crate::object_laws::{
+    boxed_object_interns_as_one, boxed_rodeo_object_interns_as_one, object_interns_as_one,
+};
+use lasso::interface::{SpurInterner, SpurReader, SpurResolver};
+use lasso::{LassoResult, Spur, SpurRodeo};
+use std::process::Abort;
+use std::test::Fail;
+
+fn gives(interner: &mut dyn SpurInterner, text: &str, wanted: Answer) -> LassoResult<bool> {
+    is_answer(interner.try_get_or_intern(text), wanted)
+}
+
+fn keeps(interner: &mut dyn SpurInterner, text: &'static str, wanted: Answer) -> LassoResult<bool> {
+    is_answer(interner.try_get_or_intern_static(text), wanted)
+}
+
+// Whether the text is there, and its key stands for it.
+fn resolves(interner: &dyn SpurInterner, text: &str) -> bool {
+    match interner.get(text) {
+        Some(key) => is_text(interner.try_resolve(key), text) && interner.contains_key(key),
+        None => false,
+    }
+}
+
+fn has_one_text(interner: &dyn SpurInterner) -> bool {
+    interner.len() == 1
+        && interner.contains("Hello, world!")
+        && !interner.contains("Hello")
+        && resolves(interner, "Hello, world!")
+}
+
+// Whether an interner with no text takes one, and finds it.
+fn takes_one_text(interner: &mut dyn SpurInterner) -> LassoResult<bool> {
+    Ok(
+        gives(interner, "Hello, world!", Ok(0))?
+            && gives(interner, "Hello, world!", Ok(0))?
+            && keeps(interner, "Hello, world!", Ok(0))?
+            && has_one_text(interner),
+    )
+}
+
+// Whether an interner of 10 bytes with `abc` and a limit of 0 refuses copied texts alone.
+fn takes_a_static_text(interner: &mut dyn SpurInterner) -> LassoResult<bool> {
+    Ok(
+        gives(interner, "defg", Ok(1))?
+            && gives(interner, "0123456789", Err(LIMIT))?
+            && gives(interner, "abc", Ok(0))?
+            && keeps(interner, "0123456789", Ok(2))?
+            && interner.len() == 3
+            && resolves(interner, "0123456789"),
+    )
+}
+
+// Whether an interner of 4 bytes under a limit of 4 has room for one copied text beside two static ones.
+fn takes_static_texts_first(interner: &mut dyn SpurInterner) -> LassoResult<bool> {
+    Ok(
+        keeps(interner, "abcd", Ok(0))?
+            && keeps(interner, "efgh", Ok(1))?
+            && gives(interner, "wxyz", Ok(2))?
+            && gives(interner, "more", Err(LIMIT))?,
+    )
+}
+
+fn are_right(interner: &mut dyn SpurInterner, case: Case) -> LassoResult<bool> {
+    match case {
+        Case::OneText => takes_one_text(interner),
+        Case::StaticTexts => takes_a_static_text(interner),
+        Case::NoBytes => takes_static_texts_first(interner),
+    }
+}
+
+// A present text after the test, and how many bytes the buckets take.
+fn left_by(case: Case) -> (&'static str, usize) {
+    match case {
+        Case::OneText => ("Hello, world!", 4096),
+        Case::StaticTexts => ("abc", 10),
+        Case::NoBytes => ("wxyz", 4),
+    }
+}
+
+// Whether the calls are right, and a law holds of the text.
+fn runs_object(rodeo: &mut SpurRodeo, case: Case, text: &str) -> LassoResult<bool> {
+    let interner: &mut dyn SpurInterner = rodeo;
+    Ok(are_right(interner, case)? && object_interns_as_one(interner, text)?)
+}
+
+fn runs<R: AllocGlobal + Abort>(rt: &R, case: Case) -> Result<(), Fail> {
+    let (text, usage) = left_by(case);
+    let mut rodeo = made_for(rt.alloc(), case)?;
+    is_so(rt, runs_object(&mut rodeo, case, text)?, "the calls");
+    is_so(rt, rodeo.current_memory_usage() == usage, "the usage");
+    Ok(())
+}
+
+#[test]
+fn one_text_through_an_interner(rt: HostRuntime) -> Result<(), Fail> {
+    runs(&rt, Case::OneText)
+}
+
+#[test]
+fn static_texts_through_an_interner(rt: HostRuntime) -> Result<(), Fail> {
+    runs(&rt, Case::StaticTexts)
+}
+
+#[test]
+fn static_texts_take_no_bytes(rt: HostRuntime) -> Result<(), Fail> {
+    runs(&rt, Case::NoBytes)
+}
+
+// Makes the calls on what the box holds. Then a law holds of the box, with a present text.
+fn runs_box<R: AllocGlobal + Abort>(rt: &R, case: Case) -> Result<(), Fail> {
+    let (text, _usage) = left_by(case);
+    let rodeo = made_for(rt.alloc(), case)?;
+    let mut interner: Box<dyn SpurInterner + Drop> = Box::new(rt.alloc(), rodeo)?;
+    is_so(rt, are_right(&mut *interner, case)?, "the calls");
+    let is_one = boxed_object_interns_as_one(interner, text)?;
+    is_so(rt, is_one, "the law of interning");
+    Ok(())
+}
+
+#[test]
+fn one_text_through_a_box(rt: HostRuntime) -> Result<(), Fail> {
+    runs_box(&rt, Case::OneText)
+}
+
+#[test]
+fn a_boxed_rodeo_interns_as_one(rt: HostRuntime) -> Result<(), Fail> {
+    let rodeo = Box::new(rt.alloc(), of_hello(rt.alloc())?)?;
+    let is_one = boxed_rodeo_object_interns_as_one(rodeo, "Goodbye!")?;
+    is_so(&rt, is_one, "the law of interning");
+    Ok(())
+}
+
+#[test]
+fn static_texts_through_a_box(rt: HostRuntime) -> Result<(), Fail> {
+    runs_box(&rt, Case::StaticTexts)
+}
+
+#[test]
+fn static_texts_take_no_bytes_through_a_box(rt: HostRuntime) -> Result<(), Fail> {
+    runs_box(&rt, Case::NoBytes)
+}
+
+// Whether `Hello, world!` is there, and `Goodbye!` is not.
+fn reads_hello(reader: &dyn SpurReader) -> bool {
+    match reader.get("Hello, world!") {
+        Some(first) => {
+            reader.contains("Hello, world!")
+                && reader.get("Goodbye!").is_none()
+                && is_text(reader.try_resolve(first), "Hello, world!")
+                && reader.len() == 1
+        }
+        None => false,
+    }
+}
+
+#[test]
+fn frozen_forms(rt: HostRuntime) -> Result<(), Fail> {
+    let frozen = of_hello(rt.alloc())?.into_reader();
+    is_so(&rt, reads_hello(&frozen), "the reader");
+    Ok(())
+}
+
+fn gives_hello(resolver: &dyn SpurResolver) -> bool {
+    let first = Spur::default();
+    is_text(resolver.try_resolve(first), "Hello, world!")
+        && resolver.contains_key(first)
+        && resolver.len() == 1
+}
+
+#[test]
+fn a_frozen_resolver(rt: HostRuntime) -> Result<(), Fail> {
+    let frozen = of_hello(rt.alloc())?.into_resolver();
+    is_so(&rt, gives_hello(&frozen), "the resolver");
+    Ok(())
+}

@@ -1,0 +1,292 @@
+//! Each call of the interfaces at an interner that threads share: on its own, lent and in a box. It has no
+//! list of its own, so the clauses of the interfaces leave it alone: that they answer as its own calls do,
+//! and refuse and copy no more than these, is tested here.
+use crate::answers::{all_right, is_so};
+use crate::interfaces::{Freezing, freezes, shows_reader, shows_resolver};
+use crate::shared_plain::{fresh, hello};
+use crate::steps::{Case, NO_KEY_LEFT, Step, first_wrong, steps_of};
+use crate::laws::{reader_knows, resolver_knows};
+use lasso::interface::{IntoReader, IntoResolver};
+use lasso::{
+    Capacity, FixedState, LassoResult, MemoryLimits, MicroSpur, Spur, SpurRodeoReader,
+    SpurRodeoResolver, SpurThreadedRodeo, ThreadedRodeo,
+};
+use std::alloc::Global;
+use std::process::Abort;
+use std::sync::Wait;
+use std::test::Fail;
+use std::thread::{Threads, join};
+
+// A shared interner of 4 bytes, and a limit of 4.
+fn of_four_bytes(alloc: Global) -> LassoResult<SpurThreadedRodeo> {
+    let limits = MemoryLimits::new(4);
+    ThreadedRodeo::with_capacity_and_memory_limits(alloc, Capacity::for_bytes(4), limits)
+}
+
+// A shared interner of 10 bytes with `abc`, and then a limit of 0 bytes.
+fn limited(rt: &impl Wait, alloc: Global) -> LassoResult<SpurThreadedRodeo> {
+    let rodeo: SpurThreadedRodeo = ThreadedRodeo::with_capacity(alloc, Capacity::for_bytes(10))?;
+    rodeo.try_get_or_intern(rt, "abc")?;
+    rodeo.set_memory_limits(rt, MemoryLimits::new(0));
+    Ok(rodeo)
+}
+
+// Each function with an interface of one type is the only one of that type, as those of the interner for one
+// thread are.
+fn by_itself<R: Wait>(
+    rt: &R,
+    shared: &mut SpurThreadedRodeo,
+    steps: &[Step],
+) -> LassoResult<usize> {
+    first_wrong::<Spur, _, _>(rt, shared, steps)
+}
+
+/// How many of the calls, in order, return what they have to through a reference before one does not.
+pub fn by_reference<R: Wait>(
+    rt: &R,
+    mut shared: &SpurThreadedRodeo,
+    steps: &[Step],
+) -> LassoResult<usize> {
+    first_wrong::<Spur, _, _>(rt, &mut shared, steps)
+}
+
+fn lent<R: Wait>(rt: &R, mut shared: &mut SpurThreadedRodeo, steps: &[Step]) -> LassoResult<usize> {
+    first_wrong::<Spur, _, _>(rt, &mut shared, steps)
+}
+
+fn in_a_box<R: Wait>(
+    rt: &R,
+    shared: &mut Box<SpurThreadedRodeo>,
+    steps: &[Step],
+) -> LassoResult<usize> {
+    first_wrong::<Spur, _, _>(rt, shared, steps)
+}
+
+// As what a test hands the interner to generic code.
+#[derive(Clone, Copy)]
+enum Holder {
+    Itself,
+    Reference,
+    Lent,
+    Boxed,
+}
+
+fn runs_by<R: Wait>(
+    rt: &R,
+    holder: Holder,
+    shared: &mut Box<SpurThreadedRodeo>,
+    steps: &[Step],
+) -> LassoResult<usize> {
+    match holder {
+        Holder::Itself => by_itself(rt, &mut **shared, steps),
+        Holder::Reference => by_reference(rt, &**shared, steps),
+        Holder::Lent => lent(rt, &mut **shared, steps),
+        Holder::Boxed => in_a_box(rt, shared, steps),
+    }
+}
+
+// The interner with which the test begins.
+fn made_for(rt: &impl Wait, alloc: Global, case: Case) -> LassoResult<SpurThreadedRodeo> {
+    match case {
+        Case::OneText => fresh(alloc),
+        Case::StaticTexts => limited(rt, alloc),
+        Case::NoBytes => of_four_bytes(alloc),
+    }
+}
+
+// Whether the buckets take the right number of bytes after the test, and the limit is as before.
+fn is_left<R: Wait>(rt: &R, shared: &SpurThreadedRodeo, case: Case) -> bool {
+    let (usage, limit) = match case {
+        Case::OneText => (4096, usize::MAX),
+        Case::StaticTexts => (10, 0),
+        Case::NoBytes => (4, 4),
+    };
+    shared.current_memory_usage(rt) == usage && shared.max_memory_usage(rt) == limit
+}
+
+fn runs<R: AllocGlobal + Abort + Wait>(rt: &R, holder: Holder, case: Case) -> Result<(), Fail> {
+    let mut shared = Box::new(rt.alloc(), made_for(rt, rt.alloc(), case)?)?;
+    let steps = steps_of(case);
+    all_right(rt, runs_by(rt, holder, &mut shared, steps)?, steps.len());
+    is_so(rt, is_left(rt, &*shared, case), "the usage and the limit");
+    Ok(())
+}
+
+#[test]
+fn one_text_through_an_interner(rt: HostRuntime) -> Result<(), Fail> {
+    runs(&rt, Holder::Itself, Case::OneText)
+}
+
+#[test]
+fn one_text_through_a_reference(rt: HostRuntime) -> Result<(), Fail> {
+    runs(&rt, Holder::Reference, Case::OneText)
+}
+
+#[test]
+fn one_text_through_a_lent_interner(rt: HostRuntime) -> Result<(), Fail> {
+    runs(&rt, Holder::Lent, Case::OneText)
+}
+
+#[test]
+fn one_text_through_an_interner_in_a_box(rt: HostRuntime) -> Result<(), Fail> {
+    runs(&rt, Holder::Boxed, Case::OneText)
+}
+
+#[test]
+fn static_texts_through_an_interner(rt: HostRuntime) -> Result<(), Fail> {
+    runs(&rt, Holder::Itself, Case::StaticTexts)
+}
+
+#[test]
+fn static_texts_through_a_reference(rt: HostRuntime) -> Result<(), Fail> {
+    runs(&rt, Holder::Reference, Case::StaticTexts)
+}
+
+#[test]
+fn static_texts_through_a_lent_interner(rt: HostRuntime) -> Result<(), Fail> {
+    runs(&rt, Holder::Lent, Case::StaticTexts)
+}
+
+#[test]
+fn static_texts_through_an_interner_in_a_box(rt: HostRuntime) -> Result<(), Fail> {
+    runs(&rt, Holder::Boxed, Case::StaticTexts)
+}
+
+#[test]
+fn static_texts_take_no_bytes_of_a_shared_interner(rt: HostRuntime) -> Result<(), Fail> {
+    runs(&rt, Holder::Itself, Case::NoBytes)?;
+    runs(&rt, Holder::Reference, Case::NoBytes)
+}
+
+#[test]
+fn static_texts_take_no_bytes_of_a_held_shared_interner(rt: HostRuntime) -> Result<(), Fail> {
+    runs(&rt, Holder::Lent, Case::NoBytes)?;
+    runs(&rt, Holder::Boxed, Case::NoBytes)
+}
+
+type SharedMicro = ThreadedRodeo<MicroSpur, FixedState>;
+
+// A shared interner with a text under each of the 255 keys.
+fn full(rt: &impl Wait, alloc: Global) -> Result<SharedMicro, Fail> {
+    let shared = ThreadedRodeo::with_hasher(alloc, FixedState::new())?;
+    for number in 0..255u32 {
+        let text = format!(in alloc; "{number}")?;
+        shared.try_get_or_intern(rt, text.as_str())?;
+    }
+    Ok(shared)
+}
+
+fn refuses<R: Wait>(rt: &R, shared: &mut SharedMicro) -> LassoResult<usize> {
+    first_wrong::<MicroSpur, _, _>(rt, shared, &NO_KEY_LEFT)
+}
+
+fn refuses_by_reference<R: Wait>(rt: &R, mut shared: &SharedMicro) -> LassoResult<usize> {
+    first_wrong::<MicroSpur, _, _>(rt, &mut shared, &NO_KEY_LEFT)
+}
+
+// Whether no new text is taken, by the interner and by a reference to it.
+fn is_full<R: Wait>(rt: &R, shared: &mut SharedMicro) -> LassoResult<bool> {
+    Ok(
+        refuses(rt, shared)? == NO_KEY_LEFT.len()
+            && refuses_by_reference(rt, &*shared)? == NO_KEY_LEFT.len()
+            && shared.len() == 255,
+    )
+}
+
+#[test]
+fn no_key_is_left_in_a_shared_interner(rt: HostRuntime) -> Result<(), Fail> {
+    let mut shared = full(&rt, rt.alloc())?;
+    is_so(&rt, is_full(&rt, &mut shared)?, "the refusals");
+    Ok(())
+}
+
+static HERE: [Step; 1] = [Step::InternsAsOne("Hello, world!")];
+
+static THERE: [Step; 1] = [Step::InternsAsOne("Hello from the thread!")];
+
+fn both_intern<R: Threads + Wait + Sync>(
+    rt: &R,
+    shared: &SpurThreadedRodeo,
+) -> (LassoResult<usize>, LassoResult<usize>) {
+    join(
+        rt,
+        || by_reference(rt, shared, &HERE),
+        || by_reference(rt, shared, &THERE),
+    )
+}
+
+#[test]
+fn two_threads_intern_through_references(rt: HostRuntime) -> Result<(), Fail> {
+    let shared = fresh(rt.alloc())?;
+    let (here, there) = both_intern(&rt, &shared);
+    is_so(&rt, here? == 1, "the text of one thread");
+    is_so(&rt, there? == 1, "the text of the other");
+    is_so(&rt, shared.len() == 2, "the number of texts");
+    Ok(())
+}
+
+#[test]
+fn shared_interners_freeze(rt: HostRuntime) -> Result<(), Fail> {
+    let (first, second) = (hello(&rt, rt.alloc())?, hello(&rt, rt.alloc())?);
+    is_so(
+        &rt,
+        freezes::<Spur, _, _>(&rt, first, second)?,
+        "the frozen forms",
+    );
+    Ok(())
+}
+
+#[test]
+fn frozen_shared_interners_know_a_text(rt: HostRuntime) -> Result<(), Fail> {
+    let reader = reader_knows::<Spur, _, _>(&rt, fresh(rt.alloc())?, "abc")?;
+    is_so(&rt, reader, "a reader");
+    let resolver = resolver_knows::<Spur, _, _>(&rt, fresh(rt.alloc())?, "abc")?;
+    is_so(&rt, resolver, "a resolver");
+    Ok(())
+}
+
+fn boxed_hello(rt: &impl Wait, alloc: Global) -> LassoResult<Box<SpurThreadedRodeo>> {
+    Ok(Box::new(alloc, hello(rt, alloc)?)?)
+}
+
+fn reader_by<R: AllocGlobal + Wait>(rt: &R, freezing: Freezing) -> LassoResult<SpurRodeoReader> {
+    let shared = boxed_hello(rt, rt.alloc())?;
+    match freezing {
+        Freezing::Boxed => IntoReader::into_reader_boxed(shared, rt),
+        Freezing::AsHeld => IntoReader::into_reader(shared, rt),
+        Freezing::Twice => IntoReader::into_reader_boxed(Box::new(rt.alloc(), shared)?, rt),
+    }
+}
+
+fn resolver_by<R: AllocGlobal + Wait>(
+    rt: &R,
+    freezing: Freezing,
+) -> LassoResult<SpurRodeoResolver> {
+    let shared = boxed_hello(rt, rt.alloc())?;
+    match freezing {
+        Freezing::Boxed => IntoResolver::into_resolver_boxed(shared, rt),
+        Freezing::AsHeld => IntoResolver::into_resolver(shared, rt),
+        Freezing::Twice => IntoResolver::into_resolver_boxed(Box::new(rt.alloc(), shared)?, rt),
+    }
+}
+
+// A frozen box of `Hello, world!` has it alone.
+fn freezes_by<R: AllocGlobal + Abort + Wait>(rt: &R, freezing: Freezing) -> Result<(), Fail> {
+    shows_reader(rt, reader_by(rt, freezing))?;
+    shows_resolver(rt, resolver_by(rt, freezing))
+}
+
+#[test]
+fn boxed_shared_interners_freeze(rt: HostRuntime) -> Result<(), Fail> {
+    freezes_by(&rt, Freezing::Boxed)
+}
+
+#[test]
+fn a_box_freezes_as_what_it_holds(rt: HostRuntime) -> Result<(), Fail> {
+    freezes_by(&rt, Freezing::AsHeld)
+}
+
+#[test]
+fn a_box_in_a_box_freezes(rt: HostRuntime) -> Result<(), Fail> {
+    freezes_by(&rt, Freezing::Twice)
+}

@@ -1,0 +1,162 @@
+//! Walks over lists of buckets, with the spine and without it.
+ghost use Rattle.std.specs.Prelude.{◌≡◌};
+ghost use Rattle.lasso_log.specs.SharedBuckets.{names_with_book};
+ghost use Rattle.lasso_log.specs.Views.{InternerId, PassView, SpineView};
+
+use crate::checks::is_so;
+use crate::shared_memory::steps::Step::{
+    Finds, Fits, FitsAnywhere, HasBucket, HasBuckets, HasCounted, Stores, Walks,
+};
+use crate::shared_memory::steps::{Step, run_steps};
+use crate::shared_memory::storing::{bucket_at, fits_anywhere, opens, stores};
+use lasso_log::log::bucket_list::BucketList;
+use lasso_log::log::{Log, Spine};
+use lasso_parts::keys::Spur;
+use lasso_parts::util::LassoResult;
+use std::alloc::Global;
+use std::process::Abort;
+use std::sync::Wait;
+use std::test::*;
+use std::thread::{Threads, join};
+
+#[test]
+fn a_new_list_has_the_first_bucket(rt: HostRuntime) -> Result<(), Fail> {
+    static STEPS: [Step; 2] = [HasBuckets(1), Walks(1, 8)];
+    run_steps(&rt, 8, u64::MAX, &STEPS)
+}
+
+#[test]
+fn a_new_bucket_is_in_the_list(rt: HostRuntime) -> Result<(), Fail> {
+    static STEPS: [Step; 6] = [
+        Finds(8, false),
+        Stores("abcde"),
+        Finds(8, true),
+        Stores("0123456789abcdef"),
+        Finds(16, true),
+        HasBuckets(3),
+    ];
+    run_steps(&rt, 4, u64::MAX, &STEPS)
+}
+
+#[test]
+fn a_walk_finds_each_bucket(rt: HostRuntime) -> Result<(), Fail> {
+    static STEPS: [Step; 6] = [
+        Walks(1, 4),
+        Stores("defghijk"),
+        Stores("0123456789abcdef0"),
+        // 8 is twice the first bucket, and 17 more than twice that
+        Walks(3, 29),
+        HasBuckets(3),
+        HasCounted(3),
+    ];
+    run_steps(&rt, 4, u64::MAX, &STEPS)
+}
+
+#[test]
+fn bytes_are_taken_in_an_earlier_bucket(rt: HostRuntime) -> Result<(), Fail> {
+    static STEPS: [Step; 7] = [
+        Stores("abc"),
+        Stores("defghijk"),
+        Fits("xy", false),
+        Fits("x", true),
+        Fits("y", false),
+        HasBucket(0, 4, 4),
+        HasBucket(1, 8, 8),
+    ];
+    run_steps(&rt, 4, u64::MAX, &STEPS)
+}
+
+#[test]
+fn bytes_are_taken_without_the_spine(rt: HostRuntime) -> Result<(), Fail> {
+    static STEPS: [Step; 6] = [
+        FitsAnywhere("abcde", true),
+        FitsAnywhere("1234", false),
+        HasBucket(0, 8, 5),
+        FitsAnywhere("123", true),
+        FitsAnywhere("x", false),
+        HasBucket(0, 8, 8),
+    ];
+    run_steps(&rt, 8, u64::MAX, &STEPS)
+}
+
+#[test]
+fn bytes_are_taken_in_a_later_bucket(rt: HostRuntime) -> Result<(), Fail> {
+    static STEPS: [Step; 4] = [
+        Stores("abcd"),
+        Stores("efg"),
+        // the first bucket is full, and the second has five bytes left of eight
+        FitsAnywhere("12345", true),
+        FitsAnywhere("x", false),
+    ];
+    run_steps(&rt, 4, u64::MAX, &STEPS)
+}
+
+// How many bytes of all buckets are taken.
+fn taken<R: Wait>(rt: &R, log: &Log<Spur>, list: &BucketList<Spur>) -> u64
+    requires { list.now ≡ names_with_book log.now }
+{
+    let mut pass = log.pass();
+    let mut sum: u64 = 0;
+    for position in 0..list.len() {
+        sum = sum.saturating_add(bucket_at(rt, log, list, &mut pass, position as u64).1);
+    }
+    sum
+}
+
+// Copies a text of four bytes twenty times, into new buckets where none has room.
+fn stores_twenty<R: Wait>(
+    rt: &R,
+    alloc: Global,
+    log: &Log<Spur>,
+    list: &BucketList<Spur>,
+    spine: &mut Spine<Spur>,
+) -> LassoResult<()>
+    requires of { (spine.old.of ≡ log.now) × (list.now ≡ names_with_book log.now) }
+{
+    let mut pass = log.pass();
+    for _ in 0..20u32 {
+        stores(rt, alloc, log, list, spine, &mut pass, "abcd")?;
+    }
+    Ok(())
+}
+
+// Copies a text of three bytes wherever there is room, and returns how many bytes it copied.
+fn walks_twenty<R: Wait>(rt: &R, log: &Log<Spur>, list: &BucketList<Spur>) -> u64
+    requires { list.now ≡ names_with_book log.now }
+{
+    let mut pass = log.pass();
+    let mut copied: u64 = 0;
+    for _ in 0..20u32 {
+        if fits_anywhere(rt, log, list, &mut pass, "xyz") {
+            copied = copied.saturating_add(3);
+        }
+    }
+    copied
+}
+
+// Has a thread walk while another adds buckets. All bytes that they copied are then taken.
+fn walk_beside_adding<R: Abort + Threads + Wait + Sync>(
+    rt: &R,
+    alloc: Global,
+    log: &Log<Spur>,
+    list: &BucketList<Spur>,
+    spine: &mut Spine<Spur>,
+) -> Result<(), Fail>
+    requires { (spine.old.of ≡ log.now) × (list.now ≡ names_with_book log.now) }
+{
+    let (stored, copied) = join(
+        rt,
+        || stores_twenty(rt, alloc, log, list, spine),
+        || walks_twenty(rt, log, list),
+    );
+    stored?;
+    let are_taken = taken(rt, log, list) == copied.saturating_add(80);
+    is_so(rt, are_taken, "the bytes of both threads");
+    Ok(())
+}
+
+#[test]
+fn a_thread_walks_while_another_adds_buckets(rt: HostRuntime) -> Result<(), Fail> {
+    let (log, mut spine, list) = opens(rt.alloc(), 4, u64::MAX)?;
+    walk_beside_adding(&rt, rt.alloc(), &log, &list, &mut spine)
+}

@@ -1,0 +1,107 @@
+//! Writers of two shards, which do not wait for each other.
+use crate::checks::is_so;
+use crate::shards::armed::{ArmedState, Gate};
+use lasso_parts::keys::Spur;
+use lasso_parts::util::LassoResult;
+use lasso_shared::threaded::ThreadedRodeo;
+use std::alloc::Global;
+use std::sync::Wait;
+use std::test::*;
+use std::thread::{Threads, join};
+use test_common::texts::leaked;
+use test_shared_common::calls::len;
+use test_shared_common::steps::{Way, interned};
+
+// The texts `0000` to `0999`. They are never freed.
+fn four_digits(alloc: Global) -> Result<Vec<&'static str>, Fail> {
+    let mut texts = Vec::with_capacity(alloc, 1000)?;
+    for number in 0..1000u32 {
+        texts.push(leaked(format!(in alloc; "{number:04}")?)?)?;
+    }
+    Ok(texts)
+}
+
+type Armed<'a> = ThreadedRodeo<Spur, ArmedState<'a>>;
+
+// An interner whose hasher stops at the gate.
+fn armed<'a>(alloc: Global, gate: &'a Gate) -> LassoResult<Armed<'a>> {
+    ThreadedRodeo::with_hasher(alloc, ArmedState::new(gate))
+}
+
+// Interns `00`, arms the gate, and interns the texts.
+fn fills<R: Wait>(
+    rt: &R,
+    shared: &Armed<'_>,
+    gate: &Gate,
+    way: Way,
+    texts: &[&'static str],
+) -> LassoResult<()> {
+    interned(rt, shared, way, "00")?;
+    gate.arm();
+    for text in texts.iter() {
+        interned(rt, shared, way, *text)?;
+    }
+    Ok(())
+}
+
+// Waits for the other writer at the gate, interns `a`, and lets that writer go on. Returns whether it came.
+fn passes<R: Wait>(rt: &R, shared: &Armed<'_>, gate: &Gate, way: Way) -> LassoResult<bool> {
+    let there = gate.is_first_there();
+    interned(rt, shared, way, "a")?;
+    gate.pass();
+    Ok(there)
+}
+
+// Two threads intern a thousand texts of one shard and two of another. Returns whether one came to the gate,
+// the other was done while it waited there, and each text is there once.
+fn meet_at_gate<R: Threads + Wait + Sync>(
+    rt: &R,
+    shared: &Armed<'_>,
+    gate: &Gate,
+    way: Way,
+    texts: &[&'static str],
+) -> LassoResult<bool> {
+    let (filled, there) = join(
+        rt,
+        || fills(rt, shared, gate, way, texts),
+        || passes(rt, shared, gate, way),
+    );
+    filled?;
+    Ok(there? && gate.is_met() && len(shared) == 1002)
+}
+
+// Two threads intern in a new interner by this call. Returns whether neither waited for the other, and each
+// text is there once.
+fn are_apart<R: AllocGlobal + Threads + Wait + Sync>(
+    rt: &R,
+    gate: &Gate,
+    way: Way,
+    texts: &[&'static str],
+) -> LassoResult<bool> {
+    let shared = armed(rt.alloc(), gate)?;
+    meet_at_gate(rt, &shared, gate, way, texts)
+}
+
+#[test]
+fn writers_of_copies_apart(rt: HostRuntime) -> Result<(), Fail> {
+    let texts = four_digits(rt.alloc())?;
+    let gate = Gate::new();
+    is_so(
+        &rt,
+        are_apart(&rt, &gate, Way::TryCopied, &texts)?,
+        "copied texts",
+    );
+    Ok(())
+}
+
+#[test]
+fn writers_apart(rt: HostRuntime) -> Result<(), Fail> {
+    let texts = four_digits(rt.alloc())?;
+    let gate = Gate::new();
+    is_so(
+        &rt,
+        are_apart(&rt, &gate, Way::TryStatic, &texts)?,
+        "static texts",
+    );
+    Ok(())
+}
