@@ -6,8 +6,7 @@
 use anyhow::{Result, bail};
 use lasso::{Key, Rodeo, Spur, SpurRodeo};
 use lasso_guide::saving::{load, save};
-use std::env;
-use std::io;
+use std::{env, io};
 
 fn main(rt: HostRuntime) -> Result<()> {
     let mut words = env::args(&rt)?;

@@ -1,13 +1,13 @@
 //! Texts that collide under the fixed seed, in an interner with keys of its own.
-use lasso::keyed::keyed_by;
-use test_common::collisions::colliding;
 use crate::answers::is_so;
 use lasso::index::hash_text;
+use lasso::keyed::keyed_by;
 use lasso::{FixedState, Key, LassoResult, Rodeo, Spur, ThreadedRodeo};
 use std::alloc::{AllocError, Global};
 use std::hash::{BuildHasher, RandomState};
 use std::sync::Wait;
 use std::test::*;
+use test_common::collisions::colliding;
 
 // How many texts collide.
 const TEXTS: u32 = 10_000;

@@ -1,11 +1,11 @@
 //! Interners and frozen forms whose type is not known where they are used.
 use crate::answers::{Answer, LIMIT, is_answer, is_so, is_text};
 use crate::interfaces::made_for;
-use crate::rodeos::of_hello;
-use crate::steps::Case;
 use crate::object_laws::{
     boxed_object_interns_as_one, boxed_rodeo_object_interns_as_one, object_interns_as_one,
 };
+use crate::rodeos::of_hello;
+use crate::steps::Case;
 use lasso::interface::{SpurInterner, SpurReader, SpurResolver};
 use lasso::{LassoResult, Spur, SpurRodeo};
 use std::process::Abort;

@@ -6,6 +6,9 @@ use crate::answers::is_so;
 use crate::shared_plain::{fresh, runs_fresh};
 use lasso::log::Pass;
 use lasso::{FixedState, Key, LassoResult, Spur, SpurThreadedRodeo, ThreadedRodeo};
+use std::process::Abort;
+use std::sync::Wait;
+use std::test::Fail;
 use test_shared_common::calls::{
     copied, copied_as, found_as, hinted_pass_of, kept_as, pass_of, seen_by, set_limit_as,
     stands_for, sums_as,
@@ -13,9 +16,6 @@ use test_shared_common::calls::{
 use test_shared_common::steps::Step;
 use test_shared_common::steps::Step::{Counts, Finds, Interns, Reads};
 use test_shared_common::steps::Way::{Copied, TryCopied, TryStatic};
-use std::process::Abort;
-use std::sync::Wait;
-use std::test::Fail;
 
 // What a test does with a pass.
 #[derive(Clone, Copy)]

@@ -3,9 +3,9 @@
 //! and refuse and copy no more than these, is tested here.
 use crate::answers::{all_right, is_so};
 use crate::interfaces::{Freezing, freezes, shows_reader, shows_resolver};
+use crate::laws::{reader_knows, resolver_knows};
 use crate::shared_plain::{fresh, hello};
 use crate::steps::{Case, NO_KEY_LEFT, Step, first_wrong, steps_of};
-use crate::laws::{reader_knows, resolver_knows};
 use lasso::interface::{IntoReader, IntoResolver};
 use lasso::{
     Capacity, FixedState, LassoResult, MemoryLimits, MicroSpur, Spur, SpurRodeoReader,

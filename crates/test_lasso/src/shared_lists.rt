@@ -7,15 +7,15 @@ use crate::shared_plain::{fresh, hello, runs, runs_on};
 use lasso::{
     Capacity, LassoResult, MemoryLimits, SpurRodeoReader, SpurThreadedRodeo, ThreadedRodeo,
 };
-use test_shared_common::calls::{copied_as, pass_of};
-use test_shared_common::steps::Step;
-use test_shared_common::steps::Step::{Counts, Finds, Interns, IsLimited, Limits, Reads};
-use test_shared_common::steps::Way::{Copied, TryCopied};
 use serde_json::Value;
 use std::alloc::Global;
 use std::process::Abort;
 use std::sync::Wait;
 use std::test::Fail;
+use test_shared_common::calls::{copied_as, pass_of};
+use test_shared_common::steps::Step;
+use test_shared_common::steps::Step::{Counts, Finds, Interns, IsLimited, Limits, Reads};
+use test_shared_common::steps::Way::{Copied, TryCopied};
 
 // A shared interner of these texts.
 fn of_items<R: Wait>(rt: &R, alloc: Global, texts: &[&str]) -> LassoResult<SpurThreadedRodeo> {

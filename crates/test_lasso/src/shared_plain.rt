@@ -4,14 +4,14 @@ use crate::answers::{all_right, is_so, is_text};
 use lasso::{
     Capacity, FixedState, LassoResult, MemoryLimits, MicroSpur, SpurThreadedRodeo, ThreadedRodeo,
 };
-use test_shared_common::calls::copied;
-use test_shared_common::steps::Step::{Counts, Interns, IsLimited, Reads, Uses};
-use test_shared_common::steps::Way::{Copied, Static, TryCopied, TryStatic};
-use test_shared_common::steps::{Step, first_wrong};
 use std::alloc::Global;
 use std::process::Abort;
 use std::sync::Wait;
 use std::test::Fail;
+use test_shared_common::calls::copied;
+use test_shared_common::steps::Step::{Counts, Interns, IsLimited, Reads, Uses};
+use test_shared_common::steps::Way::{Copied, Static, TryCopied, TryStatic};
+use test_shared_common::steps::{Step, first_wrong};
 
 /// A shared interner without a text.
 pub fn fresh(alloc: Global) -> LassoResult<SpurThreadedRodeo> {

@@ -2,12 +2,12 @@
 use crate::table::Table;
 use crate::timing::{REFUSED, Tenths, elapsed_since, least, started, sum_of_positions, tenths_if};
 use anyhow::Result;
-use lasso::{FixedState, Key, LassoResult, Rodeo, Spur};
 use lasso::keyed::keyed_by;
-use test_common::collisions::colliding;
+use lasso::{FixedState, Key, LassoResult, Rodeo, Spur};
 use std::alloc::Global;
 use std::hash::BuildHasher;
 use std::rt::Clock;
+use test_common::collisions::colliding;
 
 // How often each interner is filled.
 const ROUNDS: u32 = 4;

@@ -1,8 +1,8 @@
 //! Random positions of texts, which may repeat.
 ghost use Rattle.std.specs.Prelude.{◌≡◌, ◌<◌, All, IfOk, vec_len};
 
-use test_common::draws::Draws;
 use std::alloc::{AllocError, Global};
+use test_common::draws::Draws;
 
 /// `draws` draws of a position below `count`. Each is drawn on its own, so that a position may come more than
 /// once or not at all. They are the same in each run. Its only error is out of memory.

@@ -5,9 +5,9 @@ use crate::batches::answer_batch;
 use crate::texts::{Texts, fixed_count, fixed_text};
 use lasso::log::Pass;
 use lasso::{FixedState, Key, LassoErrorKind, LassoResult, MemoryLimits, ThreadedRodeo};
-use test_common::draws::Draws;
 use std::alloc::AllocError;
 use std::sync::Wait;
+use test_common::draws::Draws;
 
 // A limit that is set a little above a usage is less than this number of bytes above it.
 const LITTLE: usize = 64;

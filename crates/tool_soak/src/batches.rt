@@ -5,9 +5,9 @@ use crate::answers::Answer;
 use crate::texts::Texts;
 use lasso::log::Pass;
 use lasso::{FixedState, Key, LassoErrorKind, ThreadedRodeo};
-use test_common::draws::Draws;
 use std::alloc::{AllocError, Global};
 use std::sync::Wait;
+use test_common::draws::Draws;
 
 // A batch has fewer texts than this.
 const MOST: usize = 150;

@@ -4,11 +4,11 @@ use crate::refused::calls::{extend_once, read_once, resolve_once, threaded_of};
 use crate::refused::retried::{Refused, is_so, retried, second_value};
 use crate::refused::scenarios::{Interner, Reply, Scenario, State, Step, Way, shows};
 use lasso::{FixedState, Key, LassoErrorKind, RodeoReader, RodeoResolver, Spur, ThreadedRodeo};
-use test_common::keys::WithoutTwo;
 use std::alloc::Global;
 use std::process::Abort;
 use std::sync::Wait;
 use std::test::Fail;
+use test_common::keys::WithoutTwo;
 
 const KEYS: Reply = Err(LassoErrorKind::KeySpaceExhaustion);
 
