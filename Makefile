@@ -109,18 +109,26 @@ deb: all
 
 #:
 #: Prove and test:
-#: make check CRATE=name             proves one crate, over the libraries below it, and runs its tests, or the cases of a program that has some
+#: make check CRATE=name             proves one crate, over the libraries below it, and runs its tests, or the cases of a program that has
+#:                                   some; of a crate of tests it runs the tests without proof
 check: crate toolchain
-	@cd crates/$(CRATE) && rt check && if grep -rqF '#[test]' src; then rt test; fi
+	@tested=no; if grep -rqF '#[test]' crates/$(CRATE)/src; then tested=yes; fi; \
+	case "$(CRATE) $$tested" in \
+	test_*" yes") .ci/tests $(CRATE) ;; \
+	*" yes") cd crates/$(CRATE) && rt check && rt test ;; \
+	*) cd crates/$(CRATE) && rt check ;; \
+	esac
 	@if [ -d "cases/$(CRATE)" ]; then (cd crates/$(CRATE) && { rt run < /dev/null > /dev/null || [ -e out/$(CRATE).stamp ]; }) && cases/run $(CRATE); fi
 	@if [ -d "cases/$(CRATE)/modules" ]; then cases/modules $(CRATE); fi
 
-#: make test                         the gate: make docs; then rt ci, which proves all that its kit has not kept, and runs every test; then
-#:                                   the cases over the programs that it built, and tests of modules of the programs
+#: make test                         the gate: make docs; the layout of the code; proofs of all but the crates of tests, by rt ci; then cases and
+#:                                   tests of modules over the programs, and the crates of tests, which all run without proof
 test: toolchain docs
-	RT_JOBS=$${RT_JOBS-$$(.ci/jobs)} rt ci
+	.ci/layout
+	RT_JOBS=$${RT_JOBS-$$(.ci/jobs)} .ci/proofs
 	cases/run
 	cases/modules
+	.ci/tests
 
 #: make docs                         checks the documents: links, names of files and clauses, lengths of lines, parts made from the
 #:                                   sources; that manual pages and completions have the options of the programs; that cases find what
