@@ -1,5 +1,5 @@
 -- What contracts see of an interner, and what calls that add no bytes leave of it.
-use Rattle.std.specs.Prelude.{◌≡◌, ℕ, Bool, false, List, [], length, max, is_some, if◌then◌else◌}
+use Rattle.std.specs.Prelude.{◌≡◌, ◌*◌, ◌^◌, ◌<◌, ◌≤◌, ℕ, Bool, false, List, [], length, max, is_some, if◌then◌else◌}
 use Rattle.lasso_parts.specs.Texts.{Text, position_of}
 use Rattle.lasso_parts.specs.Account.{Account, fresh}
 
@@ -39,3 +39,7 @@ KeepsOrigin old new = (new.first ≡ old.first) × (new.is_cleared ≡ old.is_cl
 -- how many bytes a copied text adds to the list: none if it is present
 abbrev pub bytes_added : List Text → Text → ℕ
 bytes_added texts text = if is_some (position_of texts text) then 0 else length text
+
+-- the bytes are no fewer than those that the entries of the texts take, 16 each
+abbrev pub HaveEntriesOf : List Text → ℕ → Type 0
+HaveEntriesOf texts bytes = length texts * 16 < 2 ^ 64 → length texts * 16 ≤ bytes

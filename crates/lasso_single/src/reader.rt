@@ -6,6 +6,7 @@ ghost use Rattle.lasso_parts.specs.Texts.{position_of, key_of, IsDistinct, Fits}
 ghost use Rattle.std.specs.Cmp.{partial_equiv_from_equiv};
 ghost use Rattle.std.specs.List.{enumerate_from};
 ghost use Rattle.lasso_single.specs.Equality.{texts_eq, texts_equivalence};
+ghost use Rattle.lasso_single.specs.Interner.{HaveEntriesOf};
 ghost use Rattle.lasso_single.specs.KeyLists.{AddsFound, AddsTexts, HaveTexts};
 
 use crate::resolver::RodeoResolver;
@@ -243,7 +244,9 @@ impl<K: Key, S: BuildHasher, A: Allocator> RodeoReader<K, S, A> {
     /// let reader = SpurRodeo::from_iter(rt.alloc(), ["red", "green"])?.into_reader();
     /// assert!(rt; reader.allocated_bytes() > 4096);
     /// ```
-    pub fn allocated_bytes(&self) -> usize {
+    pub fn allocated_bytes(&self) -> usize
+        ensures { HaveEntriesOf self.now result }
+    {
         self.rodeo.allocated_bytes()
     }
 

@@ -6,6 +6,7 @@ ghost use Rattle.lasso_parts.specs.Texts.{Fits};
 ghost use Rattle.std.specs.Cmp.{partial_equiv_from_equiv};
 ghost use Rattle.std.specs.List.{enumerate_from};
 ghost use Rattle.lasso_single.specs.Equality.{texts_eq, texts_equivalence};
+ghost use Rattle.lasso_single.specs.Interner.{HaveEntriesOf};
 ghost use Rattle.lasso_single.specs.KeyLists.{AddsTexts, HaveTexts};
 
 use crate::reader::RodeoReader;
@@ -208,7 +209,9 @@ impl<K: Key, A: Allocator> RodeoResolver<K, A> {
     /// let resolver = SpurRodeo::from_iter(rt.alloc(), ["red", "green"])?.into_resolver();
     /// assert!(rt; resolver.allocated_bytes() > 4096);
     /// ```
-    pub fn allocated_bytes(&self) -> usize {
+    pub fn allocated_bytes(&self) -> usize
+        ensures { HaveEntriesOf self.now result }
+    {
         self.list.allocated_bytes()
     }
 

@@ -1,7 +1,7 @@
 //! `Rodeo`, the interner for one thread.
 ghost use Rattle.std.specs.Prelude.{◌≡◌, ◌==◌, ◌+◌, ◌*◌, ◌<◌, ◌≤◌, false, length, Some, is_some, IsTrue, ◌↔◌, slice_get, option_map};
 ghost use Rattle.lasso_parts.specs.Texts.{position_of, key_of, IsDistinct, Fits};
-ghost use Rattle.lasso_single.specs.Interner.{most_copied};
+ghost use Rattle.lasso_single.specs.Interner.{HaveEntriesOf, most_copied};
 
 mod batches;
 mod changes;
@@ -232,7 +232,8 @@ impl<K: Key, S: BuildHasher, A: Allocator> Rodeo<K, S, A> {
     /// assert!(rt; rodeo.allocated_bytes() > rodeo.current_memory_usage());
     /// ```
     pub fn allocated_bytes(&self) -> usize
-        ensures { self.now.account.usage ≤ result }
+        ensures usage { self.now.account.usage ≤ result }
+        ensures entries { HaveEntriesOf self.now.texts result }
     {
         self.list
             .allocated_bytes()

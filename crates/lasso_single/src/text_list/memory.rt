@@ -1,5 +1,6 @@
 //! The memory of a list of texts.
 ghost use Rattle.std.specs.Prelude.{◌≤◌};
+ghost use Rattle.lasso_single.specs.Interner.{HaveEntriesOf};
 
 use super::TextList;
 use lasso_parts::arena::Arena;
@@ -12,7 +13,8 @@ use std::mem::size_of;
 impl<A: Allocator> TextList<A> {
     /// How many bytes the allocator gave for the entries, the list of long texts and the buckets.
     pub(crate) fn allocated_bytes(&self) -> usize
-        ensures { self.now.account.usage ≤ result }
+        ensures usage { self.now.account.usage ≤ result }
+        ensures entries { HaveEntriesOf self.now.texts result }
     {
         self.arena
             .allocated_bytes()
