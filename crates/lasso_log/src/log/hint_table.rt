@@ -21,6 +21,9 @@ const REST: u32 = 15 * ROUND;
 // Asking pays if a hint finds at least one of this number of texts.
 const HIT_SHARE: u32 = 8;
 
+// Hints serve if they miss at most one of this number of texts.
+const MISS_SHARE: u32 = 4;
+
 /// A position, mixed with bits of its text's hash: read with the hash of another text, it is mostly past the
 /// end of the list.
 #[derive(Clone, Copy)]
@@ -59,7 +62,8 @@ fn set_of(hash: u64) -> usize {
 /// is followed moves up by one place: so those that are followed often stay.
 ///
 /// Asking costs time, which hits have to save. So texts are counted in rounds. If less than one text in eight
-/// of a round was a hit, hints rest for the next round, which is longer: they are neither asked nor kept.
+/// of a round was a hit, hints rest for the next round, which is longer: they are neither asked nor kept. If at
+/// least three in four were, hints serve in the next round.
 #[derive(Drop)]
 pub(super) struct HintTable {
     sets: Vec<[Hint; WAYS]>,
@@ -68,6 +72,7 @@ pub(super) struct HintTable {
     // How many texts of the round were hits.
     hits: u32,
     rests: bool,
+    serves: bool,
 }
 
 impl HintTable {
@@ -81,6 +86,7 @@ impl HintTable {
             left: ROUND,
             hits: 0,
             rests: false,
+            serves: false,
         })
     }
 
@@ -118,9 +124,16 @@ impl HintTable {
     fn begin_round(&mut self) -> bool {
         let pays = self.hits >= ROUND / HIT_SHARE;
         self.rests = !pays && !self.rests;
+        self.serves = self.hits >= ROUND - ROUND / MISS_SHARE;
         self.left = if self.rests { REST } else { ROUND };
         self.hits = 0;
         !self.rests
+    }
+
+    /// Whether hints found most texts of the last round.
+    #[inline(always)]
+    pub(super) fn serves(&self) -> bool {
+        self.serves
     }
 
     /// Counts a position that `find` returned, and that was right.

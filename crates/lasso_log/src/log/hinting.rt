@@ -23,6 +23,13 @@ impl<K: Key> Pass<K> {
         self.hints.exist()
     }
 
+    /// Whether hints found most of the texts that were looked up last. Such texts were met lately, so they are in
+    /// near caches.
+    #[inline(always)]
+    pub fn hints_serve(&self) -> bool {
+        self.hints.serve()
+    }
+
     /// Keeps where a text with that hash is, in the list that the pass has seen. A pass without hints keeps
     /// nothing.
     #[inline(always)]

@@ -57,6 +57,15 @@ impl<K: Key> Hints<K> {
         self.table.is_some()
     }
 
+    /// Whether hints found most of the texts that were looked up last.
+    #[inline(always)]
+    pub(super) fn serve(&self) -> bool {
+        match &self.table {
+            Some(table) => table.serves(),
+            None => false,
+        }
+    }
+
     /// The history that was seen.
     pub(super) fn known(&self) -> Snapshot<K>
         ensures { result ≡ self.now }

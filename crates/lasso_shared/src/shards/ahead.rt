@@ -3,6 +3,9 @@
 //! The hints of the pass are asked for all of them, and then each shard that has texts without a guess is locked
 //! once for reading. Then the length of the list is read, and the texts at the guesses are looked at. No text is
 //! interned by a look ahead.
+//!
+//! If hints find most texts, there is no look ahead: these texts are in near caches, and it would cost more than
+//! it saves.
 ghost use Rattle.std.specs.Prelude.{◌≡◌, [], Some, IfSome};
 ghost use Rattle.lasso_parts.specs.Texts.{key_of};
 ghost use Rattle.lasso_log.specs.Notes.{Since};
@@ -70,7 +73,7 @@ impl<K: Key, S: BuildHasher + Drop> Shards<K, S> {
         }
     }
 
-    // Looks ahead at the first texts, if all guesses were taken.
+    // Looks ahead at the first texts, if all guesses were taken and hints alone don't serve.
     #[inline(always)]
     pub(super) fn look_ahead<R: Wait>(
         &self,
@@ -84,7 +87,12 @@ impl<K: Key, S: BuildHasher + Drop> Shards<K, S> {
         ensures same { IsSamePass pass.new pass.old }
         ensures since { Since pass.old.number pass.old.notes pass.new.notes [] }
     {
-        if ahead.guesses.are_taken() {
+        if !ahead.guesses.are_taken() {
+            return;
+        }
+        if pass.hints_serve() {
+            ahead.guesses.leave_out();
+        } else {
             self.look_further(rt, pass, texts, ahead);
         }
     }
@@ -149,6 +157,9 @@ impl<K: Key, S: BuildHasher + Drop> Shards<K, S> {
         ensures same { IsSamePass pass.new pass.old }
         ensures call { IsCall K.key_at self.now.log.opening (seen pass.old) (seen pass.new) pass.old.number (Intern Copied text.now) (Interned result) }
     {
+        if ahead.guesses.leaves_out_next() {
+            return self.intern_copied(rt, pass, text);
+        }
         let guess = ahead.guesses.take();
         if let Some(key) = self.key_guessed(pass, &ahead.list, guess, text) {
             return Ok(key);
@@ -178,6 +189,9 @@ impl<K: Key, S: BuildHasher + Drop> Shards<K, S> {
         ensures same { IsSamePass pass.new pass.old }
         ensures call { IsCall K.key_at self.now.log.opening (seen pass.old) (seen pass.new) pass.old.number (Get text.now) (Found result) }
     {
+        if ahead.guesses.leaves_out_next() {
+            return self.get(rt, pass, text);
+        }
         let guess = ahead.guesses.take();
         if let Some(key) = self.key_guessed(pass, &ahead.list, guess, text) {
             return Some(key);

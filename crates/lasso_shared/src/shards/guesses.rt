@@ -67,6 +67,8 @@ pub(super) struct Guesses {
     pub(super) each: [Guess; TOGETHER],
     size: usize,
     taken: usize,
+    // Whether the texts are taken without guesses.
+    are_left_out: bool,
 }
 
 impl Guesses {
@@ -77,6 +79,7 @@ impl Guesses {
             each: [Guess::none(0); TOGETHER],
             size: 0,
             taken: 0,
+            are_left_out: false,
         }
     }
 
@@ -84,6 +87,23 @@ impl Guesses {
     #[inline(always)]
     pub(super) fn are_taken(&self) -> bool {
         self.taken >= self.size
+    }
+
+    /// Has the next texts taken without guesses, `TOGETHER` of them.
+    #[inline(always)]
+    pub(super) fn leave_out(&mut self) {
+        self.size = TOGETHER;
+        self.taken = 0;
+        self.are_left_out = true;
+    }
+
+    /// Whether the next text is taken without a guess. If so, it counts as taken.
+    #[inline(always)]
+    pub(super) fn leaves_out_next(&mut self) -> bool {
+        if self.are_left_out {
+            self.taken = self.taken.wrapping_add(1);
+        }
+        self.are_left_out
     }
 
     /// Takes the guess at the next text.
@@ -102,6 +122,7 @@ impl Guesses {
         }
         self.size = size;
         self.taken = 0;
+        self.are_left_out = false;
     }
 
     /// Asks the hints of the pass.
