@@ -39,7 +39,7 @@ help:
 #: make try FILE=path [ARGS=..]      builds lasso_lines without proof and runs it on the file, in a minute or two
 #:                                   (rt try: at most 1 MiB of output and 60 seconds; 20 million steps if it interprets)
 try: input toolchain
-	@echo "make try proves nothing. make run FILE=$$FILE proves lasso_lines first: once, 20 to 45 minutes." >&2
+	@echo "make try proves nothing. make run FILE=$$FILE proves lasso_lines first: once, 18 minutes on four cores." >&2
 	@said=$$(mktemp) && trap 'rm -f "$$said"' EXIT && (cd crates/lasso_lines && rt try -- $(ARGS)) < "$$FILE" 2> "$$said"; status=$$?; \
 	if grep -q '^checked: no-answer: .* wrote more than' "$$said"; then \
 		echo "make try: the output is more than 1 MiB (1048576 bytes), the most that rt try hands on." >&2; \
