@@ -2,6 +2,7 @@
 use Rattle.std.specs.Prelude.{ℕ, ◌+◌, ◌-◌, ◌*◌, ◌^◌, ◌<◌, ◌==◌, Bool, true, false, ◌&&◌, List, [], ◌∷◌, ◌++◌, length, take, drop, nat_le, nat_lt, Option, Some, None, Result, Ok, Err, slice_get, option_and_then, option_map, position, codes, decimal, bytes_eq, if◌then◌else◌}
 use Rattle.lasso_parts.specs.Texts.{Text}
 use Rattle.lasso_input.specs.Numbers.{digits_value}
+use Rattle.lasso_input.specs.Workers.{most_workers}
 use Rattle.lasso_codes.specs.declared.arguments.Verb.{Verb}
 use Rattle.lasso_codes.specs.declared.arguments.Verb.TheVariants.{Counts, Decode, Distinct, Encode, Merge}
 use Rattle.lasso_codes.specs.declared.arguments.Settings.{Settings}
@@ -149,7 +150,7 @@ wanted_of reading = option_map (λ wanted. (wanted.0, wanted.1.now)) reading.wan
 
 -- the number of workers if it is 1 to 64, and else the message
 abbrev pub workers_of : ℕ → Result ℕ (List ℕ)
-workers_of count = if nat_lt count 1 then Err no_workers else (if nat_le count 64 then Ok count else Err (past_workers count))
+workers_of count = if nat_lt count 1 then Err no_workers else (if nat_le count most_workers then Ok count else Err (past_workers count))
 
 -- continues with the number, or returns the message
 abbrev pub on_number : {X : Type 0} → Option ℕ → Text → (ℕ → Result X (List ℕ)) → Result X (List ℕ)

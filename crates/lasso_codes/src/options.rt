@@ -6,10 +6,8 @@ ghost use Rattle.lasso_codes.specs.Arguments.{IsWithin, argument_text, is_binary
 
 use crate::arguments::{ArgumentError, Command, Request, Settings, Verb};
 use crate::numbers::parse_number;
+use lasso_input::MAX_WORKERS;
 use memchr::memchr;
-
-/// The most threads that may share the work.
-pub const MAX_WORKERS: usize = 64;
 
 // An option that takes a value: a number, or the word of a null.
 #[derive(Clone, Copy, Debug, PartialEq, Eq)]

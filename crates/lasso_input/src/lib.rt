@@ -5,6 +5,8 @@
 //! at them for the interner that they go into. `find_newline`, `after_newline` and `first_line` cut bytes by hand.
 //!
 //! `text_of` gives each line a text, whatever its bytes are, and `line_of` gives the line back.
+//!
+//! `MAX_WORKERS` is how many threads may share the work on an input.
 #![tactic(auto)]
 
 pub mod failures;
@@ -18,9 +20,11 @@ mod tests;
 #[cfg(test)]
 mod text_tests;
 mod texts;
+mod workers;
 
 pub use line::Line;
 pub use newlines::{after_newline, find_newline, first_line};
 pub use numbers::parse_digits;
 pub use stretch::Stretch;
 pub use texts::{MARK, is_marked, line_of, own_text, text_of};
+pub use workers::MAX_WORKERS;

@@ -2,7 +2,7 @@
 //!
 //! A stretch is tested for UTF-8 once, for all its lines. A line feed is ASCII, so a line that ends in the
 //! tested bytes is UTF-8, and so are the tested bytes after it.
-ghost use Rattle.std.specs.Prelude.{◌≡◌, ◌-◌, ◌<◌, ◌++◌, ◌∷◌, [], MatchOption, IfSome, IsUtf8, length, take};
+ghost use Rattle.std.specs.Prelude.{◌≡◌, ◌-◌, ◌<◌, ◌++◌, ◌∷◌, [], MatchOption, IfSome, IsTrue, IsUtf8, length, take};
 ghost use Rattle.lasso_input.specs.Lines.{NoFeed, lines_of};
 
 use crate::line::Line;
@@ -99,9 +99,17 @@ impl<'a> Stretch<'a> {
         }
     }
 
-    // The same bytes once more.
+    /// Whether all bytes that are left are known to be UTF-8. They are if all bytes of the stretch were.
     #[inline(always)]
-    fn copy(&self) -> Stretch<'a>
+    pub fn is_text(&self) -> bool
+        ensures { IsTrue result → IsUtf8 self.now }
+    {
+        self.untested == 0
+    }
+
+    /// The same bytes once more. They are not tested again.
+    #[inline(always)]
+    pub fn copy(&self) -> Stretch<'a>
         ensures { result ≡ self.now }
     {
         Stretch {

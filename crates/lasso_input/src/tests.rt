@@ -163,6 +163,25 @@ fn all_lines(rt: HostRuntime) {
     }
 }
 
+// Bytes, and whether all are UTF-8.
+static TEXTS: [(&[u8], bool); 4] = [
+    (b"", true),
+    (b"a\n\xc3\xa4", true),
+    (b"a\n\xff\n", false),
+    (b"a\n\xc3", false),
+];
+
+#[test]
+fn whether_all_lines_are_texts(rt: HostRuntime) {
+    for (bytes, is_text) in &TEXTS {
+        let lines = Stretch::new(bytes);
+        let mut copy = lines.copy();
+        is_so(&rt, copy.is_text() == *is_text, "all are texts");
+        let _line = copy.next_line();
+        is_so(&rt, lines.rest() == *bytes, "the stretch stays");
+    }
+}
+
 #[test]
 fn a_line_by_hand(rt: HostRuntime) -> Result<(), Fail> {
     is_so(&rt, is_line(&Line::untested(b"a"), b"a", true), "a text");

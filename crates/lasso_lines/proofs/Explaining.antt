@@ -7,19 +7,19 @@ use Rattle.std.specs.Prelude.{IfErr}
 use Rattle.lasso_parts.specs.Texts.{Text}
 use Rattle.lasso_parts.specs.declared.util.LassoErrorKind.TheVariants.{FailedAllocation}
 use Rattle.lasso_log.specs.History.{History, Totals}
-use Rattle.lasso_lines.specs.Answer.{IsCutFault, IsInputFault, IsEndFault}
+use Rattle.lasso_lines.specs.Answer.{IsTextFault, IsInputFault, IsEndFault}
 use Rattle.lasso_lines.specs.Explained.{IsExplainedIn, IsExplainedBy}
 use Rattle.lasso_lines.specs.Shares.{IsRefusalOf}
 use Rattle.lasso_lines.specs.declared.fault.RunFault.{RunFault}
 use Rattle.lasso_lines.specs.declared.fault.RunFault.TheVariants.{Refused, NotText, Usage, ReadFailed, WriteFailed}
 
--- the input could not be cut into lines
-pub cut_explained : (o : Totals) (past : History) (lines : List Text) (fault : RunFault) → IsCutFault fault → IsExplainedIn o past lines fault
-cut_explained o past lines (Refused number error) lacks = inl lacks
-cut_explained o past lines (NotText number) not_text = tt
-cut_explained o past lines Usage none = absurd none
-cut_explained o past lines ReadFailed none = absurd none
-cut_explained o past lines WriteFailed none = absurd none
+-- a line is not UTF-8
+pub text_explained : (o : Totals) (past : History) (lines : List Text) (fault : RunFault) → IsTextFault fault → IsExplainedIn o past lines fault
+text_explained o past lines (Refused number error) none = absurd none
+text_explained o past lines (NotText number) not_text = tt
+text_explained o past lines Usage none = absurd none
+text_explained o past lines ReadFailed none = absurd none
+text_explained o past lines WriteFailed none = absurd none
 
 -- a line that the workers report as refused
 pub refusal_explained : (o : Totals) (past : History) (lines : List Text) (fault : RunFault) → IsRefusalOf o past lines fault → IsExplainedIn o past lines fault

@@ -3,9 +3,9 @@
 -- The search goes on after a line that is UTF-8, with the next number. So if all lines before a line are
 -- UTF-8 and it is not, it is the first such line; and if the search reaches the end, there is none. A line
 -- that is reached is one of the lines, so its number is at most the number of lines.
-use Rattle.std.proofs.Common.{ℕ, ◌≡◌, ◌+◌, ◌≤◌, ◌⊎◌, inl, inr, cond, List, ◌∷◌, ◌++◌, length, Some, Result, Ok, Err, ap, sym, subst, ◌∙◌, refl, arith, length-append}
+use Rattle.std.proofs.Common.{ℕ, ◌≡◌, ◌+◌, ◌≤◌, ◌⊎◌, inl, inr, cond, List, ◌∷◌, ◌++◌, length, Bool, true, false, Option, Some, None, Result, Ok, Err, ap, sym, subst, ◌∙◌, refl, arith, length-append}
 use Rattle.std.specs.Prelude.{IfErr, OnOk}
-use Rattle.std.specs.Str.{IsUtf8}
+use Rattle.std.specs.Str.{IsUtf8, is_utf8}
 use Rattle.std.proofs.lemmas.Str.{IsUtf8-from_is_utf8, is_utf8-from_IsUtf8}
 use Rattle.std.proofs.lemmas.Bool.{false_from_ne_true}
 use Rattle.lasso_parts.specs.Texts.{Text}
@@ -22,21 +22,16 @@ pub after_text : (number : ℕ) (line : Text) (lines : List Text) → IsUtf8 lin
 after_text number line lines utf8 = ap (λ b. cond b (first_not_text (number + 1) lines) (Some number)) (is_utf8-from_IsUtf8 line utf8)
 
 -- and one that is not
-at_not_text : (number : ℕ) (line : Text) (lines : List Text) → ¬ (IsUtf8 line) → first_not_text number (line ∷ lines) ≡ Some number
+pub at_not_text : (number : ℕ) (line : Text) (lines : List Text) → ¬ (IsUtf8 line) → first_not_text number (line ∷ lines) ≡ Some number
 at_not_text number line lines not_utf8 = ap (λ b. cond b (first_not_text (number + 1) lines) (Some number)) (false_from_ne_true _ (λ e. not_utf8 (IsUtf8-from_is_utf8 line e)))
 
--- the number of a line that is reached is at most the number of lines
-pub number_inside : (before more all : List Text) (line : Text) (number : ℕ) → before ++ line ∷ more ≡ all → number ≡ length before + 1 → number ≤ length all
-number_inside before more all line number is counted =
-    let long : length all ≡ length before + length (line ∷ more) = ap length (sym is) ∙ length-append before (line ∷ more) in
-    omega (arith, long, counted)
+-- if all lines are UTF-8, so is the first
+utf8_if : (is_text : Bool) (line : Text) (number : ℕ) (later : Option ℕ) → is_utf8 line ≡ is_text → cond is_text later (Some number) ≡ None → IsUtf8 line × (later ≡ None)
+utf8_if true line number later e is = (IsUtf8-from_is_utf8 line e, is)
+utf8_if false line number later e is = let no : Some number ≡ None = is in absurd cc
 
--- the fault of a line, if all lines before it are UTF-8
-pub fault_here : (before more all : List Text) (line : Text) (number : ℕ) (fault : RunFault) → before ++ line ∷ more ≡ all → number ≡ length before + 1 → first_not_text 1 all ≡ first_not_text number (line ∷ more) → ((fault ≡ NotText number) × ¬ (IsUtf8 line)) ⊎ (fault ≡ Refused number FailedAllocation) → IsFaultOf all fault
-fault_here before more all line number fault is counted same (inl faulty) =
-    subst (IsFaultOf all) (sym faulty.0) (same ∙ at_not_text number line more faulty.1)
-fault_here before more all line number fault is counted same (inr lacks) =
-    subst (IsFaultOf all) (sym lacks) (number_inside before more all line number is counted, inr refl)
+pub first_utf8 : (number : ℕ) (line : Text) (lines : List Text) → first_not_text number (line ∷ lines) ≡ None → IsUtf8 line × (first_not_text (number + 1) lines ≡ None)
+first_utf8 number line lines none = utf8_if (is_utf8 line) line number (first_not_text (number + 1) lines) refl none
 
 -- ---- the faults of a run
 

@@ -17,6 +17,8 @@ pub mod Named
 pub mod Told
 pub mod InOrder
 pub mod FirstFaults
+pub mod WholeTexts
+pub mod Turns
 pub mod Refusals
 pub mod Lowest
 pub mod Explaining

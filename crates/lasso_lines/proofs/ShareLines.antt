@@ -3,11 +3,11 @@
 -- Each of a worker's lines is one of the lines. The line at position i belongs to worker i modulo the
 -- number of workers, and is there at position i divided by it. So the shares of all workers have all lines.
 -- The list that a pass sees only grows, so the codes that the workers returned are codes in one list.
-use Rattle.std.proofs.Common.{ℕ, zero, suc, ◌≡◌, ◌+◌, ◌*◌, ◌/◌, ◌%◌, ◌<◌, ◌≤◌, List, [], ◌∷◌, ◌++◌, length, map, get_or, Bor, Vec, Result, Ok, Err, refl, sym, ap, subst, ◌∙◌, arith, add-one, mul-le-mul_right, div-add-mod', ◌⊎◌, inl, inr}
+use Rattle.std.proofs.Common.{ℕ, zero, suc, ◌≡◌, ◌+◌, ◌*◌, ◌/◌, ◌%◌, ◌<◌, ◌≤◌, List, [], ◌∷◌, ◌++◌, length, Vec, Result, Ok, Err, refl, sym, ap, subst, ◌∙◌, arith, add-one, mul-le-mul_right, div-add-mod', ◌⊎◌, inl, inr}
 use Rattle.std.specs.Prelude.{Contains, MatchResult}
 use Rattle.std.proofs.lemmas.Bool.{cases_lt}
 use Rattle.std.proofs.lemmas.Nat.{mod_below}
-use Rattle.std.proofs.lemmas.List.{get_or_default, get_or-map}
+use Rattle.std.proofs.lemmas.List.{get_or_default}
 use Rattle.std.proofs.lemmas.List.Elements.{Contains-get_or, Contains-append_left, Contains-append_right, Contains-push, Contains-push_cases, Contains-append_cases}
 use Rattle.lasso_parts.specs.Texts.{Text, position_of}
 use Rattle.lasso_single.specs.Codes.{AreCodes}
@@ -102,10 +102,6 @@ gathered_all list lines workers done codes some all gathered = (
 )
 
 -- ---- a worker's lines one after another
-
--- the line that the code reads at a position
-pub line_read : (lines : List (Bor Text)) (at : ℕ) (d : Bor Text) → at < length lines → line_at (map (λ t. t.now) lines) at ≡ (get_or lines at d).now
-line_read lines at d small = get_or-map (λ (t : Bor Text). t.now) lines at d [] small
 
 -- one more line of the worker
 pub share_next : (lines : List Text) (worker workers n at : ℕ) (line : Text) → at ≡ worker + n * workers → line_at lines at ≡ line → share lines worker workers n ++ line ∷ [] ≡ share lines worker workers (n + 1)

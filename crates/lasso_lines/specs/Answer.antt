@@ -64,11 +64,10 @@ IsEndFault (Refused number error) = (number ≡ 0) × (error ≡ FailedAllocatio
 IsEndFault WriteFailed = Unit {0}
 IsEndFault _ = ⊥
 
--- a line is not UTF-8; or out of memory
-abbrev pub IsCutFault : RunFault → Type 0
-IsCutFault (Refused number error) = error ≡ FailedAllocation
-IsCutFault (NotText number) = Unit {0}
-IsCutFault _ = ⊥
+-- a line is not UTF-8
+abbrev pub IsTextFault : RunFault → Type 0
+IsTextFault (NotText number) = Unit {0}
+IsTextFault _ = ⊥
 
 -- a line is refused or is not UTF-8; or out of memory
 abbrev pub IsLineFault : RunFault → Type 0

@@ -2,6 +2,7 @@
 use Rattle.std.specs.Prelude.{ℕ, option_map, option_and_then, ◌-◌, ◌^◌, Bool, ◌&&◌, List, [], ◌∷◌, nat_le, Option, Some, None, String, string_bytes, ◌≡◌, map, codes, bytes_eq, if◌then◌else◌}
 use Rattle.lasso_input.specs.Lines.{lines_of}
 use Rattle.lasso_input.specs.Numbers.{digits_value}
+use Rattle.lasso_input.specs.Workers.{most_workers}
 use Rattle.lasso_parts.specs.Texts.{Text}
 
 -- a limit and no workers
@@ -10,7 +11,7 @@ limited limit = option_map (λ n. (n, None)) (digits_value limit)
 
 -- this limit and 1 to 64 workers
 abbrev pub with_workers : ℕ → ℕ → Option (ℕ × Option ℕ)
-with_workers limit n = if nat_le 1 n && nat_le n 64 then Some (limit, Some n) else None
+with_workers limit n = if nat_le 1 n && nat_le n most_workers then Some (limit, Some n) else None
 
 -- this limit and the workers of a word
 abbrev pub worked : ℕ → List ℕ → Option (ℕ × Option ℕ)

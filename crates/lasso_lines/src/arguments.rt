@@ -4,10 +4,7 @@ ghost use Rattle.std.specs.Result.{result_ok};
 ghost use Rattle.lasso_lines.specs.Arguments.{settings_of, limited, worked, both};
 
 use crate::fault::RunFault;
-use lasso_input::parse_digits;
-
-/// The greatest number of workers.
-pub const MOST_WORKERS: usize = 64;
+use lasso_input::{MAX_WORKERS, parse_digits};
 
 /// The settings that the arguments give.
 #[derive(Clone, Copy, Debug, PartialEq, Eq)]
@@ -61,7 +58,7 @@ fn worked(limit: usize, workers: &str) -> Option<Settings>
     ensures { option_map (λ s. (s.limit, s.workers)) result ≡ worked limit workers.now }
 {
     let workers = parse_digits(workers.as_bytes())?;
-    if workers == 0 || workers > MOST_WORKERS {
+    if workers == 0 || workers > MAX_WORKERS {
         return None;
     }
     Some(Settings {

@@ -1,15 +1,19 @@
 //! Gives each worker its lines, and joins what the workers return.
-ghost use Rattle.std.specs.Prelude.{◌≡◌, ◌<◌, ◌+◌, ◌++◌, ◌∷◌, [], OnOk, IfOk, IfErr, IsSomeAnd, MatchResult, None, map, vec_len};
+ghost use Rattle.std.specs.Prelude.{◌≡◌, ◌<◌, ◌+◌, ◌++◌, ◌∷◌, [], OnOk, IfOk, IfErr, IsSomeAnd, MatchResult, None, vec_len};
 ghost use mathlib.Core.List.{IsPrefix};
+ghost use Rattle.lasso_input.specs.Lines.{lines_of};
 ghost use Rattle.lasso_single.specs.Coding.{spur_at};
 ghost use Rattle.lasso_log.specs.History.{IsLegal};
 ghost use Rattle.lasso_log.specs.Views.{PassView, InternerId, IsSamePass, list_of, seen};
+ghost use Rattle.lasso_lines.specs.LineFaults.{AreTexts};
 ghost use Rattle.lasso_lines.specs.Shares.{AddsCode, AreCodesOf, HasCodes, IsLower, IsRefusalIn, IsRefusalOf, IsRefusedBy, IsShareOf};
 ghost use Rattle.lasso_lines.specs.declared.fault.RunFault.TheVariants.{Refused};
 ghost use Rattle.lasso_parts.specs.declared.util.LassoErrorKind.TheVariants.{FailedAllocation};
 
 use crate::fault::RunFault;
+use crate::stretches::next_number;
 use crate::workers::Gate;
+use lasso_input::Stretch;
 use lasso_log::log::{Pass, Snapshot};
 use lasso_parts::keys::Spur;
 use lasso_parts::util::{LassoError, LassoErrorKind};
@@ -35,21 +39,23 @@ pub(crate) fn share_out<R: AllocGlobal + Threads + Wait + Sync, G: Gate>(
     rt: &R,
     rodeo: &SpurThreadedRodeo,
     pass: &mut Pass<Spur>,
-    lines: &[&str],
+    lines: &Stretch<'_>,
     workers: usize,
     gate: &G,
 ) -> Result<Vec<u32>, RunFault>
     requires some { 0 < workers }
+    requires texts { AreTexts (lines_of lines.now) }
     requires of { pass.old.of ≡ rodeo.now }
     ensures same { IsSamePass pass.new pass.old }
-    ensures codes { IfOk result (λ codes. AreCodesOf (list_of rodeo.now pass.new.notes) (map (λ t. t.now) lines.now) codes.items) }
-    ensures refused { IfErr result (IsRefusalOf rodeo.now.opening (seen pass.new) (map (λ t. t.now) lines.now)) }
+    ensures codes { IfOk result (λ codes. AreCodesOf (list_of rodeo.now pass.new.notes) (lines_of lines.now) codes.items) }
+    ensures refused { IfErr result (IsRefusalOf rodeo.now.opening (seen pass.new) (lines_of lines.now)) }
     ensures legal { IsLegal spur_at rodeo.now.opening (seen pass.new) }
 {
     pass.prove_legal();
     let work = move |worker: usize| -> Share
-        requires { 0 < workers }
-        ensures { IsShareOf rodeo.entry.now (map (λ t. t.now) lines.entry.now) worker workers result.known result.codes }
+        requires some { 0 < workers }
+        requires texts { AreTexts (lines_of lines.now) }
+        ensures { IsShareOf rodeo.entry.now (lines_of lines.entry.now) worker workers result.known result.codes }
     { intern_share(rt, rodeo, lines, worker, workers, gate) };
     let Ok(shares) = map_indices(rt, rt.alloc(), workers, &work) else {
         return Err(RunFault::no_memory(0));
@@ -103,13 +109,14 @@ fn lower(lowest: Option<NumberedError>, other: &NumberedError) -> NumberedError
 fn intern_share<R: AllocGlobal + Wait, G: Gate>(
     rt: &R,
     rodeo: &SpurThreadedRodeo,
-    lines: &[&str],
+    lines: &Stretch<'_>,
     worker: usize,
     workers: usize,
     gate: &G,
 ) -> Share
-    requires { 0 < workers }
-    ensures { IsShareOf rodeo.now (map (λ t. t.now) lines.now) worker workers result.known result.codes }
+    requires some { 0 < workers }
+    requires texts { AreTexts (lines_of lines.now) }
+    ensures { IsShareOf rodeo.now (lines_of lines.now) worker workers result.known result.codes }
 {
     let mut pass = rodeo.pass();
     let codes = intern_by(rt, rodeo, &mut pass, lines, worker, workers, gate);
@@ -120,30 +127,42 @@ fn intern_share<R: AllocGlobal + Wait, G: Gate>(
 }
 
 // Interns the worker's lines, at the positions `worker`, `worker + workers`, `worker + 2 * workers` and so
-// on. Returns the positions of their texts. Stops at the first refused line and returns its error.
+// on. It cuts all lines for that, so no list of them is kept. Returns the positions of their texts. Stops at the
+// first refused line and returns its error.
 fn intern_by<R: AllocGlobal + Wait, G: Gate>(
     rt: &R,
     rodeo: &SpurThreadedRodeo,
     pass: &mut Pass<Spur>,
-    lines: &[&str],
+    lines: &Stretch<'_>,
     worker: usize,
     workers: usize,
     gate: &G,
 ) -> Result<Vec<u32>, NumberedError>
     requires some { 0 < workers }
+    requires texts { AreTexts (lines_of lines.now) }
     requires of { pass.old.of ≡ rodeo.now }
     ensures of { pass.new.of ≡ rodeo.now }
-    ensures refused { IfErr result (IsRefusedBy rodeo.now.opening (seen pass.new) (map (λ t. t.now) lines.now) worker workers) }
-    ensures codes { IfOk result (λ codes. HasCodes (list_of rodeo.now pass.new.notes) (map (λ t. t.now) lines.now) worker workers codes.items) }
+    ensures refused { IfErr result (IsRefusedBy rodeo.now.opening (seen pass.new) (lines_of lines.now) worker workers) }
+    ensures codes { IfOk result (λ codes. HasCodes (list_of rodeo.now pass.new.notes) (lines_of lines.now) worker workers codes.items) }
 {
     let mut codes = Vec::new(rt.alloc());
-    let mut at = worker;
-    while at < lines.len() {
+    let mut rest = lines.copy();
+    let mut next = 1u64;
+    // how many lines come before the worker's next one
+    let mut others = worker;
+    while let Some(line) = rest.next_line() {
+        let number = next;
+        next = next_number(rt, number);
+        if others > 0 {
+            others -= 1;
+            continue;
+        }
+        let Ok(text) = line.text() else {
+            unreachable!();
+        };
         gate.enter(worker);
-        let number = (at as u64).saturating_add(1);
-        let line = lines[at];
-        intern_line(rt, rodeo, pass, line, number, &mut codes)?;
-        at = at.saturating_add(workers);
+        intern_line(rt, rodeo, pass, text, number, &mut codes)?;
+        others = workers - 1;
     }
     Ok(codes)
 }

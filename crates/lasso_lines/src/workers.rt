@@ -13,12 +13,13 @@ ghost use Rattle.lasso_lines.specs.Shares.{AreCodesOf};
 ghost use Rattle.lasso_lines.specs.declared.fault.RunFault.TheVariants.{Usage, WriteFailed, Refused};
 ghost use Rattle.lasso_parts.specs.declared.util.LassoErrorKind.TheVariants.{FailedAllocation};
 
-use crate::cutting::{cut, read_all};
+use crate::cutting::{read_all, test_lines};
 use crate::engine::flush_all;
 use crate::fault::RunFault;
 use crate::ordered::write_in_order;
 use crate::shares::share_out;
 use crate::stream::{ByteReader, ByteWriter};
+use lasso_input::Stretch;
 use lasso_log::log::Pass;
 use lasso_parts::keys::Spur;
 use lasso_parts::util::{Capacity, MemoryLimits};
@@ -96,7 +97,7 @@ fn new_interner(alloc: Global, limits: MemoryLimits) -> Result<SpurThreadedRodeo
     }
 }
 
-// Cuts the input into lines, and interns them with the workers. Returns the positions of the lines' texts,
+// Tests the lines of the input, and interns them with the workers. Returns the positions of the lines' texts,
 // worker by worker, in the list that the pass has seen at the end.
 fn intern_lines<R: AllocGlobal + Threads + Wait + Sync, G: Gate>(
     rt: &R,
@@ -117,6 +118,7 @@ fn intern_lines<R: AllocGlobal + Threads + Wait + Sync, G: Gate>(
     ensures codes { IfOk result (λ codes. AreCodesOf (list_of rodeo.now pass.new.notes) (lines_of input.now) codes.items) }
 {
     pass.prove_legal();
-    let lines = cut(rt, input)?;
+    let lines = Stretch::new(input);
+    test_lines(rt, &lines)?;
     share_out(rt, rodeo, pass, &lines, workers, gate)
 }

@@ -1,72 +1,99 @@
-use Rattle.std.proofs.Common.{ℕ, ◌≡◌, ◌+◌, ◌*◌, ◌<◌, ◌≤◌, ◌∷◌, [], List, Bor, map, length, ap, sym, subst, ◌∙◌, arith, ◌⊎◌, inl, inr}
-use Rattle.std.proofs.lemmas.Bool.{cases_lt}
+use Rattle.std.proofs.Common.{ℕ, ◌≡◌, ◌+◌, ◌*◌, ◌∷◌, ◌∙◌, [], List, length, ap, sym, subst, arith}
 use Rattle.std.proofs.lemmas.Result.{err_from_is_err_and}
-use Rattle.std.proofs.lemmas.List.{length-map}
 use Rattle.lasso_parts.specs.Texts.{Text}
+use Rattle.lasso_input.specs.Lines.{lines_of}
 use Rattle.lasso_log.specs.Views.{list_of, seen}
-use Rattle.lasso_single.specs.Codes.{AreCodes}
-use Rattle.lasso_lines.specs.Shares.{IsRefusalIn, line_at, share}
+use Rattle.lasso_lines.specs.Shares.{AddsCode, HasCodes, IsRefusalIn, line_at}
 use Rattle.lasso_lines.proofs.Lowest.{still_there, lines_coded}
-use Rattle.lasso_lines.proofs.ShareLines.{line_read, share_next}
+use Rattle.lasso_lines.proofs.Turns.{Worked, worked_none, next_utf8, worked_past, turn_inside, turn_number, turn_line, worked_more, worked_all}
 use Rattle.lasso_lines.proofs.shares.intern_by.Goals as goal
 
--- one more line is inside
-inside_more : (long worker workers count : ℕ) → ((n : ℕ) → n < count → worker + n * workers < long) → worker + count * workers < long → (n : ℕ) → n < count + 1 → ((n < count) ⊎ (count ≤ n)) → worker + n * workers < long
-inside_more long worker workers count inside last n small (inl before) = inside n before
-inside_more long worker workers count inside last n small (inr after) = let is : n ≡ count = omega arith in subst (λ k. worker + k * workers < long) (sym is) last
+pub loop-line-init : goal.loop-line-init
+loop-line-init g c =
+    let list = list_of c.args.rodeo.now c.args.pass.now.notes in
+    let lines = lines_of c.args.lines.now in
+    record {
+      of = c.requires.of;
+      worked =
+          subst (λ (cs : List ℕ). Worked list lines (lines_of c.copy-rest.result) c.args.worker c.args.workers 1 c.args.worker cs) (sym c.new-codes.ensures.items)
+          (subst (λ (bs : List ℕ). Worked list lines (lines_of bs) c.args.worker c.args.workers 1 c.args.worker []) (sym c.copy-rest.ensures)
+          (worked_none list lines c.args.worker c.args.workers c.requires.texts));
+    }
 
-pub loop-at-preserved : goal.loop-at-preserved
-loop-at-preserved g c =
-    let now = c.loop-at.invariant in
-    let lines = map (λ (t : Bor Text). t.now) c.args.lines.now in
-    let worker = c.args.worker in
-    let workers = c.args.workers in
-    let count = length c.loop-at.codes.items in
-    let more = length c.intern_line.new.codes.items in
-    let one : more ≡ count + 1 = omega (arith, c.in_ok-intern_line.ensures.one, c.intern_line.new.codes.ok.0, c.loop-at.codes.ok.0) in
-    let next : more * workers ≡ count * workers + workers = ap (λ n. n * workers) one ∙ (omega arith) in
-    let small : c.loop-at.at < length c.args.lines.now = omega (arith, c.loop-at-test.true) in
-    let at : c.loop-at.at ≡ worker + count * workers = now.near small in
-    let told = c.in_ok-intern_line.ensures.coded (share lines worker workers count) now.coded in
-    let same = share_next lines worker workers count c.loop-at.at _ at (line_read c.args.lines.now c.loop-at.at _ small) in
-    let list = list_of c.args.rodeo.now c.intern_line.new.pass.notes in
+-- another worker's line
+pub loop-line-preserved-then-others-gt0 : goal.loop-line-preserved-then-others-gt0
+loop-line-preserved-then-others-gt0 g c =
+    let list = list_of c.args.rodeo.now c.loop-line.pass.notes in
+    let lines = lines_of c.args.lines.now in
+    let more = lines_of c.next_line.new.self in
+    let codes = c.loop-line.codes.items in
+    let now = subst (λ (ls : List Text). Worked list lines ls c.args.worker c.args.workers c.loop-line.next c.loop-line.others codes) c.in-Some.ensures.lines c.loop-line.invariant.worked in
+    record {
+      of = c.loop-line.invariant.of;
+      worked =
+          worked_past list lines more c.in-Some.line c.args.worker c.args.workers c.loop-line.next c.loop-line.others codes now _ _ (omega (arith, c.if-others-gt0.true)) c.next_number-next.ensures
+          (omega arith);
+    }
+
+pub loop-line-preserved : goal.loop-line-preserved
+loop-line-preserved g c =
+    let before = list_of c.args.rodeo.now c.loop-line.pass.notes in
+    let after = list_of c.args.rodeo.now c.intern_line.new.pass.notes in
+    let lines = lines_of c.args.lines.now in
+    let more = lines_of c.next_line.new.self in
+    let codes = c.loop-line.codes.items in
+    let codes' = c.intern_line.new.codes.items in
+    let now = subst (λ (ls : List Text). Worked before lines ls c.args.worker c.args.workers c.loop-line.next c.loop-line.others codes) c.in-Some.ensures.lines c.loop-line.invariant.worked in
+    let adds = subst (AddsCode before codes after codes') c.in-Ok.ensures.0 c.in_ok-intern_line.ensures.coded in
     record {
       of = c.in_ok-intern_line.ensures.of;
-      near = λ low. omega (arith, next, at, c.saturating_add-at.ensures);
-      far = omega (arith, next, at, c.saturating_add-at.ensures);
-      inside = λ n below. inside_more (length c.args.lines.now) worker workers count now.inside (omega (arith, at, small)) n (omega (arith, one)) (cases_lt n count);
-      coded =
-          subst (λ k. AreCodes list (share lines worker workers k) c.intern_line.new.codes.items) (sym one)
-          (subst (λ (ts : List Text). AreCodes list ts c.intern_line.new.codes.items) same told);
+      worked =
+          worked_more before lines more c.in-Some.line c.args.worker c.args.workers c.loop-line.next c.loop-line.others codes now (omega (arith, c.if-others-gt0.false)) after _ _ codes' c.requires.some
+          c.next_number-next.ensures (omega arith) (omega (arith, c.in_ok-intern_line.ensures.one, c.intern_line.new.codes.ok.0, c.loop-line.codes.ok.0)) adds;
     }
 
 pub returns-clause-codes : goal.returns-clause-codes
 returns-clause-codes g c =
-    let now = c.loop-at.invariant in
-    let lines = map (λ (t : Bor Text). t.now) c.args.lines.now in
-    let long : length lines ≡ length c.args.lines.now = length-map c.args.lines.now (λ (t : Bor Text). t.now) in (
-      length c.loop-at.codes.items,
-      record { inside = λ n small. omega (arith, long, now.inside n small); whole = omega (arith, long, now.far, c.loop-at-test.false) },
-      now.coded,
-    )
+    let list = list_of c.args.rodeo.now c.loop-line.pass.notes in
+    let lines = lines_of c.args.lines.now in
+    let codes = c.loop-line.codes.items in
+    let now = subst (λ (bs : List ℕ). Worked list lines (lines_of bs) c.args.worker c.args.workers c.loop-line.next c.loop-line.others codes) c.in_default.ensures.lines c.loop-line.invariant.worked in
+    worked_all list lines c.args.worker c.args.workers c.loop-line.next c.loop-line.others codes now
 
 -- the refused line is the worker's next one
 pub returns-in_err-intern_line-clause-refused : goal.returns-in_err-intern_line-clause-refused
 returns-in_err-intern_line-clause-refused g c =
-    let now = c.loop-at.invariant in
     let p = err_from_is_err_and c.from_residual.result c.from_residual.ensures.1 in
-    let lines = map (λ (t : Bor Text). t.now) c.args.lines.now in
-    let count = length c.loop-at.codes.items in
-    let long : length lines ≡ length c.args.lines.now = length-map c.args.lines.now (λ (t : Bor Text). t.now) in
-    let small : c.loop-at.at < length c.args.lines.now = omega (arith, c.loop-at-test.true) in
-    let at : c.loop-at.at ≡ c.args.worker + count * c.args.workers = now.near small in
+    let of = c.args.rodeo.now in
+    let before = list_of of c.loop-line.pass.notes in
+    let after = list_of of c.intern_line.new.pass.notes in
     let past = seen c.intern_line.new.pass in
+    let lines = lines_of c.args.lines.now in
+    let more = lines_of c.next_line.new.self in
+    let worker = c.args.worker in
+    let workers = c.args.workers in
+    let codes = c.loop-line.codes.items in
+    let count = length codes in
+    let turn : c.loop-line.others ≡ 0 = omega (arith, c.if-others-gt0.false) in
+    let now = subst (λ (ls : List Text). Worked before lines ls worker workers c.loop-line.next c.loop-line.others codes) c.in-Some.ensures.lines c.loop-line.invariant.worked in
+    let line = c.in-Some.line in
+    let next = c.loop-line.next in
+    let others = c.loop-line.others in
+    let here = c.in-Ok.ensures.0 ∙ sym (turn_line before lines more line worker workers next others codes now turn) in
     rw (p.1, p.2) (
       count,
-      omega (arith, long, at, small),
-      omega (arith, at, c.in_err-intern_line.ensures.number),
-      subst (λ (t : Text). IsRefusalIn c.args.rodeo.now.opening past (t ∷ []) c.in_err-intern_line.field-0.0.1) (sym (ap (line_at lines) (sym at) ∙ line_read c.args.lines.now c.loop-at.at _ small)) c.in_err-intern_line.ensures.reason,
-      λ j below.
-          still_there (list_of c.args.rodeo.now c.loop-at.pass.notes) (list_of c.args.rodeo.now c.intern_line.new.pass.notes) (line_at lines (c.args.worker + j * c.args.workers)) c.in_err-intern_line.ensures.grows
-          (lines_coded (list_of c.args.rodeo.now c.loop-at.pass.notes) lines c.args.worker c.args.workers count c.loop-at.codes.items now.coded j below),
+      turn_inside before lines more line worker workers next others codes now turn,
+      c.in_err-intern_line.ensures.number ∙ turn_number before lines more line worker workers next others codes now turn,
+      subst (λ (t : Text). IsRefusalIn of.opening past (t ∷ []) c.in_err-intern_line.field-0.0.1) here c.in_err-intern_line.ensures.reason,
+      λ j below. still_there before after (line_at lines (worker + j * workers)) c.in_err-intern_line.ensures.grows (lines_coded before lines worker workers count codes now.coded j below),
     )
+
+-- each line is UTF-8
+pub unreachable-requires : goal.unreachable-requires
+unreachable-requires g c =
+    let before = list_of c.args.rodeo.now c.loop-line.pass.notes in
+    let lines = lines_of c.args.lines.now in
+    let more = lines_of c.next_line.new.self in
+    let codes = c.loop-line.codes.items in
+    let now = subst (λ (ls : List Text). Worked before lines ls c.args.worker c.args.workers c.loop-line.next c.loop-line.others codes) c.in-Some.ensures.lines c.loop-line.invariant.worked in
+    c.in_default-text.ensures (next_utf8 before lines more c.in-Some.line c.args.worker c.args.workers c.loop-line.next c.loop-line.others codes now)

@@ -1,6 +1,6 @@
-use Rattle.std.proofs.Common.{ℕ, ◌<◌, ◌≤◌, ◌∙◌, List, Option, None, Bor, inr, map, refl, sym, subst, arith}
+use Rattle.std.proofs.Common.{ℕ, ◌<◌, ◌≤◌, ◌∙◌, List, Option, None, inr, refl, sym, subst, arith}
 use Rattle.std.specs.Prelude.{IfSome}
-use Rattle.lasso_parts.specs.Texts.{Text}
+use Rattle.lasso_input.specs.Lines.{lines_of}
 use Rattle.lasso_single.specs.Coding.{spur_at}
 use Rattle.lasso_log.specs.History.{IsLegal}
 use Rattle.lasso_log.specs.Views.{InternerId, list_of, seen}
@@ -13,7 +13,7 @@ use Rattle.lasso_lines.proofs.shares.share_out.Goals as goal
 
 pub loop-share-init : goal.loop-share-init
 loop-share-init g c =
-    let lines = map (λ (t : Bor Text). t.now) c.args.lines.now in
+    let lines = lines_of c.args.lines.now in
     let list = list_of c.args.rodeo.now c.args.pass.now.notes in
     record {
       same = (refl, refl);
@@ -26,7 +26,7 @@ loop-share-init g c =
 pub loop-share-preserved : goal.loop-share-preserved
 loop-share-preserved g c =
     let of = c.args.rodeo.now in
-    let lines = map (λ (t : Bor Text). t.now) c.args.lines.now in
+    let lines = lines_of c.args.lines.now in
     let workers = c.args.workers in
     let share = c.loop-share.share in
     let done = c.index-done.result.now in
@@ -55,7 +55,7 @@ loop-share-preserved g c =
 
 pub returns-clause-codes : goal.returns-clause-codes
 returns-clause-codes g c =
-    let lines = map (λ (t : Bor Text). t.now) c.args.lines.now in
+    let lines = lines_of c.args.lines.now in
     gathered_all (list_of c.args.rodeo.now c.loop-share.pass.notes) lines c.args.workers c.loop-share.share c.loop-share.codes.items c.requires.some
     (omega (arith, c.loop-share-test.false, c.len-share-end.ensures, c.in-Ok.ensures.len)) (c.loop-share.invariant.gathered c.in-None.is)
 
@@ -63,7 +63,7 @@ returns-clause-codes g c =
 pub returns-in-Some-clause-refused : goal.returns-in-Some-clause-refused
 returns-in-Some-clause-refused g c =
     let of = c.args.rodeo.now in
-    let lines = map (λ (t : Bor Text). t.now) c.args.lines.now in
+    let lines = lines_of c.args.lines.now in
     let told : NumberedError = (c.in-Some.number, c.in-Some.error) in
     let why : IsRefusedIn of.opening (seen c.loop-share.pass) lines told =
     subst (λ (r : Option NumberedError). IfSome r (IsRefusedIn of.opening (seen c.loop-share.pass) lines)) c.in-Some.is c.loop-share.invariant.refused in

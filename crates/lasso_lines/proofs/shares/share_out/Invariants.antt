@@ -1,5 +1,6 @@
-use Rattle.std.proofs.Common.{◌≡◌, None, map}
+use Rattle.std.proofs.Common.{◌≡◌, None}
 use Rattle.std.specs.Prelude.{IfSome}
+use Rattle.lasso_input.specs.Lines.{lines_of}
 use Rattle.lasso_single.specs.Coding.{spur_at}
 use Rattle.lasso_log.specs.History.{IsLegal}
 use Rattle.lasso_log.specs.Views.{list_of, seen, IsSamePass}
@@ -14,8 +15,8 @@ use Rattle.lasso_lines.proofs.shares.share_out.Given as goal
 abbrev pub invariant-loop-share : goal.invariant-loop-share
 invariant-loop-share g l = record {
   same : IsSamePass l.pass l.fn.pass;
-  gathered : l.lowest ≡ None → Gathered (list_of l.rodeo l.pass.notes) (map (λ t. t.now) l.lines) l.workers l.share l.codes.items;
-  refused : IfSome l.lowest (IsRefusedIn l.rodeo.opening (seen l.pass) (map (λ t. t.now) l.lines));
-  reached : AreReached (list_of l.rodeo l.pass.notes) (map (λ t. t.now) l.lines) l.workers l.share l.lowest;
+  gathered : l.lowest ≡ None → Gathered (list_of l.rodeo l.pass.notes) (lines_of l.lines) l.workers l.share l.codes.items;
+  refused : IfSome l.lowest (IsRefusedIn l.rodeo.opening (seen l.pass) (lines_of l.lines));
+  reached : AreReached (list_of l.rodeo l.pass.notes) (lines_of l.lines) l.workers l.share l.lowest;
   legal : IsLegal spur_at l.rodeo.opening (seen l.pass);
 }
