@@ -10,24 +10,21 @@ ghost use Rattle.lasso_log.specs.Openings.{OpeningView, opening_with};
 ghost use Rattle.lasso_log.specs.SharedBuckets.{SharedView};
 ghost use Rattle.lasso_log.specs.Views.{InternerId, SpineView};
 
-use crate::chunks::facts::{Lines, OpensWith};
+use crate::chunks::facts::Lines;
 use crate::chunks::{Chunk, Chunks};
 use crate::log::bucket::SharedBucket;
 use crate::log::memory::TextMemory;
-use crate::log::note::Note;
-use crate::log::rule::{LogRule, StoredText};
+use crate::log::new_book::{First, NewBook};
+use crate::log::rule::StoredText;
 use crate::log::shared_log::Log;
 use crate::log::spine::Spine;
-use crate::log::turns::Turns;
 use crate::shared_memory::era::Era;
 use crate::shared_memory::holding::Holdings;
 use crate::shared_memory::new_bucket::NewBucket;
 use crate::shared_memory::piece::Piece;
-use boxcar::tag::Tag;
 use lasso_lock::locks::TaggedMutex;
 use lasso_parts::keys::Key;
 use lasso_parts::util::LassoResult;
-use logbook::{Opening, Seen, Word};
 use std::alloc::{AllocError, Global};
 use std::marker::Model;
 
@@ -131,35 +128,6 @@ impl OpeningTexts {
     }
 }
 
-/// What the first note of a log records.
-#[derive(Drop)]
-pub struct First<'a> {
-    pub size: u64,
-    pub used: u64,
-    pub limit: u64,
-    pub site: &'a Tag,
-    pub known: &'a Lines<StoredText, Chunk<StoredText>>,
-}
-
-/// The first note of a log.
-pub struct ByOpening;
-
-impl<'a> Opening<First<'a>, Note> for ByOpening {
-    ghost use Rattle.std.specs.Prelude.{[], ◌∷◌};
-    ghost use Rattle.lasso_log.specs.Events.{bucket_at};
-    ghost use Rattle.lasso_log.specs.Openings.{note_of_opening};
-
-    ghost log = { λ count o. note_of_opening o.known.now.texts (bucket_at o.site.now.numbers o.size o.used) o.limit ∷ [] };
-}
-
-impl<'a> OpensWith<First<'a>, Note> for ByOpening {
-    ghost use Rattle.std.specs.Prelude.{[], ◌∷◌};
-    ghost use Rattle.lasso_log.specs.Events.{bucket_at};
-    ghost use Rattle.lasso_log.specs.Notes.{shown_note};
-
-    ghost shown = { λ o. shown_note o.known.now.texts (bucket_at o.site.now.numbers o.size o.used ∷ []) };
-}
-
 /// What a new log comes with: its spine, and its first bucket.
 #[derive(Drop)]
 pub struct NewLog<K: Key> {
@@ -197,71 +165,41 @@ impl<K: Key> Log<K> {
         ensures turns { (result.spine.turns.of ≡ result.log) × (result.spine.turns.notes ≡ []) × (result.spine.turns.count ≡ 1) }
         ensures bucket { (result.bucket.of ≡ result.log) × (result.bucket.position ≡ 0) × (result.bucket.site ≡ texts.bucket.site) × (result.bucket.size ≡ texts.bucket.size) × (result.bucket.base ≡ texts.bucket.used) }
     {
-        let OpeningTexts {
-            memory,
-            len,
-            lines,
-            known,
-            bucket,
-        } = texts;
         let NewBucket {
             ptr,
             size,
             taken,
             site,
             right,
-        } = bucket;
+        } = texts.bucket;
         let (size, base) = (size as u64, taken as u64);
-        let about = First {
+        let (lines, known) = (texts.lines, texts.known);
+        let first = First {
             size,
             used: base,
             limit,
             site: &site,
             known: &known,
         };
-        let start = lines.start::<_, _, First<'_>, ByOpening>(&about, right);
-        let (seen, mut pens) = Seen::<Note, u64, LogRule<K>>::open_row::<First<'_>, ByOpening>(
-            &about, start, 3,
-        );
-        let mut pen = pens.take();
-        let head = Word::tracked(0, &mut pen);
-        let mut pen = pens.take();
-        let turns = Word::tracked(0, &mut pen);
-        let mut pen = pens.take();
-        let word = Word::tracked(0, &mut pen);
+        let book = NewBook::open(&first, lines, right);
+        let spine = book.spine(&first, texts.len);
         let bucket = SharedBucket {
-            word,
+            word: book.bucket,
             ptr,
             size,
             base,
             position: 0,
             site,
-            seen: seen.again(),
+            seen: book.seen.again(),
         };
-        let no_turns = Turns {
-            turns: 0,
-            doubling: size,
-            usage: size,
-            limit,
-            count: 1,
-            seen: seen.again(),
-        };
-        let spine = Spine {
-            kept: 0,
-            first: len,
-            appended: 0,
-            seen: seen.again(),
-            turns: no_turns,
-        };
-        let first = len;
         let log = Log {
             padding_before: [0; 8],
-            head,
+            head: book.head,
             padding_after: [0; 8],
-            turns,
-            memory,
-            first,
-            seen,
+            turns: book.turns,
+            memory: texts.memory,
+            first: texts.len,
+            seen: book.seen,
         };
         NewLog { log, spine, bucket }
     }
