@@ -53,7 +53,7 @@ impl<T> HasCells for Vec<OnceSlot<T, Any>> {
 pub struct Chunks<T: Drop> {
     chunks: Vec<OnceSlot<Chunk<T>, ByNumber>>,
     era: Era,
-    // Any two tokens. They have no bytes.
+    // Two tokens to copy, since `found_chunk` and `found_item` want one of the right type. They have no bytes.
     chunk: Written<Chunk<T>>,
     item: Written<T>,
 }
@@ -72,7 +72,7 @@ impl<T: Drop> Model for Chunks<T> {
     ghost invariant = { λ r. IsNumbered 60 r.chunks.items };
 }
 
-// The era ends with them.
+// Drops the chunks and ends their era.
 impl<T: Drop> Drop for Chunks<T> {
     fn drop(self) {
         drop(self.end());

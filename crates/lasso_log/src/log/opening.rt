@@ -1,11 +1,12 @@
 //! The opening of a log. Used by the makers of interners.
-ghost use Rattle.std.specs.Prelude.{◌≡◌, ◌≢◌, ◌+◌, ◌≤◌, ◌<◌, [], ◌∷◌, ◌++◌, length, IfOk, IfErr, OnOk, OnErr, IfSome, IfNone};
+ghost use Rattle.std.specs.Prelude.{◌≡◌, ◌≢◌, ◌+◌, ◌<◌, [], ◌∷◌, ◌++◌, length, IfOk, IfErr, OnOk, OnErr, IfSome, IfNone};
 ghost use base.Fml.{Incl};
 ghost use Rattle.lasso_parts.specs.declared.util.LassoErrorKind.TheVariants.{FailedAllocation};
 ghost use Rattle.lasso_parts.specs.Texts.{IsDistinct, Fits};
 ghost use Rattle.lasso_log.specs.Eras.{life};
 ghost use Rattle.lasso_log.specs.History.{opened};
 ghost use Rattle.lasso_log.specs.LentBuckets.{LentBucket};
+ghost use Rattle.lasso_log.specs.NewBuckets.{TakesBytes, IsSharedAs};
 ghost use Rattle.lasso_log.specs.Openings.{OpeningView, opening_with};
 ghost use Rattle.lasso_log.specs.SharedBuckets.{SharedView};
 ghost use Rattle.lasso_log.specs.Views.{InternerId, SpineView};
@@ -42,7 +43,7 @@ pub struct Opened {
 pub struct OpeningTexts {
     memory: TextMemory,
     len: u64,
-    // What shows that the cells are filled: for the book, and for its first note. It has no bytes.
+    // Both show that the cells are filled, and have no bytes. The book takes `lines`; its first note records `known`.
     lines: Lines<StoredText, Chunk<StoredText>>,
     known: Lines<StoredText, Chunk<StoredText>>,
     bucket: NewBucket,
@@ -98,7 +99,7 @@ impl OpeningTexts {
     pub fn copy_in(&mut self, text: &str) -> Option<Piece>
         ensures piece { IfSome result (λ p. (p.text ≡ text.now) × (p.until ≡ life self.old.bucket.site.era)) }
         ensures texts { self.new.texts ≡ self.old.texts }
-        ensures bucket { IfSome result (λ p. (self.new.bucket.site ≡ self.old.bucket.site) × (self.new.bucket.size ≡ self.old.bucket.size) × (self.new.bucket.used ≡ self.old.bucket.used + length text.now)) }
+        ensures bucket { IfSome result (λ p. TakesBytes self.old.bucket self.new.bucket (length text.now)) }
         ensures none { IfNone result ((self.new.bucket ≡ self.old.bucket) × (self.old.bucket.size < self.old.bucket.used + length text.now)) }
     {
         let range = self.bucket.reserve(text.len())?;
@@ -163,7 +164,7 @@ impl<K: Key> Log<K> {
         ensures opening { result.log.opening ≡ opening_with texts limit }
         ensures spine { (result.spine.of ≡ result.log) × (result.spine.notes ≡ []) × (result.spine.kept ≡ 0) }
         ensures turns { (result.spine.turns.of ≡ result.log) × (result.spine.turns.notes ≡ []) × (result.spine.turns.count ≡ 1) }
-        ensures bucket { (result.bucket.of ≡ result.log) × (result.bucket.position ≡ 0) × (result.bucket.site ≡ texts.bucket.site) × (result.bucket.size ≡ texts.bucket.size) × (result.bucket.base ≡ texts.bucket.used) }
+        ensures bucket { IsSharedAs result.log 0 texts.bucket texts.bucket.used result.bucket }
     {
         let NewBucket {
             ptr,

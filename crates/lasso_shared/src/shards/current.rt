@@ -40,8 +40,8 @@ impl<K: Key, S: BuildHasher + Drop> Shards<K, S> {
         tally.counts[number] == shard.count
     }
 
-    // Locks the spine once the held shard is whole: it compares the shard with the spine's number of it, until
-    // they are equal and the length is the spine's. The shard's index is exact for what the pass has then seen.
+    // Retries until the locked shard has as many texts as the spine counts for it, and the length is the spine's, and returns
+    // with the spine locked. The shard's index is then exact for what the pass has seen.
     pub(super) fn lock_current<R: Wait>(
         &self,
         rt: &R,
@@ -69,8 +69,8 @@ impl<K: Key, S: BuildHasher + Drop> Shards<K, S> {
         unreachable!()
     }
 
-    // The same, for a caller that needs no spine. It stays out of line, so that present texts set up nothing for
-    // it.
+    // Does the same for a caller that needs no spine. It is not inlined, so that a look-up of a present text sets up
+    // nothing for it.
     #[inline(never)]
     pub(super) fn wait_current<R: Wait>(
         &self,

@@ -24,7 +24,7 @@ use std::hash::BuildHasher;
 use std::sync::Wait;
 
 impl<K: Key, S: BuildHasher + Drop> Shards<K, S> {
-    // Interns a text of the held shard.
+    // Interns a text whose shard the caller has locked.
     fn intern_held<R: Wait>(
         &self,
         rt: &R,
@@ -48,7 +48,7 @@ impl<K: Key, S: BuildHasher + Drop> Shards<K, S> {
         self.put_last(rt, shard, pass, ahead, hash, piece)
     }
 
-    // Interns a text that the first look-up did not find. It stays out of line, so that present texts set up
+    // Interns a text that the first look-up did not find. It is not inlined, so that a call with a present text sets up
     // nothing for it.
     #[inline(never)]
     pub(super) fn intern_new<R: Wait>(

@@ -30,8 +30,8 @@ pub(super) fn key_at<K: Key>(known: &Snapshot<K>, position: usize) -> K
 }
 
 impl<K: Key, S: BuildHasher + Drop> Shards<K, S> {
-    // The position of the text in a history that begins with the shard's own, where the shard's index has it.
-    // Else the list of the shard's own history lacks it.
+    // The position of the text in a history that begins with the shard's own, if the shard's index has it.
+    // Otherwise the list of the shard's own history lacks the text.
     #[inline(always)]
     fn find_position(
         &self,
@@ -52,8 +52,8 @@ impl<K: Key, S: BuildHasher + Drop> Shards<K, S> {
         shard.index.find_hashed(&texts, &self.hasher, hash, text)
     }
 
-    // The key of the text, where the shard's index has it. Else the list of the shard's own history, which is
-    // legal, lacks it.
+    // The key of the text, if the shard's index has it. Otherwise the list of the shard's own history, which is
+    // legal, lacks the text.
     #[inline(always)]
     fn find_key(&self, shard: &Shard<K, S>, hash: u64, text: &str) -> Option<K>
         requires hashed { hash ≡ hash_by S.BuildHasher S.Hasher.Hasher self.now.hasher text.now }
@@ -68,8 +68,8 @@ impl<K: Key, S: BuildHasher + Drop> Shards<K, S> {
         }
     }
 
-    // The same in the history that the pass has then seen. The pass learns the shard's own, and keeps a hint
-    // of a present text.
+    // The key of the text, if the shard's index has it. The pass learns the shard's own history, and keeps a hint of a
+    // present text.
     #[inline(always)]
     pub(super) fn find(
         &self,
@@ -137,7 +137,7 @@ impl<K: Key, S: BuildHasher + Drop> Shards<K, S> {
         found
     }
 
-    // The key of the text, where the shard's index has it, without a pass. Other readers may look up at the
+    // The key of the text, if the shard's index has it, without a pass. Other readers may look up at the
     // same time.
     #[inline(always)]
     pub(super) fn glance<R: Wait>(&self, rt: &R, hash: u64, text: &str) -> Option<K>
@@ -150,7 +150,8 @@ impl<K: Key, S: BuildHasher + Drop> Shards<K, S> {
         found
     }
 
-    // The key of the text in the list that the pass has then seen, or none where that list lacks it. The shard is held.
+    // The key of the text in the list that the pass has then seen, or none if that list lacks it. The caller has locked the
+    // shard.
     #[inline(always)]
     fn look_up<R: Wait>(
         &self,
@@ -174,7 +175,7 @@ impl<K: Key, S: BuildHasher + Drop> Shards<K, S> {
         None
     }
 
-    // The same; the shard is locked for reading meanwhile.
+    // Does the same, and locks the shard for reading.
     #[inline(always)]
     pub(super) fn get_locked<R: Wait>(
         &self,

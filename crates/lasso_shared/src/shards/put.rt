@@ -30,8 +30,8 @@ use std::hash::BuildHasher;
 use std::sync::Wait;
 
 impl<K: Key, S: BuildHasher + Drop> Shards<K, S> {
-    // Returns the cells of the log ahead of its length. Where they are not made yet the spine is held, so
-    // that one thread makes them.
+    // Returns the cells of the log ahead of its length. If they are not made yet, the spine is locked, so that one
+    // thread makes them.
     fn cells_ahead<R: Wait>(&self, rt: &R, pass: &mut Pass<K>) -> LassoResult<CellsAhead<K>>
         requires { pass.old.of ≡ self.now.log }
         ensures same { IsSamePass pass.new pass.old }
@@ -48,7 +48,7 @@ impl<K: Key, S: BuildHasher + Drop> Shards<K, S> {
         made
     }
 
-    // Makes room in the shard's index and in the log. Out of memory, the shard has the texts that it had.
+    // Makes room for one text in the shard's index, and cells in the log. Out of memory, the shard keeps its texts.
     fn grow<R: Wait>(
         &self,
         rt: &R,
@@ -73,7 +73,7 @@ impl<K: Key, S: BuildHasher + Drop> Shards<K, S> {
         self.cells_ahead(rt, pass)
     }
 
-    // The same; out of memory, the shard is also whole for what the pass has then seen.
+    // Makes the same room. Out of memory, the shard is also whole for what the pass has then seen.
     pub(super) fn make_room<R: Wait>(
         &self,
         rt: &R,
@@ -103,8 +103,8 @@ impl<K: Key, S: BuildHasher + Drop> Shards<K, S> {
         }
     }
 
-    // Puts the text last, where the shard is whole for what the pass has seen, and the spine has seen that list. Where the key
-    // type has no key for its position, the cell is given back.
+    // Appends the text. The shard must be whole for what the pass has seen, and the spine must have seen that list. If the key
+    // type has no key for the position, the cell is given back.
     fn append_at<R: Wait>(
         &self,
         rt: &R,
@@ -136,6 +136,7 @@ impl<K: Key, S: BuildHasher + Drop> Shards<K, S> {
             return Err(LassoError::new(LassoErrorKind::KeySpaceExhaustion));
         };
         self.log.append(rt, &mut tally.spine, pass, cell, text);
+        // The length of the longer list fits in 64 bits, so the shard's count, which is not above it, can't overflow.
         let _len = tally.spine.len();
         shard.index.insert_reserved(hash, key);
         shard.known = pass.snapshot();
@@ -144,9 +145,9 @@ impl<K: Key, S: BuildHasher + Drop> Shards<K, S> {
         Ok(key)
     }
 
-    // Puts the text last, once the shard is whole for what the pass has then seen. The caller has made cells
-    // ahead, so the loop asks for no memory. It tries again where the text's cell is not made, which cannot
-    // happen while each caller holds a shard and made its cells in that hold.
+    // Appends the text, once the shard is whole for what the pass has then seen. The caller has made cells
+    // ahead, so the loop asks for no memory. It tries again if the text's cell is not made, which can't
+    // happen while each caller locks a shard and made its cells under that lock.
     pub(super) fn put_last<R: Wait>(
         &self,
         rt: &R,

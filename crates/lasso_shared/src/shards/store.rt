@@ -32,9 +32,9 @@ use std::hash::BuildHasher;
 use std::sync::Wait;
 
 impl<K: Key, S: BuildHasher + Drop> Shards<K, S> {
-    // Takes `bytes` bytes, at least one, with the spine held: in a bucket that has room for them, or else in
-    // a new one. A refusal leaves no event, and one by the limit comes at a step at which the list is as long
-    // as the spine's.
+    // Takes `bytes` bytes, at least one, with the spine locked: in a bucket that has room for them, or else in
+    // a new one. A refusal adds no event. If the limit refuses, it does so at a step at which the list is as
+    // long as the spine's.
     fn reserve_or_charge<R: Wait>(
         &self,
         rt: &R,
@@ -60,7 +60,8 @@ impl<K: Key, S: BuildHasher + Drop> Shards<K, S> {
         self.log.charge(rt, self.alloc, &self.buckets, &mut tally.spine, pass, bytes)
     }
 
-    // Takes the bytes of a text that is not empty and that the held shard lacks. The reply to a refusal is explained.
+    // Takes the bytes of a text that is not empty and that the locked shard lacks. If they are refused, the call of the pass
+    // that interns the text may return that refusal.
     fn take_bytes<R: Wait>(
         &self,
         rt: &R,
@@ -90,8 +91,8 @@ impl<K: Key, S: BuildHasher + Drop> Shards<K, S> {
         range
     }
 
-    // The text where it lies from then on, as long as the interner: a copy that is not empty lies in a bucket. The
-    // held shard lacks the text.
+    // Returns the text at its lasting place: a copy in a bucket, or the text itself if it is static or empty. The locked
+    // shard must lack the text.
     pub(super) fn store<R: Wait>(
         &self,
         rt: &R,
