@@ -10,8 +10,8 @@ abbrev pub IsNextOf : LentBucket → ℕ → RangeView → Type 0
 IsNextOf b n r = (r.era ≡ b.site.era) × (r.block ≡ b.site.block) × (r.start ≡ b.site.start + b.used) × (r.len ≡ n)
 
 -- n more bytes of the bucket are taken
-abbrev pub TakesBytes : (before after : LentBucket) → ℕ → Type 0
-TakesBytes before after n = (after.site ≡ before.site) × (after.size ≡ before.size) × (after.used ≡ before.used + n)
+abbrev pub TakesNext : (before after : LentBucket) → ℕ → Type 0
+TakesNext before after n = (after.site ≡ before.site) × (after.size ≡ before.size) × (after.used ≡ before.used + n)
 
 -- the shared bucket is the new one b, at this position of the interner's history; `base` of its bytes were taken before
 abbrev pub IsSharedAs : InternerId → (position : ℕ) → LentBucket → (base : ℕ) → SharedView → Type 0

@@ -25,13 +25,15 @@ opening_with o limit = opened o.texts o.bucket.size o.bucket.used limit
 abbrev pub note_of_opening : List Text → LentBucket → ℕ → NoteView
 note_of_opening texts b limit = record (opening_note (opened texts b.size b.used limit)) { lent = b ∷ [] }
 
--- what the first note of a log records: the bucket, the opening, and the note itself
+-- the bucket that the first note of a log records
 abbrev pub first_bucket : First → LentBucket
 first_bucket f = bucket_at f.site.now.numbers f.size f.used
 
+-- the opening that it records
 abbrev pub first_opening : First → Totals
 first_opening f = opened f.known.now.texts f.size f.used f.limit
 
+-- the note itself
 abbrev pub first_note_of : First → NoteView
 first_note_of f = note_of_opening f.known.now.texts (first_bucket f) f.limit
 

@@ -24,14 +24,14 @@ const CHUNKS: usize = 60;
 
 const FIRST_LENGTH: u64 = 32;
 
-/// Nothing is asked of what a cell holds.
+/// The rule of a cell: it may hold anything.
 pub struct Any;
 
 impl<T> SlotRule<T> for Any {
     ghost holds = { λ tag x. Unit {0} };
 }
 
-/// A chunk has the length that its number gives it.
+/// The rule of a chunk: it has the length that its number gives it.
 pub struct ByNumber;
 
 impl<T> SlotRule<Vec<OnceSlot<T, Any>>> for ByNumber {

@@ -56,8 +56,8 @@ impl<T: HasText, V: HasCells> Lines<T, V> {
         ensures texts { self.new.texts ≡ self.old.texts ++ T.meaning item.now.value ∷ [] }
     {}
 
-    /// What a book keeps at its opening, which has one bucket: that the texts of its list are in the chunks, and the right to
-    /// the bucket's bytes that nobody has taken, which is handed in. That it names no token of one thread is what the opening asks for.
+    /// What a book with one bucket keeps at its opening: the fact that the texts of its list are in the chunks, and the right to
+    /// the bucket's bytes that nobody has taken. A book is opened only with what any thread may use, as `calm` says of both.
     pub fn start<E, B: Listed<E>, X, M: OpensWith<X, E>>(
         self,
         about: &X,
@@ -76,7 +76,7 @@ impl<T: HasText, V: HasCells> Lines<T, V> {
     }
 }
 
-/// An update that puts a text last, with what shows that the cell of its position is filled with it.
+/// An update that puts a text last. `chunk` and `item` show that the cell of its position is filled with it.
 pub fn hand_in<E, B: Listed<E>, T: HasText, V: HasCells, X, M: Plain<X, E, u64>>(
     seen: &Seen<E, u64, InChunks<B, T, V>>,
     chunk: &Written<V>,

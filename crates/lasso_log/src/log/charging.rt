@@ -1,7 +1,7 @@
 //! The step that adds a bucket to a history, and hands in the right to its bytes that are not taken. Used by the spine.
 ghost use Rattle.std.specs.Prelude.{◌≡◌, ◌≢◌, ◌+◌, ◌<◌, ◌≤◌, ◌^◌, ◌∷◌, [], Some, MatchBool};
 ghost use mathlib.Core.List.{IsPrefix};
-ghost use Rattle.lasso_log.specs.Bids.{IsBid};
+ghost use Rattle.lasso_log.specs.Bids.{Serves};
 ghost use Rattle.lasso_log.specs.Book.{IsIn};
 ghost use Rattle.lasso_log.specs.Buckets.{bucket_size, doubling_after};
 ghost use Rattle.lasso_log.specs.History.{Charge};
@@ -48,9 +48,9 @@ impl<K: Key> Log<K> {
     ) -> (Bid<K>, bool)
         requires of { bid.seen.book ≡ self.now.book }
         requires sum { turns + 1 < 2 ^ 64 }
-        requires bid { IsBid K.key_at before.now.log given.now.log turns bid.seen.log bid.seen.book bid.seen.names bid.pen.book bid.pen.nib bid.offer.names bid.offer.ask bid.offer.state }
+        requires bid { Serves K.key_at before.now.log given.now.log turns bid }
         ensures same { (result.0.seen.book ≡ bid.seen.book) × (result.0.seen.names ≡ bid.seen.names) × (result.0.offer.ask ≡ bid.offer.ask) × IsPrefix bid.seen.log result.0.seen.log }
-        ensures done { MatchBool result.1 (IsIn K.key_at (opening_of before.now.log) before.now.log given.now.log result.0.seen.log bid.offer.ask 1 1 turns) (IsBid K.key_at before.now.log given.now.log turns result.0.seen.log result.0.seen.book result.0.seen.names result.0.pen.book result.0.pen.nib result.0.offer.names result.0.offer.ask result.0.offer.state) }
+        ensures done { MatchBool result.1 (IsIn K.key_at (opening_of before.now.log) before.now.log given.now.log result.0.seen.log bid.offer.ask 1 1 turns) (Serves K.key_at before.now.log given.now.log turns result.0) }
     {
         let Bid {
             mut seen,
@@ -81,7 +81,7 @@ impl<K: Key> Log<K> {
     ) -> Seen<Note, u64, LogRule<K>>
         requires of { bid.seen.book ≡ self.now.book }
         requires sum { turns + 1 < 2 ^ 64 }
-        requires bid { IsBid K.key_at before.now.log given.now.log turns bid.seen.log bid.seen.book bid.seen.names bid.pen.book bid.pen.nib bid.offer.names bid.offer.ask bid.offer.state }
+        requires bid { Serves K.key_at before.now.log given.now.log turns bid }
         ensures same { (result.book ≡ bid.seen.book) × (result.names ≡ bid.seen.names) × IsPrefix bid.seen.log result.log }
         ensures done { IsIn K.key_at (opening_of before.now.log) before.now.log given.now.log result.log bid.offer.ask 1 1 turns }
     {

@@ -6,7 +6,7 @@ ghost use Rattle.lasso_parts.specs.Texts.{IsDistinct, Fits};
 ghost use Rattle.lasso_log.specs.Eras.{life};
 ghost use Rattle.lasso_log.specs.History.{opened};
 ghost use Rattle.lasso_log.specs.LentBuckets.{LentBucket};
-ghost use Rattle.lasso_log.specs.NewBuckets.{TakesBytes, IsSharedAs};
+ghost use Rattle.lasso_log.specs.NewBuckets.{TakesNext, IsSharedAs};
 ghost use Rattle.lasso_log.specs.Openings.{OpeningView, opening_with};
 ghost use Rattle.lasso_log.specs.SharedBuckets.{SharedView};
 ghost use Rattle.lasso_log.specs.Views.{InternerId, SpineView};
@@ -99,7 +99,7 @@ impl OpeningTexts {
     pub fn copy_in(&mut self, text: &str) -> Option<Piece>
         ensures piece { IfSome result (λ p. (p.text ≡ text.now) × (p.until ≡ life self.old.bucket.site.era)) }
         ensures texts { self.new.texts ≡ self.old.texts }
-        ensures bucket { IfSome result (λ p. TakesBytes self.old.bucket self.new.bucket (length text.now)) }
+        ensures bucket { IfSome result (λ p. TakesNext self.old.bucket self.new.bucket (length text.now)) }
         ensures none { IfNone result ((self.new.bucket ≡ self.old.bucket) × (self.old.bucket.size < self.old.bucket.used + length text.now)) }
     {
         let range = self.bucket.reserve(text.len())?;

@@ -2,7 +2,7 @@
 ghost use Rattle.std.specs.Prelude.{◌≡◌, ◌≢◌, ◌+◌, ◌<◌, ◌++◌, ◌∷◌, [], IfOk, IfErr, IfSome, IfNone, OnErr};
 ghost use Rattle.lasso_parts.specs.declared.util.LassoErrorKind.TheVariants.{FailedAllocation};
 ghost use Rattle.lasso_log.specs.LentBuckets.{LentBucket};
-ghost use Rattle.lasso_log.specs.NewBuckets.{IsNextOf, TakesBytes};
+ghost use Rattle.lasso_log.specs.NewBuckets.{IsNextOf, TakesNext};
 ghost use Rattle.lasso_log.specs.Pieces.{RangeView};
 
 use crate::shared_memory::era::Era;
@@ -71,7 +71,7 @@ impl NewBucket {
     /// then.
     pub fn reserve(&mut self, bytes: usize) -> Option<Range>
         ensures range { IfSome result (IsNextOf self.old bytes) }
-        ensures taken { IfSome result (λ r. TakesBytes self.old self.new bytes) }
+        ensures taken { IfSome result (λ r. TakesNext self.old self.new bytes) }
         ensures none { IfNone result ((self.new ≡ self.old) × (self.old.size < self.old.used + bytes)) }
     {
         if self.size - self.taken < bytes {

@@ -4,7 +4,8 @@ ghost use mathlib.Core.List.{IsPrefix};
 ghost use Rattle.lasso_parts.specs.Hashing.{hash_by};
 ghost use Rattle.lasso_log.specs.Notes.{Since};
 ghost use Rattle.lasso_log.specs.Views.{PassView, InternerId, SnapshotView, IsSamePass, list_of};
-ghost use Rattle.lasso_shared.specs.Shards.{IsShard, IsTally, IsWholeShard};
+ghost use Rattle.lasso_shared.specs.Locked.{IsLocked};
+ghost use Rattle.lasso_shared.specs.Shards.{IsTally, IsWholeShard};
 
 use crate::shards::Shards;
 use crate::shards::shard::{BoxedTally, Shard, Tally};
@@ -24,7 +25,7 @@ impl<K: Key, S: BuildHasher + Drop> Shards<K, S> {
         number: usize,
     ) -> bool
         requires of { (pass.old.of ≡ self.now.log) × (number < 16) }
-        requires held { IsShard (hash_by S.BuildHasher S.Hasher.Hasher self.now.hasher) number self.now.log shard.now.known shard.now.index shard.now.count }
+        requires held { IsLocked (hash_by S.BuildHasher S.Hasher.Hasher self.now.hasher) number self.now.log shard.now }
         requires tally { IsTally (hash_by S.BuildHasher S.Hasher.Hasher self.now.hasher) self.now.log tally.now.spine tally.now.counts }
         requires begins { IsPrefix shard.now.known.notes pass.old.notes }
         ensures same { IsSamePass pass.new pass.old }
@@ -50,7 +51,7 @@ impl<K: Key, S: BuildHasher + Drop> Shards<K, S> {
         number: usize,
     ) -> (TaggedMutexGuard<'_, BoxedTally<K, S>>, BoxedTally<K, S>)
         requires of { (pass.old.of ≡ self.now.log) × (number < 16) }
-        requires held { IsShard (hash_by S.BuildHasher S.Hasher.Hasher self.now.hasher) number self.now.log shard.now.known shard.now.index shard.now.count }
+        requires held { IsLocked (hash_by S.BuildHasher S.Hasher.Hasher self.now.hasher) number self.now.log shard.now }
         requires begins { IsPrefix shard.now.known.notes pass.old.notes }
         ensures same { IsSamePass pass.new pass.old }
         ensures since { Since pass.old.number pass.old.notes pass.new.notes [] }
@@ -80,7 +81,7 @@ impl<K: Key, S: BuildHasher + Drop> Shards<K, S> {
         number: usize,
     )
         requires of { (pass.old.of ≡ self.now.log) × (number < 16) }
-        requires held { IsShard (hash_by S.BuildHasher S.Hasher.Hasher self.now.hasher) number self.now.log shard.now.known shard.now.index shard.now.count }
+        requires held { IsLocked (hash_by S.BuildHasher S.Hasher.Hasher self.now.hasher) number self.now.log shard.now }
         requires begins { IsPrefix shard.now.known.notes pass.old.notes }
         ensures same { IsSamePass pass.new pass.old }
         ensures since { Since pass.old.number pass.old.notes pass.new.notes [] }

@@ -8,7 +8,8 @@ ghost use Rattle.lasso_log.specs.Notes.{NoteView, Since, history};
 ghost use Rattle.lasso_log.specs.Replies.{Get, Found};
 ghost use Rattle.lasso_log.specs.Calls.{IsCall, IsPlainCall};
 ghost use Rattle.lasso_log.specs.Views.{PassView, InternerId, SnapshotView, IsSamePass, list_of, seen};
-ghost use Rattle.lasso_shared.specs.Shards.{IsShard, shard_of};
+ghost use Rattle.lasso_shared.specs.Locked.{IsLocked};
+ghost use Rattle.lasso_shared.specs.Shards.{shard_of};
 
 use crate::shards::Shards;
 use crate::shards::shard::Shard;
@@ -43,7 +44,7 @@ impl<K: Key, S: BuildHasher + Drop> Shards<K, S> {
         requires of { known.now.of ≡ self.now.log }
         requires begins { IsPrefix shard.now.known.notes known.now.notes }
         requires hashed { hash ≡ hash_by S.BuildHasher S.Hasher.Hasher self.now.hasher text.now }
-        requires held { IsShard (hash_by S.BuildHasher S.Hasher.Hasher self.now.hasher) (shard_of hash) self.now.log shard.now.known shard.now.index shard.now.count }
+        requires held { IsLocked (hash_by S.BuildHasher S.Hasher.Hasher self.now.hasher) (shard_of hash) self.now.log shard.now }
         ensures found { IfSome result (λ n. (position_of (list_of self.now.log known.now.notes) text.now ≡ Some n) × (n < length (list_of self.now.log known.now.notes))) }
         ensures missing { IfNone result (Lacks (list_of self.now.log shard.now.known.notes) text.now) }
     {
@@ -57,7 +58,7 @@ impl<K: Key, S: BuildHasher + Drop> Shards<K, S> {
     #[inline(always)]
     fn find_key(&self, shard: &Shard<K, S>, hash: u64, text: &str) -> Option<K>
         requires hashed { hash ≡ hash_by S.BuildHasher S.Hasher.Hasher self.now.hasher text.now }
-        requires held { IsShard (hash_by S.BuildHasher S.Hasher.Hasher self.now.hasher) (shard_of hash) self.now.log shard.now.known shard.now.index shard.now.count }
+        requires held { IsLocked (hash_by S.BuildHasher S.Hasher.Hasher self.now.hasher) (shard_of hash) self.now.log shard.now }
         ensures found { IfSome result (λ k. IsLegal K.key_at self.now.log.opening (history shard.now.known.notes) × (key_of K.key_at (list_of self.now.log shard.now.known.notes) text.now ≡ Some k)) }
         ensures missing { IfNone result (Lacks (list_of self.now.log shard.now.known.notes) text.now) }
     {
@@ -80,7 +81,7 @@ impl<K: Key, S: BuildHasher + Drop> Shards<K, S> {
     ) -> Option<K>
         requires of { pass.old.of ≡ self.now.log }
         requires hashed { hash ≡ hash_by S.BuildHasher S.Hasher.Hasher self.now.hasher text.now }
-        requires held { IsShard (hash_by S.BuildHasher S.Hasher.Hasher self.now.hasher) (shard_of hash) self.now.log shard.now.known shard.now.index shard.now.count }
+        requires held { IsLocked (hash_by S.BuildHasher S.Hasher.Hasher self.now.hasher) (shard_of hash) self.now.log shard.now }
         ensures same { IsSamePass pass.new pass.old }
         ensures since { Since pass.old.number pass.old.notes pass.new.notes [] }
         ensures begins { IsPrefix shard.now.known.notes pass.new.notes }
@@ -163,7 +164,7 @@ impl<K: Key, S: BuildHasher + Drop> Shards<K, S> {
     ) -> Option<K>
         requires of { pass.old.of ≡ self.now.log }
         requires hashed { hash ≡ hash_by S.BuildHasher S.Hasher.Hasher self.now.hasher text.now }
-        requires held { IsShard (hash_by S.BuildHasher S.Hasher.Hasher self.now.hasher) (shard_of hash) self.now.log shard.now.known shard.now.index shard.now.count }
+        requires held { IsLocked (hash_by S.BuildHasher S.Hasher.Hasher self.now.hasher) (shard_of hash) self.now.log shard.now }
         ensures same { IsSamePass pass.new pass.old }
         ensures since { Since pass.old.number pass.old.notes pass.new.notes [] }
         ensures found { result ≡ key_of K.key_at (list_of self.now.log pass.new.notes) text.now }

@@ -16,7 +16,8 @@ ghost use Rattle.lasso_log.specs.Eras.{life};
 ghost use Rattle.lasso_log.specs.History.{Lacks};
 ghost use Rattle.lasso_log.specs.Notes.{Since};
 ghost use Rattle.lasso_log.specs.Pieces.{PieceView};
-ghost use Rattle.lasso_shared.specs.Shards.{IsShard, IsTally, IsWholeShard, PutsLast, shard_of};
+ghost use Rattle.lasso_shared.specs.Locked.{IsLocked};
+ghost use Rattle.lasso_shared.specs.Shards.{IsTally, IsWholeShard, PutsLast, shard_of};
 ghost use Rattle.lasso_log.specs.Views.{PassView, InternerId, SnapshotView, IsSamePass, list_of};
 
 use crate::shards::Shards;
@@ -57,12 +58,12 @@ impl<K: Key, S: BuildHasher + Drop> Shards<K, S> {
         number: usize,
     ) -> LassoResult<CellsAhead<K>>
         requires of { pass.old.of ≡ self.now.log }
-        requires held { IsShard (hash_by S.BuildHasher S.Hasher.Hasher self.now.hasher) number self.now.log shard.old.known shard.old.index shard.old.count }
+        requires held { IsLocked (hash_by S.BuildHasher S.Hasher.Hasher self.now.hasher) number self.now.log shard.old }
         requires begins { IsPrefix shard.old.known.notes pass.old.notes }
         ensures same { IsSamePass pass.new pass.old }
         ensures since { Since pass.old.number pass.old.notes pass.new.notes [] }
         ensures begins { IsPrefix shard.old.known.notes pass.new.notes }
-        ensures held { IsShard (hash_by S.BuildHasher S.Hasher.Hasher self.now.hasher) number self.now.log shard.new.known shard.new.index shard.new.count }
+        ensures held { IsLocked (hash_by S.BuildHasher S.Hasher.Hasher self.now.hasher) number self.now.log shard.new }
         ensures known { shard.new.known ≡ shard.old.known }
         ensures room { OnOk result (0 < room shard.new.index.slots) }
         ensures ahead { IfOk result (λ a. (a.of ≡ self.now.log) × (a.notes ≡ pass.new.notes)) }
@@ -82,12 +83,12 @@ impl<K: Key, S: BuildHasher + Drop> Shards<K, S> {
         number: usize,
     ) -> LassoResult<CellsAhead<K>>
         requires of { (pass.old.of ≡ self.now.log) × (number < 16) }
-        requires held { IsShard (hash_by S.BuildHasher S.Hasher.Hasher self.now.hasher) number self.now.log shard.old.known shard.old.index shard.old.count }
+        requires held { IsLocked (hash_by S.BuildHasher S.Hasher.Hasher self.now.hasher) number self.now.log shard.old }
         requires begins { IsPrefix shard.old.known.notes pass.old.notes }
         ensures same { IsSamePass pass.new pass.old }
         ensures since { Since pass.old.number pass.old.notes pass.new.notes [] }
         ensures begins { IsPrefix shard.old.known.notes pass.new.notes }
-        ensures held { IsShard (hash_by S.BuildHasher S.Hasher.Hasher self.now.hasher) number self.now.log shard.new.known shard.new.index shard.new.count }
+        ensures held { IsLocked (hash_by S.BuildHasher S.Hasher.Hasher self.now.hasher) number self.now.log shard.new }
         ensures known { shard.new.known ≡ shard.old.known }
         ensures whole { OnErr result (IsWholeShard (hash_by S.BuildHasher S.Hasher.Hasher self.now.hasher) number self.now.log shard.old.known.notes pass.new.notes) }
         ensures room { OnOk result (0 < room shard.new.index.slots) }
@@ -118,7 +119,7 @@ impl<K: Key, S: BuildHasher + Drop> Shards<K, S> {
         requires of { (pass.old.of ≡ self.now.log) × (cell ≡ self.now.log) }
         requires lasts { Incl (life (era_named self.now.log.chunks)) text.until }
         requires hashed { hash ≡ hash_by S.BuildHasher S.Hasher.Hasher self.now.hasher text.text }
-        requires held { IsShard (hash_by S.BuildHasher S.Hasher.Hasher self.now.hasher) (shard_of hash) self.now.log shard.old.known shard.old.index shard.old.count }
+        requires held { IsLocked (hash_by S.BuildHasher S.Hasher.Hasher self.now.hasher) (shard_of hash) self.now.log shard.old }
         requires tally { IsTally (hash_by S.BuildHasher S.Hasher.Hasher self.now.hasher) self.now.log tally.old.spine tally.old.counts }
         requires whole { IsWholeShard (hash_by S.BuildHasher S.Hasher.Hasher self.now.hasher) (shard_of hash) self.now.log shard.old.known.notes pass.old.notes }
         requires list { list_of self.now.log pass.old.notes ≡ list_of self.now.log tally.old.spine.notes }
@@ -126,7 +127,7 @@ impl<K: Key, S: BuildHasher + Drop> Shards<K, S> {
         requires room { 0 < room shard.old.index.slots }
         ensures same { IsSamePass pass.new pass.old }
         ensures put { PutsLast K.key_at self.now.log pass.old.number pass.old.notes pass.new.notes text.text result }
-        ensures held { IsShard (hash_by S.BuildHasher S.Hasher.Hasher self.now.hasher) (shard_of hash) self.now.log shard.new.known shard.new.index shard.new.count }
+        ensures held { IsLocked (hash_by S.BuildHasher S.Hasher.Hasher self.now.hasher) (shard_of hash) self.now.log shard.new }
         ensures tally { IsTally (hash_by S.BuildHasher S.Hasher.Hasher self.now.hasher) self.now.log tally.new.spine tally.new.counts }
         ensures kept { tally.new.spine.kept ≡ tally.old.spine.kept - 1 }
     {
@@ -160,13 +161,13 @@ impl<K: Key, S: BuildHasher + Drop> Shards<K, S> {
         requires of { (pass.old.of ≡ self.now.log) × (ahead.of ≡ self.now.log) }
         requires lasts { Incl (life (era_named self.now.log.chunks)) text.until }
         requires hashed { hash ≡ hash_by S.BuildHasher S.Hasher.Hasher self.now.hasher text.text }
-        requires held { IsShard (hash_by S.BuildHasher S.Hasher.Hasher self.now.hasher) (shard_of hash) self.now.log shard.old.known shard.old.index shard.old.count }
+        requires held { IsLocked (hash_by S.BuildHasher S.Hasher.Hasher self.now.hasher) (shard_of hash) self.now.log shard.old }
         requires begins { IsPrefix shard.old.known.notes pass.old.notes }
         requires lacks { Lacks (list_of self.now.log shard.old.known.notes) text.text }
         requires room { 0 < room shard.old.index.slots }
         ensures same { IsSamePass pass.new pass.old }
         ensures put { PutsLast K.key_at self.now.log pass.old.number pass.old.notes pass.new.notes text.text result }
-        ensures held { IsShard (hash_by S.BuildHasher S.Hasher.Hasher self.now.hasher) (shard_of hash) self.now.log shard.new.known shard.new.index shard.new.count }
+        ensures held { IsLocked (hash_by S.BuildHasher S.Hasher.Hasher self.now.hasher) (shard_of hash) self.now.log shard.new }
     {
         for _ in rt.forever() {
             let (guard, mut held) = self.lock_current(rt, shard, pass, number_of(hash));
