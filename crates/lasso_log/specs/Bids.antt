@@ -4,6 +4,7 @@ use mathlib.Core.List.{IsPrefix}
 use Rattle.logbook.specs.Pages.{Book, Nib, may_write}
 use Rattle.lasso_log.specs.Notes.{NoteView, first_note, IsOpened, IsWord, opening_of, notes_of, ticket_of}
 use Rattle.lasso_log.specs.Book.{Moving, May, Lets}
+use Rattle.lasso_log.specs.declared.log.charging.Bid.{Bid}
 
 -- What a pass has in hand that offers a bucket while the turn word has another value than the one that it
 -- waits for: the note may be added while the turn word has its old value. `before` is what the note's pass
@@ -21,3 +22,7 @@ pub record IsBid {Key : Type 0} (keys : ℕ → Option Key) (before given : List
   pub moving : Moving ask.ticket ask.event 1 1 nib.value
   pub may : May keys (opening_of given) (notes_of given) 1 1 old ask.event
   pub lets : Lets keys (first_note given) (notes_of given) 1 1 old ask state
+
+-- the same, of the parts of what is in hand
+abbrev pub Serves : {A Key : Type 0} → (ℕ → Option Key) → (before given : List NoteView) → (old : ℕ) → Bid A → Type 0
+Serves keys before given old b = IsBid keys before given old b.seen.log b.seen.book b.seen.names b.pen.book b.pen.nib b.offer.names b.offer.ask b.offer.state

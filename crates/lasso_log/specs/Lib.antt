@@ -15,3 +15,5 @@ pub mod LentBuckets
 pub mod SharedBuckets
 pub mod Turns
 pub mod Bids
+pub mod Charges
+pub mod NewBuckets

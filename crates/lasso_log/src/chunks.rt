@@ -24,14 +24,14 @@ const CHUNKS: usize = 60;
 
 const FIRST_LENGTH: u64 = 32;
 
-/// Nothing is asked of what a cell holds.
+/// The rule of a cell: it may hold anything.
 pub struct Any;
 
 impl<T> SlotRule<T> for Any {
     ghost holds = { λ tag x. Unit {0} };
 }
 
-/// A chunk has the length that its number gives it.
+/// The rule of a chunk: it has the length that its number gives it.
 pub struct ByNumber;
 
 impl<T> SlotRule<Vec<OnceSlot<T, Any>>> for ByNumber {
@@ -53,7 +53,7 @@ impl<T> HasCells for Vec<OnceSlot<T, Any>> {
 pub struct Chunks<T: Drop> {
     chunks: Vec<OnceSlot<Chunk<T>, ByNumber>>,
     era: Era,
-    // Any two tokens. They have no bytes.
+    // Two tokens to copy, since `found_chunk` and `found_item` want one of the right type. They have no bytes.
     chunk: Written<Chunk<T>>,
     item: Written<T>,
 }
@@ -72,7 +72,7 @@ impl<T: Drop> Model for Chunks<T> {
     ghost invariant = { λ r. IsNumbered 60 r.chunks.items };
 }
 
-// The era ends with them.
+// Drops the chunks and ends their era.
 impl<T: Drop> Drop for Chunks<T> {
     fn drop(self) {
         drop(self.end());

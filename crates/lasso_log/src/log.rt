@@ -14,6 +14,7 @@ pub mod known_list;
 mod limits;
 mod look;
 mod memory;
+mod new_book;
 pub mod note;
 pub mod opening;
 pub mod pass;

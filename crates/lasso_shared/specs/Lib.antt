@@ -11,3 +11,4 @@ pub mod Shards
 pub mod Filling
 pub mod Batches
 pub mod Walks
+pub mod Locked

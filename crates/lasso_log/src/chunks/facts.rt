@@ -1,5 +1,5 @@
-//! What shows that cells are filled: how it is handed to a book, and found there again. None of it has bytes.
-//! Used by the chunks, by the opening of a log and by its tickets.
+//! What shows that cells are filled: how it is handed to a book, and found there again. None of it has bytes, so most
+//! arguments are read by contracts alone. Used by the chunks, by the opening of a log and by its tickets.
 //!
 //! A `Written` is a fact for good, so a book can keep one for each position of its list, and give out copies.
 //! How the rights to bytes go in and out, which a book keeps too, is in `taking.rt`.
@@ -38,12 +38,11 @@ pub trait OpensWith<X, E> {
 }
 
 impl<T: HasText, V: HasCells> Lines<T, V> {
-    /// No text yet. The names are read off the value.
+    /// No text yet. The names are those of `chunks`.
     pub fn none<X, M: Names<X>>(chunks: &X) -> Lines<T, V>
         ensures names { result.names ≡ M.numbers chunks.now }
         ensures texts { result.texts ≡ [] }
     {
-        let _ = chunks;
         Lines {
             marker: PhantomData,
         }
@@ -55,13 +54,10 @@ impl<T: HasText, V: HasCells> Lines<T, V> {
         requires lasts { T.lasts item.now.value (era_named self.old.names) }
         ensures names { self.new.names ≡ self.old.names }
         ensures texts { self.new.texts ≡ self.old.texts ++ T.meaning item.now.value ∷ [] }
-    {
-        let _ = chunk;
-        let _ = item;
-    }
+    {}
 
-    /// What a book keeps at its opening, which has one bucket: that the texts of its list are in the chunks, and the right to
-    /// the bucket's bytes that nobody has taken, which is handed in. That it names no token of one thread is what the opening asks for.
+    /// What a book with one bucket keeps at its opening: the fact that the texts of its list are in the chunks, and the right to
+    /// the bucket's bytes that nobody has taken. A book is opened only with what any thread may use, as `calm` says of both.
     pub fn start<E, B: Listed<E>, X, M: OpensWith<X, E>>(
         self,
         about: &X,
@@ -74,14 +70,13 @@ impl<T: HasText, V: HasCells> Lines<T, V> {
     {
         let Self { marker: _ } = self;
         let Free { marker: _ } = right;
-        let _ = about;
         Start {
             marker: PhantomData,
         }
     }
 }
 
-/// An update that puts a text last, with what shows that the cell of its position is filled with it.
+/// An update that puts a text last. `chunk` and `item` show that the cell of its position is filled with it.
 pub fn hand_in<E, B: Listed<E>, T: HasText, V: HasCells, X, M: Plain<X, E, u64>>(
     seen: &Seen<E, u64, InChunks<B, T, V>>,
     chunk: &Written<V>,
@@ -94,16 +89,12 @@ pub fn hand_in<E, B: Listed<E>, T: HasText, V: HasCells, X, M: Plain<X, E, u64>>
     requires moves { (before after : List E) → B.moves (M.ask about.now) before after → PutsLastAt B.texts (B.appended_at (M.ask about.now)) (B.text (M.ask about.now)) before after × (B.buckets after ≡ B.buckets before) }
     ensures { (result.names ≡ seen.now.names) × (result.ask ≡ M.ask about.now) × (result.about ≡ []) × (result.state ≡ None) }
 {
-    let _ = seen;
-    let _ = chunk;
-    let _ = item;
-    let _ = about;
     Offer {
         marker: PhantomData,
     }
 }
 
-/// What shows that the chunk of a position below the length is made. `token` is any, and lends its shape.
+/// Shows that the chunk of a position below the length is made. `token` may be of any chunk: only its type counts.
 pub fn found_chunk<E, B: Listed<E>, T: HasText, V: HasCells>(
     seen: &mut Seen<E, u64, InChunks<B, T, V>>,
     position: u64,
@@ -114,11 +105,10 @@ pub fn found_chunk<E, B: Listed<E>, T: HasText, V: HasCells>(
     ensures chunk { result.of ≡ chunk_named seen.old.names position }
     ensures same { seen.new ≡ seen.old }
 {
-    let _ = position;
     token
 }
 
-/// What shows that the cell of a position below the length is filled, and with what. `token` is any.
+/// Shows that the cell of a position below the length is filled, and with what. `token` may be of any cell.
 pub fn found_item<E, B: Listed<E>, T: HasText, V: HasCells>(
     seen: &mut Seen<E, u64, InChunks<B, T, V>>,
     chunk: &Written<V>,
@@ -133,8 +123,6 @@ pub fn found_item<E, B: Listed<E>, T: HasText, V: HasCells>(
     ensures lasts { T.lasts result.value (era_named seen.old.names) }
     ensures same { seen.new ≡ seen.old }
 {
-    let _ = chunk;
-    let _ = position;
     token
 }
 

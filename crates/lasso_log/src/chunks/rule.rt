@@ -28,9 +28,9 @@ pub trait HasCells {
     ghost cells: { Self → List Named };
 }
 
-/// What the author of a book with a list of texts and with buckets states: the rule of its words; which part of the log its
-/// keepers see; how the list and the buckets are read off that, and how a note moves it; of a note that puts a text last, that
-/// text and its position, and of one that takes bytes, their bucket as it was found, and how many they are.
+/// What defines a book with a list of texts and with buckets: the rule of its words; the part of the log that its keepers see;
+/// how the list and the buckets are read off that part, and how a note moves it. Of a note that puts a text last: the text and its
+/// position. Of one that takes bytes: their bucket before it, and how many they are.
 pub trait Listed<E> {
     ghost use Rattle.std.specs.Prelude.{ℕ, List};
     ghost use Rattle.logbook.specs.Pages.{Cell};

@@ -18,8 +18,7 @@ pub fn take_bytes<E, B: Listed<E>, T: HasText, V: HasCells, X, M: Plain<X, E, u6
     requires moves { (before after : List E) → B.moves (M.ask about.now) before after → (B.texts after ≡ B.texts before) × TakesBytesAt B.buckets bucket (B.bucket (M.ask about.now)) (B.bytes (M.ask about.now)) before after }
     ensures { (result.names ≡ seen.now.names) × (result.ask ≡ M.ask about.now) × (result.about ≡ M.ask about.now ∷ []) × (result.state ≡ None) }
 {
-    let _ = seen;
-    let _ = about;
+    // The contract alone reads the position: the right to the bytes is in the book, and no memory is touched here.
     let _ = bucket;
     Offer {
         marker: PhantomData,
@@ -37,8 +36,6 @@ pub fn add_bucket<E, B: Listed<E>, T: HasText, V: HasCells, X, M: Plain<X, E, u6
     requires moves { (before after : List E) → B.moves (M.ask about.now) before after → (B.texts after ≡ B.texts before) × AddsBucket B.buckets (B.bucket (M.ask about.now)) before after }
     ensures { (result.names ≡ seen.now.names) × (result.ask ≡ M.ask about.now) × (result.about ≡ []) × (result.state ≡ None) }
 {
-    let _ = seen;
-    let _ = about;
     let Free { marker: _ } = right;
     Offer {
         marker: PhantomData,

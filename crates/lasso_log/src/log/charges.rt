@@ -1,7 +1,8 @@
 //! What a spine does if no bucket has room for a text: it adds one, or the limit refuses the text.
-ghost use Rattle.std.specs.Prelude.{◌≡◌, ◌≢◌, ◌+◌, ◌<◌, ◌≤◌, ◌^◌, ◌⊎◌, ◌∷◌, [], length, Some, IsSomeAnd, IfOk, IfErr, OnOk, OnErr};
+ghost use Rattle.std.specs.Prelude.{◌≡◌, ◌≢◌, ◌+◌, ◌<◌, ◌≤◌, ◌^◌, ◌∷◌, [], length, Some, IsSomeAnd, IfOk, IfErr, OnOk, OnErr};
 ghost use Rattle.lasso_parts.specs.declared.util.LassoErrorKind.TheVariants.{FailedAllocation, MemoryLimitReached};
 ghost use Rattle.lasso_log.specs.Buckets.{bucket_size};
+ghost use Rattle.lasso_log.specs.Charges.{next_size, IsRefusal};
 ghost use Rattle.lasso_log.specs.Chunks.{era_named};
 ghost use Rattle.lasso_log.specs.History.{Charge, IsLegal};
 ghost use Rattle.lasso_log.specs.LentBuckets.{LentBucket};
@@ -46,11 +47,11 @@ impl<K: Key> Log<K> {
         requires some { bytes ≢ 0 }
         requires room { NoneHasRoom (state self.now.opening pass.old.notes) spine.old.turns.count bytes }
         ensures same { IsSamePass pass.new pass.old × IsSameSpine spine.new spine.old × (spine.new.kept ≡ spine.old.kept) }
-        ensures event { IfOk result (λ r. IsSomeAnd (bucket_size spine.old.turns.doubling spine.old.turns.usage spine.old.turns.limit bytes) (λ size. Since pass.old.number pass.old.notes pass.new.notes (Charge size bytes ∷ []))) }
+        ensures event { IfOk result (λ r. IsSomeAnd (next_size spine.old.turns bytes) (λ size. Since pass.old.number pass.old.notes pass.new.notes (Charge size bytes ∷ []))) }
         ensures range { IfOk result (λ r. (r.era ≡ era_named self.now.chunks) × (r.len ≡ bytes)) }
-        ensures bucket { IfOk result (λ r. IsSomeAnd (bucket_size spine.old.turns.doubling spine.old.turns.usage spine.old.turns.limit bytes) (λ size. IsNoteOf pass.old.number pass.new.notes (Charge size bytes) (site_of r))) }
+        ensures bucket { IfOk result (λ r. IsSomeAnd (next_size spine.old.turns bytes) (λ size. IsNoteOf pass.old.number pass.new.notes (Charge size bytes) (site_of r))) }
         ensures turns { OnOk result ((spine.new.turns.notes ≡ pass.new.notes) × (spine.new.turns.count ≡ spine.old.turns.count + 1)) }
-        ensures refused { IfErr result (λ error. (error ≡ FailedAllocation) ⊎ ((error ≡ MemoryLimitReached) × IsPastLimit self.now.opening pass.old.notes pass.new.notes (length (list_of self.now spine.old.notes)) bytes)) }
+        ensures refused { IfErr result (IsRefusal self.now spine.old.notes pass.old.notes pass.new.notes bytes) }
         ensures err { OnErr result (Since pass.old.number pass.old.notes pass.new.notes [] × (spine.new ≡ spine.old)) }
         ensures legal { IsLegal K.key_at self.now.opening (seen pass.new) }
     {
@@ -59,7 +60,8 @@ impl<K: Key> Log<K> {
         Ok(range)
     }
 
-    // The same, but for putting the bucket into the list, where room for it is made before the step that adds it.
+    // Adds the bucket to the history, and returns it. The caller puts it into the list, which has room for it from then on: it
+    // is made before the step that adds the bucket, so that nothing can fail after that step.
     fn charge_new<R: Wait>(
         &self,
         rt: &R,
@@ -73,12 +75,12 @@ impl<K: Key> Log<K> {
         requires some { bytes ≢ 0 }
         requires room { NoneHasRoom (state self.now.opening pass.old.notes) spine.old.turns.count bytes }
         ensures same { IsSamePass pass.new pass.old × IsSameSpine spine.new spine.old × (spine.new.kept ≡ spine.old.kept) }
-        ensures event { IfOk result (λ r. Since pass.old.number pass.old.notes pass.new.notes (Charge r.1.size bytes ∷ []) × (bucket_size spine.old.turns.doubling spine.old.turns.usage spine.old.turns.limit bytes ≡ Some r.1.size)) }
+        ensures event { IfOk result (λ r. Since pass.old.number pass.old.notes pass.new.notes (Charge r.1.size bytes ∷ []) × (next_size spine.old.turns bytes ≡ Some r.1.size)) }
         ensures range { IfOk result (λ r. (r.0.era ≡ era_named self.now.chunks) × (site_of r.0 ≡ r.1.site) × (r.0.len ≡ bytes)) }
         ensures note { IfOk result (λ r. IsNoteOf pass.old.number pass.new.notes (Charge r.1.size bytes) (site_of r.0)) }
         ensures bucket { IfOk result (λ r. (r.1.of ≡ self.now) × (r.1.position ≡ spine.old.turns.count)) }
         ensures turns { OnOk result ((spine.new.turns.notes ≡ pass.new.notes) × (spine.new.turns.count ≡ spine.old.turns.count + 1)) }
-        ensures refused { IfErr result (λ error. (error ≡ FailedAllocation) ⊎ ((error ≡ MemoryLimitReached) × IsPastLimit self.now.opening pass.old.notes pass.new.notes (length (list_of self.now spine.old.notes)) bytes)) }
+        ensures refused { IfErr result (IsRefusal self.now spine.old.notes pass.old.notes pass.new.notes bytes) }
         ensures err { OnErr result (Since pass.old.number pass.old.notes pass.new.notes [] × (spine.new ≡ spine.old)) }
         ensures legal { IsLegal K.key_at self.now.opening (seen pass.new) }
     {
@@ -101,7 +103,7 @@ impl<K: Key> Log<K> {
         Ok((range, shared))
     }
 
-    // A bucket that no history has yet, whose memory the log has.
+    // A bucket that no history has yet. The log owns its memory, and frees it.
     fn new_bucket<R: Wait>(&self, rt: &R, alloc: Global, size: u64) -> LassoResult<NewBucket>
         requires { size ≢ 0 }
         ensures bucket { IfOk result (λ b. (b.site.era ≡ era_named self.now.chunks) × (b.size ≡ size) × (b.used ≡ 0)) }
@@ -161,7 +163,7 @@ impl<K: Key> Log<K> {
         shared
     }
 
-    // Does not return if the turn word can't move on.
+    // Returns if the turn word can count one turn more. At 2^64 - 1 it waits for ever.
     fn wait_for_a_turn<R: Wait>(&self, rt: &R, spine: &Spine<K>)
         ensures { spine.now.turns.turns + 1 < 2 ^ 64 }
     {
@@ -174,7 +176,8 @@ impl<K: Key> Log<K> {
         unreachable!()
     }
 
-    // Sees a step at which the bytes are refused: the length is loaded first, and then the turn word, which shows that no turn came before.
+    // Lets the pass see a step at which the limit refuses the bytes. The length is loaded before the turn word: if the word
+    // still has the value of the spine's turns, no turn came in between, so both loads hold of one step.
     fn prove_limit<R: Wait>(&self, rt: &R, spine: &Spine<K>, pass: &mut Pass<K>, bytes: u64)
         requires of { (pass.old.of ≡ self.now) × (spine.now.of ≡ self.now) }
         requires room { NoneHasRoom (state self.now.opening pass.old.notes) spine.now.turns.count bytes }

@@ -1,11 +1,12 @@
 //! The step that adds a bucket to a history, and hands in the right to its bytes that are not taken. Used by the spine.
 ghost use Rattle.std.specs.Prelude.{◌≡◌, ◌≢◌, ◌+◌, ◌<◌, ◌≤◌, ◌^◌, ◌∷◌, [], Some, MatchBool};
 ghost use mathlib.Core.List.{IsPrefix};
-ghost use Rattle.lasso_log.specs.Bids.{IsBid};
+ghost use Rattle.lasso_log.specs.Bids.{Serves};
 ghost use Rattle.lasso_log.specs.Book.{IsIn};
 ghost use Rattle.lasso_log.specs.Buckets.{bucket_size, doubling_after};
 ghost use Rattle.lasso_log.specs.History.{Charge};
 ghost use Rattle.lasso_log.specs.LentBuckets.{LentBucket};
+ghost use Rattle.lasso_log.specs.NewBuckets.{IsSharedAs};
 ghost use Rattle.lasso_log.specs.Notes.{Since, opening_of, state};
 ghost use Rattle.lasso_log.specs.SharedBuckets.{SharedView, IsNoteOf};
 ghost use Rattle.lasso_log.specs.Chunks.{era_named};
@@ -27,7 +28,7 @@ use logbook::{Offer, Pen, Seen};
 use std::hint::spin_loop;
 use std::sync::Wait;
 
-/// What a pass has in hand that offers a bucket: the log that it has seen, the offer, and its ticket's pen.
+/// What a pass needs to add a bucket: the log that it has seen, the offer, and its ticket's pen.
 #[derive(Drop)]
 struct Bid<K: Key> {
     seen: Seen<Note, u64, LogRule<K>>,
@@ -36,7 +37,8 @@ struct Bid<K: Key> {
 }
 
 impl<K: Key> Log<K> {
-    // Offers a note where the turn word has this value. Else what is in hand is as good as it was.
+    // Adds the offered note if the turn word has this value, and returns whether it did. If not, the returned bid can be
+    // tried again. The contract alone reads `before` and `given`: the offer was made for these two states.
     fn offer_once(
         &self,
         turns: u64,
@@ -46,13 +48,10 @@ impl<K: Key> Log<K> {
     ) -> (Bid<K>, bool)
         requires of { bid.seen.book ≡ self.now.book }
         requires sum { turns + 1 < 2 ^ 64 }
-        requires bid { IsBid K.key_at before.now.log given.now.log turns bid.seen.log bid.seen.book bid.seen.names bid.pen.book bid.pen.nib bid.offer.names bid.offer.ask bid.offer.state }
+        requires bid { Serves K.key_at before.now.log given.now.log turns bid }
         ensures same { (result.0.seen.book ≡ bid.seen.book) × (result.0.seen.names ≡ bid.seen.names) × (result.0.offer.ask ≡ bid.offer.ask) × IsPrefix bid.seen.log result.0.seen.log }
-        ensures done { MatchBool result.1 (IsIn K.key_at (opening_of before.now.log) before.now.log given.now.log result.0.seen.log bid.offer.ask 1 1 turns) (IsBid K.key_at before.now.log given.now.log turns result.0.seen.log result.0.seen.book result.0.seen.names result.0.pen.book result.0.pen.nib result.0.offer.names result.0.offer.ask result.0.offer.state) }
+        ensures done { MatchBool result.1 (IsIn K.key_at (opening_of before.now.log) before.now.log given.now.log result.0.seen.log bid.offer.ask 1 1 turns) (Serves K.key_at before.now.log given.now.log turns result.0) }
     {
-        // The contract alone reads `before` and `given`: the offer was worked out for these two states.
-        let _ = before;
-        let _ = given;
         let Bid {
             mut seen,
             mut offer,
@@ -70,7 +69,7 @@ impl<K: Key> Log<K> {
         (Bid { seen, offer, pen }, found == turns)
     }
 
-    // The same until the turn word has this value. It waits while it has another one.
+    // Tries the bid until the turn word has this value. It waits while the word has another one.
     #[tactic(auto, using(crate::proofs::Histories::prefix_trans, crate::proofs::Histories::prefix_self))]
     fn offer<R: Wait>(
         &self,
@@ -82,7 +81,7 @@ impl<K: Key> Log<K> {
     ) -> Seen<Note, u64, LogRule<K>>
         requires of { bid.seen.book ≡ self.now.book }
         requires sum { turns + 1 < 2 ^ 64 }
-        requires bid { IsBid K.key_at before.now.log given.now.log turns bid.seen.log bid.seen.book bid.seen.names bid.pen.book bid.pen.nib bid.offer.names bid.offer.ask bid.offer.state }
+        requires bid { Serves K.key_at before.now.log given.now.log turns bid }
         ensures same { (result.book ≡ bid.seen.book) × (result.names ≡ bid.seen.names) × IsPrefix bid.seen.log result.log }
         ensures done { IsIn K.key_at (opening_of before.now.log) before.now.log given.now.log result.log bid.offer.ask 1 1 turns }
     {
@@ -123,7 +122,7 @@ impl<K: Key> Log<K> {
         ensures same { IsSamePass pass.new pass.old }
         ensures event { Since pass.old.number pass.old.notes pass.new.notes (Charge bucket.size bucket.used ∷ []) }
         ensures note { IsNoteOf pass.old.number pass.new.notes (Charge bucket.size bucket.used) bucket.site }
-        ensures bucket { (result.of ≡ self.now) × (result.position ≡ turns.now.count) × (result.site ≡ bucket.site) × (result.size ≡ bucket.size) × (result.base ≡ 0) }
+        ensures bucket { IsSharedAs self.now turns.now.count bucket 0 result }
         ensures turns { IsTurned K.key_at self.now.opening pass.new.notes (turns.now.turns + 1) (doubling_after turns.now.doubling turns.now.usage turns.now.limit bucket.used) (turns.now.usage + bucket.size) turns.now.limit (turns.now.count + 1) }
     {
         let NewBucket {

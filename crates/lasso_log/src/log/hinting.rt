@@ -6,7 +6,6 @@ ghost use Rattle.lasso_log.specs.Views.{PassView, InternerId, IsSamePass, list_o
 use crate::log::pass::Pass;
 use crate::log::shared_log::Log;
 use lasso_parts::keys::Key;
-use lasso_parts::same::is_same;
 use std::alloc::Global;
 
 impl<K: Key> Pass<K> {
@@ -71,13 +70,11 @@ impl<K: Key> Log<K> {
         ensures found { IfSome result (λ n. slice_get (list_of pass.new.of pass.new.notes) n ≡ Some text.now) }
     {
         let position = pass.hints.find(hash)?;
-        let known = pass.hints.known();
-        let there = self.snapshot_texts(&known).lend(position as usize);
-        if !is_same(there, text) {
+        let list = pass.hints.list();
+        if !self.is_text_at(pass, &list, position, text) {
             return None;
         }
         pass.hints.count_hit();
-        pass.learn(&known);
         Some(position)
     }
 }

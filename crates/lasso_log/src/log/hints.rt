@@ -3,32 +3,29 @@ ghost use Rattle.std.specs.Prelude.{◌≡◌, ◌<◌, IfSome, length};
 ghost use Rattle.lasso_log.specs.Views.{SnapshotView, InternerId, list_of};
 
 use crate::log::hint_table::HintTable;
+use crate::log::known_list::KnownList;
 use crate::log::snapshot::Snapshot;
 use lasso_parts::keys::Key;
 use std::alloc::Global;
 use std::marker::Model;
 
-/// A table of hints or none, and a history that was seen. A hint may be wrong, so the text at its position has
-/// to be compared. Each position that is returned is one of that history's list. A contract sees the history.
+/// A table of hints or none, and the list that they are of. A hint may be wrong, so the text at its position has
+/// to be compared. Each position that is returned is one of that list. A contract sees the list's history.
 #[derive(Drop)]
 pub(super) struct Hints<K: Key> {
     table: Option<HintTable>,
-    // No hint is followed past this length, which the list of `known` has at least.
-    len: u64,
-    known: Snapshot<K>,
+    // No hint is followed past the length that is known of it.
+    list: KnownList<K>,
 }
 
 impl<K: Key> Model for Hints<K> {
-    ghost use Rattle.std.specs.Prelude.{◌≤◌, length};
-    ghost use Rattle.lasso_log.specs.Views.{SnapshotView, snapshot_view_coded, list_of};
+    ghost use Rattle.lasso_log.specs.Views.{SnapshotView, snapshot_view_coded};
 
     ghost Value = { SnapshotView };
 
     ghost coded = { snapshot_view_coded };
 
-    ghost view = { λ h. h.known };
-
-    ghost invariant = { λ h. h.len ≤ length (list_of h.known.of h.known.notes) };
+    ghost view = { λ h. h.list };
 }
 
 impl<K: Key> Hints<K> {
@@ -38,8 +35,7 @@ impl<K: Key> Hints<K> {
     {
         Hints {
             table: None,
-            len: 0,
-            known,
+            list: KnownList::of(known),
         }
     }
 
@@ -66,11 +62,11 @@ impl<K: Key> Hints<K> {
         }
     }
 
-    /// The history that was seen.
-    pub(super) fn known(&self) -> Snapshot<K>
+    /// A copy of the list.
+    pub(super) fn list(&self) -> KnownList<K>
         ensures { result ≡ self.now }
     {
-        self.known.again()
+        self.list.again()
     }
 
     /// A position of the list that was seen, where a text with that hash may be.
@@ -82,7 +78,7 @@ impl<K: Key> Hints<K> {
         let Some(table) = &mut self.table else {
             return None;
         };
-        table.find(hash, self.len)
+        table.find(hash, self.list.len())
     }
 
     /// Counts a position that `find` returned, if the text was there.
@@ -110,9 +106,6 @@ impl<K: Key> Hints<K> {
             return;
         };
         table.keep(hash, short);
-        if self.len <= position {
-            self.len = position + 1;
-            self.known = known;
-        }
+        self.list.reach(position + 1, known);
     }
 }

@@ -1,6 +1,6 @@
-//! The list of a history that was seen, with a length that it has at least. Used by the interner that threads
-//! share, which reads several texts at guessed positions.
-ghost use Rattle.std.specs.Prelude.{◌≡◌, [], true, IfSome, Some, slice_get};
+//! The list of a history that was seen, with a length that it has at least. Used by the hints of a pass, and by the
+//! interner that threads share, which reads several texts at guessed positions.
+ghost use Rattle.std.specs.Prelude.{◌≡◌, ◌≤◌, [], true, IfSome, Some, length, slice_get};
 ghost use Rattle.lasso_log.specs.Notes.{Since};
 ghost use Rattle.lasso_log.specs.Views.{PassView, InternerId, SnapshotView, IsSamePass, list_of};
 
@@ -32,15 +32,54 @@ impl<K: Key> Model for KnownList<K> {
     ghost invariant = { λ l. l.len ≤ length (list_of l.known.of l.known.notes) };
 }
 
+impl<K: Key> KnownList<K> {
+    /// The list of this history, of which no length is known.
+    pub(super) fn of(known: Snapshot<K>) -> KnownList<K>
+        ensures { result ≡ known }
+    {
+        KnownList { len: 0, known }
+    }
+
+    /// A copy.
+    #[inline(always)]
+    pub(super) fn again(&self) -> KnownList<K>
+        ensures { result ≡ self.now }
+    {
+        KnownList {
+            len: self.len,
+            known: self.known.again(),
+        }
+    }
+
+    /// The length that is known: the list has at least as many texts.
+    #[inline(always)]
+    pub(super) fn len(&self) -> u64
+        ensures { result ≤ length (list_of self.now.of self.now.notes) }
+    {
+        self.len
+    }
+
+    /// Makes the known length at least `len`, which the list of this history has. If it was not, the list is then that of
+    /// this history.
+    #[inline(always)]
+    pub(super) fn reach(&mut self, len: u64, known: Snapshot<K>)
+        requires of { known.of ≡ self.old.of }
+        requires has { len ≤ length (list_of known.of known.notes) }
+        ensures { self.new.of ≡ self.old.of }
+    {
+        if self.len < len {
+            self.len = len;
+            self.known = known;
+        }
+    }
+}
+
 impl<K: Key> Log<K> {
     /// The opening's list, of which no length is known. It takes no step.
     pub fn unknown_list(&self) -> KnownList<K>
         ensures { result.of ≡ self.now }
     {
-        KnownList {
-            len: 0,
-            known: self.snapshot(),
-        }
+        KnownList::of(self.snapshot())
     }
 
     /// The list that the pass has then seen, and how many texts it has at one step. It takes no memory and

@@ -1,8 +1,8 @@
 //! What a spine does about the memory limit of an interner: it replaces the limit, and reads it and the usage.
 ghost use Rattle.std.specs.Prelude.{◌≡◌, ◌∷◌, [], MatchBool};
+ghost use Rattle.lasso_log.specs.Charges.{SetsLimit, AreLast};
 ghost use Rattle.lasso_log.specs.History.{Limit, IsLegal};
-ghost use Rattle.lasso_log.specs.Notes.{Since, IsWordWith, state};
-ghost use Rattle.lasso_log.specs.Turns.{IsTurned, IsSameTurn};
+ghost use Rattle.lasso_log.specs.Notes.{Since, state};
 ghost use Rattle.lasso_log.specs.Views.{PassView, InternerId, SpineView, TurnsView, IsSamePass, IsSameSpine, seen};
 
 use crate::log::pass::Pass;
@@ -32,11 +32,11 @@ impl<K: Key> Log<K> {
         unreachable!()
     }
 
-    // Replaces it if the turns are the spine's. Otherwise it does nothing.
+    // Replaces the limit if no turn came after the spine's, and returns whether it did. Otherwise nothing changes.
     fn try_limit(&self, spine: &mut Spine<K>, pass: &mut Pass<K>, limit: u64) -> bool
         requires { (pass.old.of ≡ self.now) × (spine.old.of ≡ self.now) }
         ensures same { IsSamePass pass.new pass.old × IsSameSpine spine.new spine.old × (spine.new.kept ≡ spine.old.kept) }
-        ensures done { MatchBool result (Since pass.old.number pass.old.notes pass.new.notes (Limit limit ∷ []) × (spine.new.turns.notes ≡ pass.new.notes) × (spine.new.turns.limit ≡ limit) × (spine.new.turns.count ≡ spine.old.turns.count) × (spine.new.turns.usage ≡ spine.old.turns.usage) × (spine.new.turns.doubling ≡ spine.old.turns.doubling)) ((pass.new ≡ pass.old) × (spine.new ≡ spine.old)) }
+        ensures done { MatchBool result (SetsLimit limit pass.old pass.new spine.old.turns spine.new.turns) ((pass.new ≡ pass.old) × (spine.new ≡ spine.old)) }
     {
         self.try_set_limit(&mut spine.turns, pass, limit)
     }
@@ -69,7 +69,7 @@ impl<K: Key> Log<K> {
         requires { (pass.old.of ≡ self.now) × (spine.now.of ≡ self.now) }
         ensures same { IsSamePass pass.new pass.old }
         ensures since { Since pass.old.number pass.old.notes pass.new.notes [] }
-        ensures at { IsWordWith pass.new.notes 1 1 spine.now.turns.turns × IsSameTurn (state self.now.opening spine.now.turns.notes) (state self.now.opening pass.new.notes) × IsTurned K.key_at self.now.opening spine.now.turns.notes spine.now.turns.turns spine.now.turns.doubling spine.now.turns.usage spine.now.turns.limit spine.now.turns.count }
+        ensures at { AreLast K.key_at self.now.opening spine.now.turns pass.new.notes }
     {
         for _ in rt.forever() {
             if self.is_at(&spine.turns, pass) {

@@ -40,7 +40,7 @@ impl<K: Key> Log<K> {
     }
 }
 
-// The end: the era is over, and then each bucket is freed.
+// Ends the era, so that nobody reads the buckets any more, and then frees each of them.
 impl Drop for TextMemory {
     fn drop(self) {
         let TextMemory { chunks, holdings } = self;

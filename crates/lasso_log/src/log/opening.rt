@@ -1,33 +1,31 @@
 //! The opening of a log. Used by the makers of interners.
-ghost use Rattle.std.specs.Prelude.{◌≡◌, ◌≢◌, ◌+◌, ◌≤◌, ◌<◌, [], ◌∷◌, ◌++◌, length, IfOk, IfErr, OnOk, OnErr, IfSome, IfNone};
+ghost use Rattle.std.specs.Prelude.{◌≡◌, ◌≢◌, ◌+◌, ◌<◌, [], ◌∷◌, ◌++◌, length, IfOk, IfErr, OnOk, OnErr, IfSome, IfNone};
 ghost use base.Fml.{Incl};
 ghost use Rattle.lasso_parts.specs.declared.util.LassoErrorKind.TheVariants.{FailedAllocation};
 ghost use Rattle.lasso_parts.specs.Texts.{IsDistinct, Fits};
 ghost use Rattle.lasso_log.specs.Eras.{life};
 ghost use Rattle.lasso_log.specs.History.{opened};
 ghost use Rattle.lasso_log.specs.LentBuckets.{LentBucket};
+ghost use Rattle.lasso_log.specs.NewBuckets.{TakesNext, IsSharedAs};
 ghost use Rattle.lasso_log.specs.Openings.{OpeningView, opening_with};
 ghost use Rattle.lasso_log.specs.SharedBuckets.{SharedView};
 ghost use Rattle.lasso_log.specs.Views.{InternerId, SpineView};
 
-use crate::chunks::facts::{Lines, OpensWith};
+use crate::chunks::facts::Lines;
 use crate::chunks::{Chunk, Chunks};
 use crate::log::bucket::SharedBucket;
 use crate::log::memory::TextMemory;
-use crate::log::note::Note;
-use crate::log::rule::{LogRule, StoredText};
+use crate::log::new_book::{First, NewBook};
+use crate::log::rule::StoredText;
 use crate::log::shared_log::Log;
 use crate::log::spine::Spine;
-use crate::log::turns::Turns;
 use crate::shared_memory::era::Era;
 use crate::shared_memory::holding::Holdings;
 use crate::shared_memory::new_bucket::NewBucket;
 use crate::shared_memory::piece::Piece;
-use boxcar::tag::Tag;
 use lasso_lock::locks::TaggedMutex;
 use lasso_parts::keys::Key;
 use lasso_parts::util::LassoResult;
-use logbook::{Opening, Seen, Word};
 use std::alloc::{AllocError, Global};
 use std::marker::Model;
 
@@ -45,7 +43,7 @@ pub struct Opened {
 pub struct OpeningTexts {
     memory: TextMemory,
     len: u64,
-    // What shows that the cells are filled: for the book, and for its first note. It has no bytes.
+    // Both show that the cells are filled, and have no bytes. The book takes `lines`; its first note records `known`.
     lines: Lines<StoredText, Chunk<StoredText>>,
     known: Lines<StoredText, Chunk<StoredText>>,
     bucket: NewBucket,
@@ -101,7 +99,7 @@ impl OpeningTexts {
     pub fn copy_in(&mut self, text: &str) -> Option<Piece>
         ensures piece { IfSome result (λ p. (p.text ≡ text.now) × (p.until ≡ life self.old.bucket.site.era)) }
         ensures texts { self.new.texts ≡ self.old.texts }
-        ensures bucket { IfSome result (λ p. (self.new.bucket.site ≡ self.old.bucket.site) × (self.new.bucket.size ≡ self.old.bucket.size) × (self.new.bucket.used ≡ self.old.bucket.used + length text.now)) }
+        ensures bucket { IfSome result (λ p. TakesNext self.old.bucket self.new.bucket (length text.now)) }
         ensures none { IfNone result ((self.new.bucket ≡ self.old.bucket) × (self.old.bucket.size < self.old.bucket.used + length text.now)) }
     {
         let range = self.bucket.reserve(text.len())?;
@@ -129,35 +127,6 @@ impl OpeningTexts {
         self.len += 1;
         Ok(())
     }
-}
-
-/// What the first note of a log records.
-#[derive(Drop)]
-pub struct First<'a> {
-    pub size: u64,
-    pub used: u64,
-    pub limit: u64,
-    pub site: &'a Tag,
-    pub known: &'a Lines<StoredText, Chunk<StoredText>>,
-}
-
-/// The first note of a log.
-pub struct ByOpening;
-
-impl<'a> Opening<First<'a>, Note> for ByOpening {
-    ghost use Rattle.std.specs.Prelude.{[], ◌∷◌};
-    ghost use Rattle.lasso_log.specs.Events.{bucket_at};
-    ghost use Rattle.lasso_log.specs.Openings.{note_of_opening};
-
-    ghost log = { λ count o. note_of_opening o.known.now.texts (bucket_at o.site.now.numbers o.size o.used) o.limit ∷ [] };
-}
-
-impl<'a> OpensWith<First<'a>, Note> for ByOpening {
-    ghost use Rattle.std.specs.Prelude.{[], ◌∷◌};
-    ghost use Rattle.lasso_log.specs.Events.{bucket_at};
-    ghost use Rattle.lasso_log.specs.Notes.{shown_note};
-
-    ghost shown = { λ o. shown_note o.known.now.texts (bucket_at o.site.now.numbers o.size o.used ∷ []) };
 }
 
 /// What a new log comes with: its spine, and its first bucket.
@@ -195,73 +164,43 @@ impl<K: Key> Log<K> {
         ensures opening { result.log.opening ≡ opening_with texts limit }
         ensures spine { (result.spine.of ≡ result.log) × (result.spine.notes ≡ []) × (result.spine.kept ≡ 0) }
         ensures turns { (result.spine.turns.of ≡ result.log) × (result.spine.turns.notes ≡ []) × (result.spine.turns.count ≡ 1) }
-        ensures bucket { (result.bucket.of ≡ result.log) × (result.bucket.position ≡ 0) × (result.bucket.site ≡ texts.bucket.site) × (result.bucket.size ≡ texts.bucket.size) × (result.bucket.base ≡ texts.bucket.used) }
+        ensures bucket { IsSharedAs result.log 0 texts.bucket texts.bucket.used result.bucket }
     {
-        let OpeningTexts {
-            memory,
-            len,
-            lines,
-            known,
-            bucket,
-        } = texts;
         let NewBucket {
             ptr,
             size,
             taken,
             site,
             right,
-        } = bucket;
+        } = texts.bucket;
         let (size, base) = (size as u64, taken as u64);
-        let about = First {
+        let (lines, known) = (texts.lines, texts.known);
+        let first = First {
             size,
             used: base,
             limit,
             site: &site,
             known: &known,
         };
-        let start = lines.start::<_, _, First<'_>, ByOpening>(&about, right);
-        let (seen, mut pens) = Seen::<Note, u64, LogRule<K>>::open_row::<First<'_>, ByOpening>(
-            &about, start, 3,
-        );
-        let mut pen = pens.take();
-        let head = Word::tracked(0, &mut pen);
-        let mut pen = pens.take();
-        let turns = Word::tracked(0, &mut pen);
-        let mut pen = pens.take();
-        let word = Word::tracked(0, &mut pen);
+        let book = NewBook::open(&first, lines, right);
+        let spine = book.spine(&first, texts.len);
         let bucket = SharedBucket {
-            word,
+            word: book.bucket,
             ptr,
             size,
             base,
             position: 0,
             site,
-            seen: seen.again(),
+            seen: book.seen.again(),
         };
-        let no_turns = Turns {
-            turns: 0,
-            doubling: size,
-            usage: size,
-            limit,
-            count: 1,
-            seen: seen.again(),
-        };
-        let spine = Spine {
-            kept: 0,
-            first: len,
-            appended: 0,
-            seen: seen.again(),
-            turns: no_turns,
-        };
-        let first = len;
         let log = Log {
             padding_before: [0; 8],
-            head,
+            head: book.head,
             padding_after: [0; 8],
-            turns,
-            memory,
-            first,
-            seen,
+            turns: book.turns,
+            memory: texts.memory,
+            first: texts.len,
+            seen: book.seen,
         };
         NewLog { log, spine, bucket }
     }

@@ -63,6 +63,7 @@ impl<K: Key> Pass<K> {
         ensures opening { IsOpening K.key_at self.now.of.opening }
         ensures legal { IsLegal K.key_at self.now.of.opening (seen self.now) }
     {
+        // The contract follows from the invariant of a pass, which proofs learn of a value whose field is read.
         let _ = &self.seen;
     }
 

@@ -127,8 +127,8 @@ impl<K: Key> Log<K> {
         }
     }
 
-    // What a word has at one step, which the log that was seen then reaches. `word_index` says which word it
-    // is.
+    // Returns what a word has at one step. `seen` then knows the log up to that step. `word_index` says which word it is; the
+    // contract alone reads it.
     fn load_seen(
         word: &Word<Note, u64, LogRule<K>>,
         word_index: u64,
@@ -138,14 +138,13 @@ impl<K: Key> Log<K> {
         requires known { IsOpened seen.old.log × IsWord (notes_of seen.old.log) word_index word.now.key }
         ensures { (seen.new.book ≡ seen.old.book) × (seen.new.names ≡ seen.old.names) × IsPrefix seen.old.log seen.new.log × ((cells : List Cell) × LogKeepsRule K.key_at cells seen.new.log × ((cell cells word.now.key).0 ≡ result)) }
     {
-        let _ = word_index;
         let mut offer: Offer<Note, u64, LogRule<K>, NoGain> = seen.plain::<NoGain, (), Nothing>(
             &(),
         );
         word.load::<Peek<K>, NoGain>(seen, &mut offer)
     }
 
-    // What a word that the history knows has at one step, which it then has seen.
+    // Returns what a word of the history has at one step. `known` is then the history up to that step.
     pub(super) fn load_snapshot(
         &self,
         word: &Word<Note, u64, LogRule<K>>,
@@ -160,7 +159,7 @@ impl<K: Key> Log<K> {
         Self::load_seen(word, word_index, &mut known.seen)
     }
 
-    // The same by a pass, which adds no event.
+    // Returns what a word that the pass has seen has at one step. The pass has then seen that step, and adds no event.
     pub(crate) fn load(
         &self,
         word: &Word<Note, u64, LogRule<K>>,
@@ -179,7 +178,7 @@ impl<K: Key> Log<K> {
         found
     }
 
-    // Adds an event where the word still has the value that is expected, which then is one more. Else nothing
+    // Adds an event if the word still has the expected value, which then is one more. Otherwise nothing
     // changes. `given` is a log that was seen, in which the event may follow while the word has this value;
     // `cell_proof` shows that an appended text is in the cell of its position.
     pub(super) fn exchange(

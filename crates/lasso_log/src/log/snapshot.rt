@@ -43,7 +43,7 @@ impl<K: Key> Snapshot<K> {
         both.learn(&self.seen);
     }
 
-    // The same history.
+    // A copy.
     pub(super) fn again(&self) -> Snapshot<K>
         ensures { result ≡ self.now }
     {

@@ -1,9 +1,10 @@
 //! The turns that a spine has seen: what the charges and limits of a history add up to, and how the limit is replaced and read.
-ghost use Rattle.std.specs.Prelude.{◌≡◌, ◌≢◌, ◌+◌, ◌<◌, ◌≤◌, ◌∷◌, [], IfSome, IfNone, MatchBool};
-ghost use Rattle.lasso_log.specs.Buckets.{bucket_size, doubling_after};
+ghost use Rattle.std.specs.Prelude.{◌≡◌, ◌≢◌, ◌+◌, ◌<◌, ◌≤◌, [], IfSome, IfNone, MatchBool};
+ghost use Rattle.lasso_log.specs.Buckets.{doubling_after};
+ghost use Rattle.lasso_log.specs.Charges.{next_size, SetsLimit, AreLast};
 ghost use Rattle.lasso_log.specs.History.{Limit};
-ghost use Rattle.lasso_log.specs.Notes.{Since, IsWordWith, state};
-ghost use Rattle.lasso_log.specs.Turns.{IsTurned, IsSameTurn};
+ghost use Rattle.lasso_log.specs.Notes.{Since};
+ghost use Rattle.lasso_log.specs.Turns.{IsTurned};
 ghost use Rattle.lasso_log.specs.Views.{PassView, InternerId, TurnsView, IsSamePass};
 
 use crate::log::note::{Change, Note};
@@ -46,7 +47,7 @@ impl<K: Key> Turns<K> {
     // refuses them.
     pub(super) fn bucket_for(&self, bytes: u64) -> Option<u64>
         requires { bytes ≢ 0 }
-        ensures size { result ≡ bucket_size self.now.doubling self.now.usage self.now.limit bytes }
+        ensures size { result ≡ next_size self.now bytes }
         ensures within { IfSome result (λ size. (bytes ≤ size) × (self.now.usage + size ≤ self.now.limit)) }
         ensures refused { IfNone result (self.now.limit < self.now.usage + bytes) }
     {
@@ -91,7 +92,7 @@ impl<K: Key> Log<K> {
         requires { (pass.old.of ≡ self.now) × (turns.now.of ≡ self.now) }
         ensures same { IsSamePass pass.new pass.old }
         ensures since { Since pass.old.number pass.old.notes pass.new.notes [] }
-        ensures at { MatchBool result (IsWordWith pass.new.notes 1 1 turns.now.turns × IsSameTurn (state self.now.opening turns.now.notes) (state self.now.opening pass.new.notes) × IsTurned K.key_at self.now.opening turns.now.notes turns.now.turns turns.now.doubling turns.now.usage turns.now.limit turns.now.count) (Unit {0}) }
+        ensures at { MatchBool result (AreLast K.key_at self.now.opening turns.now pass.new.notes) (Unit {0}) }
     {
         pass.learn_seen(&turns.seen);
         self.load(&self.turns, 1, pass) == turns.turns
@@ -101,7 +102,7 @@ impl<K: Key> Log<K> {
     pub(super) fn try_set_limit(&self, turns: &mut Turns<K>, pass: &mut Pass<K>, limit: u64) -> bool
         requires { (pass.old.of ≡ self.now) × (turns.old.of ≡ self.now) }
         ensures same { IsSamePass pass.new pass.old × (turns.new.of ≡ turns.old.of) }
-        ensures done { MatchBool result (Since pass.old.number pass.old.notes pass.new.notes (Limit limit ∷ []) × (turns.new.notes ≡ pass.new.notes) × (turns.new.limit ≡ limit) × (turns.new.count ≡ turns.old.count) × (turns.new.usage ≡ turns.old.usage) × (turns.new.doubling ≡ turns.old.doubling)) ((pass.new ≡ pass.old) × (turns.new ≡ turns.old)) }
+        ensures done { MatchBool result (SetsLimit limit pass.old pass.new turns.old turns.new) ((pass.new ≡ pass.old) × (turns.new ≡ turns.old)) }
     {
         if turns.turns == u64::MAX {
             return false;

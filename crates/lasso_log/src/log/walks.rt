@@ -86,7 +86,7 @@ impl<K: Key> Log<K> {
         self.reserve_older(rt, list, pass, bytes)
     }
 
-    // The same, the oldest bucket first.
+    // Takes bytes as `reserve_anywhere` does, in the oldest bucket that has room.
     fn reserve_older<R: Wait>(
         &self,
         rt: &R,

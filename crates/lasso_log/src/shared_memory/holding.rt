@@ -113,7 +113,7 @@ impl Fits for Holdings {
     ghost use Rattle.std.specs.Prelude.{All};
     ghost use Rattle.lasso_log.specs.SharedBuckets.{IsOfEra};
 
-    // all are lent for one era
+    // Each bucket is lent for the era that is the tag.
     ghost fits = { λ tag h. All (IsOfEra tag.id) h };
 }
 

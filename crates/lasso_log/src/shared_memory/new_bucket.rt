@@ -2,6 +2,7 @@
 ghost use Rattle.std.specs.Prelude.{◌≡◌, ◌≢◌, ◌+◌, ◌<◌, ◌++◌, ◌∷◌, [], IfOk, IfErr, IfSome, IfNone, OnErr};
 ghost use Rattle.lasso_parts.specs.declared.util.LassoErrorKind.TheVariants.{FailedAllocation};
 ghost use Rattle.lasso_log.specs.LentBuckets.{LentBucket};
+ghost use Rattle.lasso_log.specs.NewBuckets.{IsNextOf, TakesNext};
 ghost use Rattle.lasso_log.specs.Pieces.{RangeView};
 
 use crate::shared_memory::era::Era;
@@ -69,8 +70,8 @@ impl NewBucket {
     /// The next `bytes` bytes, to be filled. It returns `None` only if they do not fit, and changes nothing
     /// then.
     pub fn reserve(&mut self, bytes: usize) -> Option<Range>
-        ensures range { IfSome result (λ r. (r.era ≡ self.old.site.era) × (r.block ≡ self.old.site.block) × (r.start ≡ self.old.site.start + self.old.used) × (r.len ≡ bytes)) }
-        ensures taken { IfSome result (λ r. (self.new.site ≡ self.old.site) × (self.new.size ≡ self.old.size) × (self.new.used ≡ self.old.used + bytes)) }
+        ensures range { IfSome result (IsNextOf self.old bytes) }
+        ensures taken { IfSome result (λ r. TakesNext self.old self.new bytes) }
         ensures none { IfNone result ((self.new ≡ self.old) × (self.old.size < self.old.used + bytes)) }
     {
         if self.size - self.taken < bytes {

@@ -4,9 +4,9 @@
 //! A bucket's room is lent to the era byte by byte. `Free` is the exclusive right to fill places that nobody
 //! has taken, `Owed` the right to take them back once the era is over, and `Lent` says that bytes are
 //! somewhere until the era ends: it is lasting, so it may have any number of copies.
-ghost use Rattle.std.specs.Prelude.{◌≡◌, ℕ, ◌+◌, ◌≤◌, ◌<◌, ◌^◌, List, [], ◌∷◌, length};
-ghost use denote.RawPtr.{Ptr, block_ptr, block_of, count_of};
-ghost use Rattle.core.specs.Mem.Slots.{slots_items, slots_filled, slots_ptr, slots_len, SamePlaces, IsFull};
+ghost use Rattle.std.specs.Prelude.{◌≡◌, ℕ, ◌+◌, ◌≤◌, ◌<◌, ◌^◌, List, [], length};
+ghost use denote.RawPtr.{Ptr, block_ptr};
+ghost use Rattle.core.specs.Mem.Slots.{slots_items, slots_ptr, slots_len, SamePlaces, IsFull};
 ghost use base.Stored.{coded_list, coded_ℕ};
 ghost use base.Fml.{Incl};
 ghost use Rattle.lasso_log.specs.Eras.{life};
@@ -85,7 +85,6 @@ impl Free {
         ensures first { (result.era ≡ self.old.era) × (result.block ≡ self.old.block) × (result.start ≡ self.old.start) × (result.len ≡ n) }
         ensures rest { (self.new.era ≡ self.old.era) × (self.new.block ≡ self.old.block) × (self.new.start ≡ self.old.start + n) × (self.new.len + n ≡ self.old.len) }
     {
-        let _ = n;
         Free {
             marker: PhantomData,
         }
@@ -101,7 +100,6 @@ impl Free {
         ensures bytes { result.bytes ≡ bytes.now }
     {
         let Self { marker: _ } = self;
-        let _ = era;
         let slots = unsafe { Slots::from_raw_parts(ptr, bytes.len()) };
         let slots = filled(slots, bytes);
         let (_, _) = unsafe { slots.into_raw_parts() };
@@ -128,7 +126,6 @@ pub fn lend(era: &Era, slots: Slots<u8>) -> (Free, Owed)
     ensures free { (result.0.era ≡ era.now.id) × (block_ptr result.0.block result.0.start ≡ slots_ptr slots) × (result.0.len ≡ slots_len slots) }
     ensures owed { (result.1.era ≡ era.now.id) × (block_ptr result.1.block result.1.start ≡ slots_ptr slots) × (result.1.len ≡ slots_len slots) }
 {
-    let _ = era;
     let (_, _) = unsafe { slots.into_raw_parts() };
     (
         Free {
@@ -149,7 +146,6 @@ impl Owed {
         ensures { (slots_ptr result ≡ ptr) × (slots_len result ≡ len) }
     {
         let Self { marker: _ } = self;
-        let _ = ended;
         unsafe { Slots::from_raw_parts(ptr, len) }
     }
 }
@@ -169,15 +165,6 @@ impl Lent {
         )
     }
 
-    /// A copy.
-    pub fn again(&self) -> Lent
-        ensures { result ≡ self.now }
-    {
-        Lent {
-            marker: PhantomData,
-        }
-    }
-
     /// The bytes, in place, lent as long as the era.
     pub fn read<'a>(&self, era: &'a Era, ptr: *const u8, len: usize) -> &'a [u8]
         requires until { Incl (life era.now.id) self.now.until }
@@ -185,7 +172,6 @@ impl Lent {
         requires count { (len ≡ length self.now.bytes) × (len < 2 ^ 63) }
         ensures { result.now ≡ self.now.bytes }
     {
-        let _ = era;
         unsafe { slice::from_raw_parts(ptr, len) }
     }
 }

@@ -34,7 +34,7 @@ pub(super) struct Ahead<K: Key> {
 }
 
 impl<K: Key, S: BuildHasher + Drop> Shards<K, S> {
-    // Nothing is known yet.
+    // No guess, and a list of which no length is known.
     #[inline(always)]
     pub(super) fn nothing_ahead(&self) -> Ahead<K>
         ensures { result.list.of ≡ self.now.log }
@@ -45,7 +45,7 @@ impl<K: Key, S: BuildHasher + Drop> Shards<K, S> {
         }
     }
 
-    // Guesses at texts that have no guess, with each of their shards locked once for reading.
+    // Guesses the positions of texts that have no guess yet. Each of their shards is locked once, for reading.
     fn guess_in_shards<R: Wait>(&self, rt: &R, guesses: &mut Guesses) {
         let places = guesses.places_left();
         for number in 0..SHARDS {
@@ -57,7 +57,7 @@ impl<K: Key, S: BuildHasher + Drop> Shards<K, S> {
         }
     }
 
-    // Looks at the texts at the guesses, so that they are near when the texts are compared.
+    // Reads the texts at the guesses, so that they are in the cache when they are compared.
     fn look_at_guesses(&self, list: &KnownList<K>, texts: &[&str], guesses: &mut Guesses)
         requires { list.now.of ≡ self.now.log }
     {
@@ -142,8 +142,8 @@ impl<K: Key, S: BuildHasher + Drop> Shards<K, S> {
         Some(key_at(&known, position as usize))
     }
 
-    // Interns the next text of those that were looked ahead at. Without a guess it was absent, so it goes to its
-    // shard at once. With any other text nothing wrong is returned.
+    // Interns the next text of those that were looked ahead at. A text without a guess was absent, so its shard is locked at
+    // once. The reply is right for any other text too.
     #[inline(always)]
     pub(super) fn intern_next<R: Wait>(
         &self,
@@ -175,7 +175,7 @@ impl<K: Key, S: BuildHasher + Drop> Shards<K, S> {
         )
     }
 
-    // Looks up the next text of those that were looked ahead at. With any other text nothing wrong is returned.
+    // Looks up the next text of those that were looked ahead at. The reply is right for any other text too.
     #[inline(always)]
     pub(super) fn get_next<R: Wait>(
         &self,

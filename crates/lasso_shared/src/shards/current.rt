@@ -4,7 +4,8 @@ ghost use mathlib.Core.List.{IsPrefix};
 ghost use Rattle.lasso_parts.specs.Hashing.{hash_by};
 ghost use Rattle.lasso_log.specs.Notes.{Since};
 ghost use Rattle.lasso_log.specs.Views.{PassView, InternerId, SnapshotView, IsSamePass, list_of};
-ghost use Rattle.lasso_shared.specs.Shards.{IsShard, IsTally, IsWholeShard};
+ghost use Rattle.lasso_shared.specs.Locked.{IsLocked};
+ghost use Rattle.lasso_shared.specs.Shards.{IsTally, IsWholeShard};
 
 use crate::shards::Shards;
 use crate::shards::shard::{BoxedTally, Shard, Tally};
@@ -24,7 +25,7 @@ impl<K: Key, S: BuildHasher + Drop> Shards<K, S> {
         number: usize,
     ) -> bool
         requires of { (pass.old.of ≡ self.now.log) × (number < 16) }
-        requires held { IsShard (hash_by S.BuildHasher S.Hasher.Hasher self.now.hasher) number self.now.log shard.now.known shard.now.index shard.now.count }
+        requires held { IsLocked (hash_by S.BuildHasher S.Hasher.Hasher self.now.hasher) number self.now.log shard.now }
         requires tally { IsTally (hash_by S.BuildHasher S.Hasher.Hasher self.now.hasher) self.now.log tally.now.spine tally.now.counts }
         requires begins { IsPrefix shard.now.known.notes pass.old.notes }
         ensures same { IsSamePass pass.new pass.old }
@@ -40,8 +41,8 @@ impl<K: Key, S: BuildHasher + Drop> Shards<K, S> {
         tally.counts[number] == shard.count
     }
 
-    // Locks the spine once the held shard is whole: it compares the shard with the spine's number of it, until
-    // they are equal and the length is the spine's. The shard's index is exact for what the pass has then seen.
+    // Retries until the locked shard has as many texts as the spine counts for it, and the length is the spine's, and returns
+    // with the spine locked. The shard's index is then exact for what the pass has seen.
     pub(super) fn lock_current<R: Wait>(
         &self,
         rt: &R,
@@ -50,7 +51,7 @@ impl<K: Key, S: BuildHasher + Drop> Shards<K, S> {
         number: usize,
     ) -> (TaggedMutexGuard<'_, BoxedTally<K, S>>, BoxedTally<K, S>)
         requires of { (pass.old.of ≡ self.now.log) × (number < 16) }
-        requires held { IsShard (hash_by S.BuildHasher S.Hasher.Hasher self.now.hasher) number self.now.log shard.now.known shard.now.index shard.now.count }
+        requires held { IsLocked (hash_by S.BuildHasher S.Hasher.Hasher self.now.hasher) number self.now.log shard.now }
         requires begins { IsPrefix shard.now.known.notes pass.old.notes }
         ensures same { IsSamePass pass.new pass.old }
         ensures since { Since pass.old.number pass.old.notes pass.new.notes [] }
@@ -69,8 +70,8 @@ impl<K: Key, S: BuildHasher + Drop> Shards<K, S> {
         unreachable!()
     }
 
-    // The same, for a caller that needs no spine. It stays out of line, so that present texts set up nothing for
-    // it.
+    // Does the same for a caller that needs no spine. It is not inlined, so that a look-up of a present text sets up
+    // nothing for it.
     #[inline(never)]
     pub(super) fn wait_current<R: Wait>(
         &self,
@@ -80,7 +81,7 @@ impl<K: Key, S: BuildHasher + Drop> Shards<K, S> {
         number: usize,
     )
         requires of { (pass.old.of ≡ self.now.log) × (number < 16) }
-        requires held { IsShard (hash_by S.BuildHasher S.Hasher.Hasher self.now.hasher) number self.now.log shard.now.known shard.now.index shard.now.count }
+        requires held { IsLocked (hash_by S.BuildHasher S.Hasher.Hasher self.now.hasher) number self.now.log shard.now }
         requires begins { IsPrefix shard.now.known.notes pass.old.notes }
         ensures same { IsSamePass pass.new pass.old }
         ensures since { Since pass.old.number pass.old.notes pass.new.notes [] }

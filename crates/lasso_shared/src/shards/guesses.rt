@@ -25,12 +25,12 @@ pub(super) struct Guess {
     pub(super) position: Option<u64>,
     /// Whether the text at the position looks the same.
     pub(super) is_alike: bool,
-    // Whether a hint of the pass told the position.
+    // Whether the position came from a hint of the pass.
     is_hint: bool,
 }
 
 impl Guess {
-    // No guess at a text with that hash.
+    // A text with that hash, whose position is not guessed yet.
     #[inline(always)]
     fn none(hash: u64) -> Self {
         Guess {

@@ -10,7 +10,8 @@ ghost use Rattle.lasso_log.specs.Replies.{Copied, Static, Intern, Interned};
 ghost use Rattle.lasso_log.specs.Calls.{IsCall, IsPlainCall};
 ghost use Rattle.lasso_log.specs.Views.{PassView, InternerId, IsSamePass, seen};
 ghost use Rattle.lasso_shared.specs.NewTexts.{keeping_of, text_of};
-ghost use Rattle.lasso_shared.specs.Shards.{IsShard, shard_of};
+ghost use Rattle.lasso_shared.specs.Locked.{IsLocked};
+ghost use Rattle.lasso_shared.specs.Shards.{shard_of};
 
 use crate::shards::Shards;
 use crate::shards::new_text::NewText;
@@ -24,7 +25,7 @@ use std::hash::BuildHasher;
 use std::sync::Wait;
 
 impl<K: Key, S: BuildHasher + Drop> Shards<K, S> {
-    // Interns a text of the held shard.
+    // Interns a text whose shard the caller has locked.
     fn intern_held<R: Wait>(
         &self,
         rt: &R,
@@ -35,10 +36,10 @@ impl<K: Key, S: BuildHasher + Drop> Shards<K, S> {
     ) -> LassoResult<K>
         requires of { pass.old.of ≡ self.now.log }
         requires hashed { hash ≡ hash_by S.BuildHasher S.Hasher.Hasher self.now.hasher (text_of text) }
-        requires held { IsShard (hash_by S.BuildHasher S.Hasher.Hasher self.now.hasher) (shard_of hash) self.now.log shard.old.known shard.old.index shard.old.count }
+        requires held { IsLocked (hash_by S.BuildHasher S.Hasher.Hasher self.now.hasher) (shard_of hash) self.now.log shard.old }
         ensures same { IsSamePass pass.new pass.old }
         ensures call { IsCall K.key_at self.now.log.opening (seen pass.old) (seen pass.new) pass.old.number (Intern (keeping_of text.entry) (text_of text.entry)) (Interned result) }
-        ensures held { IsShard (hash_by S.BuildHasher S.Hasher.Hasher self.now.hasher) (shard_of hash) self.now.log shard.new.known shard.new.index shard.new.count }
+        ensures held { IsLocked (hash_by S.BuildHasher S.Hasher.Hasher self.now.hasher) (shard_of hash) self.now.log shard.new }
     {
         if let Some(key) = self.find(shard, pass, hash, text.as_str()) {
             return Ok(key);
@@ -48,7 +49,7 @@ impl<K: Key, S: BuildHasher + Drop> Shards<K, S> {
         self.put_last(rt, shard, pass, ahead, hash, piece)
     }
 
-    // Interns a text that the first look-up did not find. It stays out of line, so that present texts set up
+    // Interns a text that the first look-up did not find. It is not inlined, so that a call with a present text sets up
     // nothing for it.
     #[inline(never)]
     pub(super) fn intern_new<R: Wait>(

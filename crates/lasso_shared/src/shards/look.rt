@@ -8,7 +8,8 @@ ghost use Rattle.lasso_log.specs.Notes.{NoteView, Since, history};
 ghost use Rattle.lasso_log.specs.Replies.{Get, Found};
 ghost use Rattle.lasso_log.specs.Calls.{IsCall, IsPlainCall};
 ghost use Rattle.lasso_log.specs.Views.{PassView, InternerId, SnapshotView, IsSamePass, list_of, seen};
-ghost use Rattle.lasso_shared.specs.Shards.{IsShard, shard_of};
+ghost use Rattle.lasso_shared.specs.Locked.{IsLocked};
+ghost use Rattle.lasso_shared.specs.Shards.{shard_of};
 
 use crate::shards::Shards;
 use crate::shards::shard::Shard;
@@ -30,8 +31,8 @@ pub(super) fn key_at<K: Key>(known: &Snapshot<K>, position: usize) -> K
 }
 
 impl<K: Key, S: BuildHasher + Drop> Shards<K, S> {
-    // The position of the text in a history that begins with the shard's own, where the shard's index has it.
-    // Else the list of the shard's own history lacks it.
+    // The position of the text in a history that begins with the shard's own, if the shard's index has it.
+    // Otherwise the list of the shard's own history lacks the text.
     #[inline(always)]
     fn find_position(
         &self,
@@ -43,7 +44,7 @@ impl<K: Key, S: BuildHasher + Drop> Shards<K, S> {
         requires of { known.now.of ≡ self.now.log }
         requires begins { IsPrefix shard.now.known.notes known.now.notes }
         requires hashed { hash ≡ hash_by S.BuildHasher S.Hasher.Hasher self.now.hasher text.now }
-        requires held { IsShard (hash_by S.BuildHasher S.Hasher.Hasher self.now.hasher) (shard_of hash) self.now.log shard.now.known shard.now.index shard.now.count }
+        requires held { IsLocked (hash_by S.BuildHasher S.Hasher.Hasher self.now.hasher) (shard_of hash) self.now.log shard.now }
         ensures found { IfSome result (λ n. (position_of (list_of self.now.log known.now.notes) text.now ≡ Some n) × (n < length (list_of self.now.log known.now.notes))) }
         ensures missing { IfNone result (Lacks (list_of self.now.log shard.now.known.notes) text.now) }
     {
@@ -52,12 +53,12 @@ impl<K: Key, S: BuildHasher + Drop> Shards<K, S> {
         shard.index.find_hashed(&texts, &self.hasher, hash, text)
     }
 
-    // The key of the text, where the shard's index has it. Else the list of the shard's own history, which is
-    // legal, lacks it.
+    // The key of the text, if the shard's index has it. Otherwise the list of the shard's own history, which is
+    // legal, lacks the text.
     #[inline(always)]
     fn find_key(&self, shard: &Shard<K, S>, hash: u64, text: &str) -> Option<K>
         requires hashed { hash ≡ hash_by S.BuildHasher S.Hasher.Hasher self.now.hasher text.now }
-        requires held { IsShard (hash_by S.BuildHasher S.Hasher.Hasher self.now.hasher) (shard_of hash) self.now.log shard.now.known shard.now.index shard.now.count }
+        requires held { IsLocked (hash_by S.BuildHasher S.Hasher.Hasher self.now.hasher) (shard_of hash) self.now.log shard.now }
         ensures found { IfSome result (λ k. IsLegal K.key_at self.now.log.opening (history shard.now.known.notes) × (key_of K.key_at (list_of self.now.log shard.now.known.notes) text.now ≡ Some k)) }
         ensures missing { IfNone result (Lacks (list_of self.now.log shard.now.known.notes) text.now) }
     {
@@ -68,8 +69,8 @@ impl<K: Key, S: BuildHasher + Drop> Shards<K, S> {
         }
     }
 
-    // The same in the history that the pass has then seen. The pass learns the shard's own, and keeps a hint
-    // of a present text.
+    // The key of the text, if the shard's index has it. The pass learns the shard's own history, and keeps a hint of a
+    // present text.
     #[inline(always)]
     pub(super) fn find(
         &self,
@@ -80,7 +81,7 @@ impl<K: Key, S: BuildHasher + Drop> Shards<K, S> {
     ) -> Option<K>
         requires of { pass.old.of ≡ self.now.log }
         requires hashed { hash ≡ hash_by S.BuildHasher S.Hasher.Hasher self.now.hasher text.now }
-        requires held { IsShard (hash_by S.BuildHasher S.Hasher.Hasher self.now.hasher) (shard_of hash) self.now.log shard.now.known shard.now.index shard.now.count }
+        requires held { IsLocked (hash_by S.BuildHasher S.Hasher.Hasher self.now.hasher) (shard_of hash) self.now.log shard.now }
         ensures same { IsSamePass pass.new pass.old }
         ensures since { Since pass.old.number pass.old.notes pass.new.notes [] }
         ensures begins { IsPrefix shard.now.known.notes pass.new.notes }
@@ -137,7 +138,7 @@ impl<K: Key, S: BuildHasher + Drop> Shards<K, S> {
         found
     }
 
-    // The key of the text, where the shard's index has it, without a pass. Other readers may look up at the
+    // The key of the text, if the shard's index has it, without a pass. Other readers may look up at the
     // same time.
     #[inline(always)]
     pub(super) fn glance<R: Wait>(&self, rt: &R, hash: u64, text: &str) -> Option<K>
@@ -150,7 +151,8 @@ impl<K: Key, S: BuildHasher + Drop> Shards<K, S> {
         found
     }
 
-    // The key of the text in the list that the pass has then seen, or none where that list lacks it. The shard is held.
+    // The key of the text in the list that the pass has then seen, or none if that list lacks it. The caller has locked the
+    // shard.
     #[inline(always)]
     fn look_up<R: Wait>(
         &self,
@@ -162,7 +164,7 @@ impl<K: Key, S: BuildHasher + Drop> Shards<K, S> {
     ) -> Option<K>
         requires of { pass.old.of ≡ self.now.log }
         requires hashed { hash ≡ hash_by S.BuildHasher S.Hasher.Hasher self.now.hasher text.now }
-        requires held { IsShard (hash_by S.BuildHasher S.Hasher.Hasher self.now.hasher) (shard_of hash) self.now.log shard.now.known shard.now.index shard.now.count }
+        requires held { IsLocked (hash_by S.BuildHasher S.Hasher.Hasher self.now.hasher) (shard_of hash) self.now.log shard.now }
         ensures same { IsSamePass pass.new pass.old }
         ensures since { Since pass.old.number pass.old.notes pass.new.notes [] }
         ensures found { result ≡ key_of K.key_at (list_of self.now.log pass.new.notes) text.now }
@@ -174,7 +176,7 @@ impl<K: Key, S: BuildHasher + Drop> Shards<K, S> {
         None
     }
 
-    // The same; the shard is locked for reading meanwhile.
+    // Does the same, and locks the shard for reading.
     #[inline(always)]
     pub(super) fn get_locked<R: Wait>(
         &self,

@@ -57,7 +57,7 @@ impl<K: Key, S: BuildHasher + Drop> Shards<K, S> {
         Shards::open_with(alloc, hasher, opening, u64::MAX)
     }
 
-    // The same of an interner that opens with these texts, their bucket and a limit.
+    // Opens the log with these texts, their bucket and a limit, and makes the list of buckets and the locks.
     fn open_with(
         alloc: Global,
         hasher: S,

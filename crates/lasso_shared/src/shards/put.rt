@@ -16,7 +16,8 @@ ghost use Rattle.lasso_log.specs.Eras.{life};
 ghost use Rattle.lasso_log.specs.History.{Lacks};
 ghost use Rattle.lasso_log.specs.Notes.{Since};
 ghost use Rattle.lasso_log.specs.Pieces.{PieceView};
-ghost use Rattle.lasso_shared.specs.Shards.{IsShard, IsTally, IsWholeShard, PutsLast, shard_of};
+ghost use Rattle.lasso_shared.specs.Locked.{IsLocked};
+ghost use Rattle.lasso_shared.specs.Shards.{IsTally, IsWholeShard, PutsLast, shard_of};
 ghost use Rattle.lasso_log.specs.Views.{PassView, InternerId, SnapshotView, IsSamePass, list_of};
 
 use crate::shards::Shards;
@@ -30,8 +31,8 @@ use std::hash::BuildHasher;
 use std::sync::Wait;
 
 impl<K: Key, S: BuildHasher + Drop> Shards<K, S> {
-    // Returns the cells of the log ahead of its length. Where they are not made yet the spine is held, so
-    // that one thread makes them.
+    // Returns the cells of the log ahead of its length. If they are not made yet, the spine is locked, so that one
+    // thread makes them.
     fn cells_ahead<R: Wait>(&self, rt: &R, pass: &mut Pass<K>) -> LassoResult<CellsAhead<K>>
         requires { pass.old.of ≡ self.now.log }
         ensures same { IsSamePass pass.new pass.old }
@@ -48,7 +49,7 @@ impl<K: Key, S: BuildHasher + Drop> Shards<K, S> {
         made
     }
 
-    // Makes room in the shard's index and in the log. Out of memory, the shard has the texts that it had.
+    // Makes room for one text in the shard's index, and cells in the log. Out of memory, the shard keeps its texts.
     fn grow<R: Wait>(
         &self,
         rt: &R,
@@ -57,12 +58,12 @@ impl<K: Key, S: BuildHasher + Drop> Shards<K, S> {
         number: usize,
     ) -> LassoResult<CellsAhead<K>>
         requires of { pass.old.of ≡ self.now.log }
-        requires held { IsShard (hash_by S.BuildHasher S.Hasher.Hasher self.now.hasher) number self.now.log shard.old.known shard.old.index shard.old.count }
+        requires held { IsLocked (hash_by S.BuildHasher S.Hasher.Hasher self.now.hasher) number self.now.log shard.old }
         requires begins { IsPrefix shard.old.known.notes pass.old.notes }
         ensures same { IsSamePass pass.new pass.old }
         ensures since { Since pass.old.number pass.old.notes pass.new.notes [] }
         ensures begins { IsPrefix shard.old.known.notes pass.new.notes }
-        ensures held { IsShard (hash_by S.BuildHasher S.Hasher.Hasher self.now.hasher) number self.now.log shard.new.known shard.new.index shard.new.count }
+        ensures held { IsLocked (hash_by S.BuildHasher S.Hasher.Hasher self.now.hasher) number self.now.log shard.new }
         ensures known { shard.new.known ≡ shard.old.known }
         ensures room { OnOk result (0 < room shard.new.index.slots) }
         ensures ahead { IfOk result (λ a. (a.of ≡ self.now.log) × (a.notes ≡ pass.new.notes)) }
@@ -73,7 +74,7 @@ impl<K: Key, S: BuildHasher + Drop> Shards<K, S> {
         self.cells_ahead(rt, pass)
     }
 
-    // The same; out of memory, the shard is also whole for what the pass has then seen.
+    // Makes the same room. Out of memory, the shard is also whole for what the pass has then seen.
     pub(super) fn make_room<R: Wait>(
         &self,
         rt: &R,
@@ -82,12 +83,12 @@ impl<K: Key, S: BuildHasher + Drop> Shards<K, S> {
         number: usize,
     ) -> LassoResult<CellsAhead<K>>
         requires of { (pass.old.of ≡ self.now.log) × (number < 16) }
-        requires held { IsShard (hash_by S.BuildHasher S.Hasher.Hasher self.now.hasher) number self.now.log shard.old.known shard.old.index shard.old.count }
+        requires held { IsLocked (hash_by S.BuildHasher S.Hasher.Hasher self.now.hasher) number self.now.log shard.old }
         requires begins { IsPrefix shard.old.known.notes pass.old.notes }
         ensures same { IsSamePass pass.new pass.old }
         ensures since { Since pass.old.number pass.old.notes pass.new.notes [] }
         ensures begins { IsPrefix shard.old.known.notes pass.new.notes }
-        ensures held { IsShard (hash_by S.BuildHasher S.Hasher.Hasher self.now.hasher) number self.now.log shard.new.known shard.new.index shard.new.count }
+        ensures held { IsLocked (hash_by S.BuildHasher S.Hasher.Hasher self.now.hasher) number self.now.log shard.new }
         ensures known { shard.new.known ≡ shard.old.known }
         ensures whole { OnErr result (IsWholeShard (hash_by S.BuildHasher S.Hasher.Hasher self.now.hasher) number self.now.log shard.old.known.notes pass.new.notes) }
         ensures room { OnOk result (0 < room shard.new.index.slots) }
@@ -103,8 +104,8 @@ impl<K: Key, S: BuildHasher + Drop> Shards<K, S> {
         }
     }
 
-    // Puts the text last, where the shard is whole for what the pass has seen, and the spine has seen that list. Where the key
-    // type has no key for its position, the cell is given back.
+    // Appends the text. The shard must be whole for what the pass has seen, and the spine must have seen that list. If the key
+    // type has no key for the position, the cell is given back.
     fn append_at<R: Wait>(
         &self,
         rt: &R,
@@ -118,7 +119,7 @@ impl<K: Key, S: BuildHasher + Drop> Shards<K, S> {
         requires of { (pass.old.of ≡ self.now.log) × (cell ≡ self.now.log) }
         requires lasts { Incl (life (era_named self.now.log.chunks)) text.until }
         requires hashed { hash ≡ hash_by S.BuildHasher S.Hasher.Hasher self.now.hasher text.text }
-        requires held { IsShard (hash_by S.BuildHasher S.Hasher.Hasher self.now.hasher) (shard_of hash) self.now.log shard.old.known shard.old.index shard.old.count }
+        requires held { IsLocked (hash_by S.BuildHasher S.Hasher.Hasher self.now.hasher) (shard_of hash) self.now.log shard.old }
         requires tally { IsTally (hash_by S.BuildHasher S.Hasher.Hasher self.now.hasher) self.now.log tally.old.spine tally.old.counts }
         requires whole { IsWholeShard (hash_by S.BuildHasher S.Hasher.Hasher self.now.hasher) (shard_of hash) self.now.log shard.old.known.notes pass.old.notes }
         requires list { list_of self.now.log pass.old.notes ≡ list_of self.now.log tally.old.spine.notes }
@@ -126,7 +127,7 @@ impl<K: Key, S: BuildHasher + Drop> Shards<K, S> {
         requires room { 0 < room shard.old.index.slots }
         ensures same { IsSamePass pass.new pass.old }
         ensures put { PutsLast K.key_at self.now.log pass.old.number pass.old.notes pass.new.notes text.text result }
-        ensures held { IsShard (hash_by S.BuildHasher S.Hasher.Hasher self.now.hasher) (shard_of hash) self.now.log shard.new.known shard.new.index shard.new.count }
+        ensures held { IsLocked (hash_by S.BuildHasher S.Hasher.Hasher self.now.hasher) (shard_of hash) self.now.log shard.new }
         ensures tally { IsTally (hash_by S.BuildHasher S.Hasher.Hasher self.now.hasher) self.now.log tally.new.spine tally.new.counts }
         ensures kept { tally.new.spine.kept ≡ tally.old.spine.kept - 1 }
     {
@@ -136,6 +137,7 @@ impl<K: Key, S: BuildHasher + Drop> Shards<K, S> {
             return Err(LassoError::new(LassoErrorKind::KeySpaceExhaustion));
         };
         self.log.append(rt, &mut tally.spine, pass, cell, text);
+        // The length of the longer list fits in 64 bits, so the shard's count, which is not above it, can't overflow.
         let _len = tally.spine.len();
         shard.index.insert_reserved(hash, key);
         shard.known = pass.snapshot();
@@ -144,9 +146,9 @@ impl<K: Key, S: BuildHasher + Drop> Shards<K, S> {
         Ok(key)
     }
 
-    // Puts the text last, once the shard is whole for what the pass has then seen. The caller has made cells
-    // ahead, so the loop asks for no memory. It tries again where the text's cell is not made, which cannot
-    // happen while each caller holds a shard and made its cells in that hold.
+    // Appends the text, once the shard is whole for what the pass has then seen. The caller has made cells
+    // ahead, so the loop asks for no memory. It tries again if the text's cell is not made, which can't
+    // happen while each caller locks a shard and made its cells under that lock.
     pub(super) fn put_last<R: Wait>(
         &self,
         rt: &R,
@@ -159,13 +161,13 @@ impl<K: Key, S: BuildHasher + Drop> Shards<K, S> {
         requires of { (pass.old.of ≡ self.now.log) × (ahead.of ≡ self.now.log) }
         requires lasts { Incl (life (era_named self.now.log.chunks)) text.until }
         requires hashed { hash ≡ hash_by S.BuildHasher S.Hasher.Hasher self.now.hasher text.text }
-        requires held { IsShard (hash_by S.BuildHasher S.Hasher.Hasher self.now.hasher) (shard_of hash) self.now.log shard.old.known shard.old.index shard.old.count }
+        requires held { IsLocked (hash_by S.BuildHasher S.Hasher.Hasher self.now.hasher) (shard_of hash) self.now.log shard.old }
         requires begins { IsPrefix shard.old.known.notes pass.old.notes }
         requires lacks { Lacks (list_of self.now.log shard.old.known.notes) text.text }
         requires room { 0 < room shard.old.index.slots }
         ensures same { IsSamePass pass.new pass.old }
         ensures put { PutsLast K.key_at self.now.log pass.old.number pass.old.notes pass.new.notes text.text result }
-        ensures held { IsShard (hash_by S.BuildHasher S.Hasher.Hasher self.now.hasher) (shard_of hash) self.now.log shard.new.known shard.new.index shard.new.count }
+        ensures held { IsLocked (hash_by S.BuildHasher S.Hasher.Hasher self.now.hasher) (shard_of hash) self.now.log shard.new }
     {
         for _ in rt.forever() {
             let (guard, mut held) = self.lock_current(rt, shard, pass, number_of(hash));

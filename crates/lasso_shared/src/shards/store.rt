@@ -3,12 +3,12 @@
 //! The buckets are walked without the spine. If none has room the spine is locked, and the shard is compared
 //! with the spine's number of it. Then the buckets are walked again, and one is added if none has room still.
 //! So a refusal by the limit is one of a step at which the list lacks the text.
-ghost use Rattle.std.specs.Prelude.{◌≡◌, ◌≢◌, ◌⊎◌, [], List, length, Err, IfOk, IfErr, OnErr};
+ghost use Rattle.std.specs.Prelude.{◌≡◌, ◌≢◌, [], List, length, Err, IfOk, IfErr, OnErr};
 ghost use mathlib.Core.List.{IsPrefix};
 ghost use base.Fml.{Incl};
-ghost use Rattle.lasso_parts.specs.declared.util.LassoErrorKind.TheVariants.{FailedAllocation, MemoryLimitReached};
 ghost use Rattle.lasso_parts.specs.Hashing.{hash_by};
 ghost use Rattle.lasso_log.specs.Calls.{IsCall, TakesBytes, Stores};
+ghost use Rattle.lasso_log.specs.Charges.{IsRefusal};
 ghost use Rattle.lasso_log.specs.Chunks.{era_named};
 ghost use Rattle.lasso_log.specs.Eras.{life};
 ghost use Rattle.lasso_log.specs.History.{Event, Lacks};
@@ -16,8 +16,8 @@ ghost use Rattle.lasso_log.specs.Notes.{Since};
 ghost use Rattle.lasso_log.specs.Pieces.{PieceView, RangeView};
 ghost use Rattle.lasso_log.specs.Replies.{Copied, Intern, Interned};
 ghost use Rattle.lasso_shared.specs.NewTexts.{keeping_of, text_of};
-ghost use Rattle.lasso_shared.specs.Shards.{IsShard, shard_of};
-ghost use Rattle.lasso_log.specs.Turns.{IsPastLimit};
+ghost use Rattle.lasso_shared.specs.Locked.{IsLocked};
+ghost use Rattle.lasso_shared.specs.Shards.{shard_of};
 ghost use Rattle.lasso_log.specs.Views.{PassView, InternerId, SpineView, IsSamePass, IsSameSpine, list_of, seen};
 
 use crate::shards::Shards;
@@ -32,9 +32,9 @@ use std::hash::BuildHasher;
 use std::sync::Wait;
 
 impl<K: Key, S: BuildHasher + Drop> Shards<K, S> {
-    // Takes `bytes` bytes, at least one, with the spine held: in a bucket that has room for them, or else in
-    // a new one. A refusal leaves no event, and one by the limit comes at a step at which the list is as long
-    // as the spine's.
+    // Takes `bytes` bytes, at least one, with the spine locked: in a bucket that has room for them, or else in
+    // a new one. A refusal adds no event. If the limit refuses, it does so at a step at which the list is as
+    // long as the spine's.
     fn reserve_or_charge<R: Wait>(
         &self,
         rt: &R,
@@ -48,7 +48,7 @@ impl<K: Key, S: BuildHasher + Drop> Shards<K, S> {
         ensures tally { IsSameSpine tally.new.spine tally.old.spine × (tally.new.counts ≡ tally.old.counts) }
         ensures event { IfOk result (λ r. (own : List Event) × TakesBytes bytes own × Since pass.old.number pass.old.notes pass.new.notes own) }
         ensures range { IfOk result (λ r. (r.era ≡ era_named self.now.log.chunks) × (r.len ≡ bytes)) }
-        ensures refused { IfErr result (λ error. (error ≡ FailedAllocation) ⊎ ((error ≡ MemoryLimitReached) × IsPastLimit self.now.log.opening pass.old.notes pass.new.notes (length (list_of self.now.log tally.old.spine.notes)) bytes)) }
+        ensures refused { IfErr result (IsRefusal self.now.log tally.old.spine.notes pass.old.notes pass.new.notes bytes) }
         ensures err { OnErr result (Since pass.old.number pass.old.notes pass.new.notes []) }
     {
         if let Some(range) = self
@@ -60,7 +60,8 @@ impl<K: Key, S: BuildHasher + Drop> Shards<K, S> {
         self.log.charge(rt, self.alloc, &self.buckets, &mut tally.spine, pass, bytes)
     }
 
-    // Takes the bytes of a text that is not empty and that the held shard lacks. The reply to a refusal is explained.
+    // Takes the bytes of a text that is not empty and that the locked shard lacks. If they are refused, the call of the pass
+    // that interns the text may return that refusal.
     fn take_bytes<R: Wait>(
         &self,
         rt: &R,
@@ -71,7 +72,7 @@ impl<K: Key, S: BuildHasher + Drop> Shards<K, S> {
     ) -> LassoResult<Range>
         requires of { pass.old.of ≡ self.now.log }
         requires hashed { hash ≡ hash_by S.BuildHasher S.Hasher.Hasher self.now.hasher text.now }
-        requires held { IsShard (hash_by S.BuildHasher S.Hasher.Hasher self.now.hasher) (shard_of hash) self.now.log shard.now.known shard.now.index shard.now.count }
+        requires held { IsLocked (hash_by S.BuildHasher S.Hasher.Hasher self.now.hasher) (shard_of hash) self.now.log shard.now }
         requires begins { IsPrefix shard.now.known.notes pass.old.notes }
         requires lacks { Lacks (list_of self.now.log shard.now.known.notes) text.now }
         requires some { text.now ≢ [] }
@@ -90,8 +91,8 @@ impl<K: Key, S: BuildHasher + Drop> Shards<K, S> {
         range
     }
 
-    // The text where it lies from then on, as long as the interner: a copy that is not empty lies in a bucket. The
-    // held shard lacks the text.
+    // Returns the text at its lasting place: a copy in a bucket, or the text itself if it is static or empty. The locked
+    // shard must lack the text.
     pub(super) fn store<R: Wait>(
         &self,
         rt: &R,
@@ -102,7 +103,7 @@ impl<K: Key, S: BuildHasher + Drop> Shards<K, S> {
     ) -> LassoResult<Piece>
         requires of { pass.old.of ≡ self.now.log }
         requires hashed { hash ≡ hash_by S.BuildHasher S.Hasher.Hasher self.now.hasher (text_of text) }
-        requires held { IsShard (hash_by S.BuildHasher S.Hasher.Hasher self.now.hasher) (shard_of hash) self.now.log shard.now.known shard.now.index shard.now.count }
+        requires held { IsLocked (hash_by S.BuildHasher S.Hasher.Hasher self.now.hasher) (shard_of hash) self.now.log shard.now }
         requires begins { IsPrefix shard.now.known.notes pass.old.notes }
         requires lacks { Lacks (list_of self.now.log shard.now.known.notes) (text_of text) }
         ensures same { IsSamePass pass.new pass.old }

@@ -91,7 +91,7 @@ impl<K: Key, S: BuildHasher + Drop> ThreadedRodeo<K, S> {
         self.eq_texts(resolver, resolver.len())
     }
 
-    // Whether the list at one step is the other one, which must have `len` texts.
+    // Whether the list at one step is the other one, which must have `other_len` texts.
     fn eq_texts<T: Texts>(&self, other: &T, other_len: usize) -> bool
         requires { other_len ≡ length (T.list other.now) }
         ensures list { (list : List Text) × IsPlainCall K.key_at self.now.opening Strings (Listed (Ok list)) × (IsTrue result ↔ (list ≡ T.list other.now)) }
@@ -105,7 +105,7 @@ impl<K: Key, S: BuildHasher + Drop> ThreadedRodeo<K, S> {
     }
 }
 
-// Whether two lists have the same texts in the same order. Both must have `len` texts.
+// Whether two lists have the same texts in the same order. `len` and `other_len` must be how many texts they have.
 fn have_same_texts<T: Texts, U: Texts>(one: &T, len: usize, other: &U, other_len: usize) -> bool
     requires one { len ≡ length (T.list one.now) }
     requires other { other_len ≡ length (U.list other.now) }

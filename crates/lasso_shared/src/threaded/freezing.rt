@@ -101,8 +101,8 @@ impl<K: Key, S: BuildHasher + Drop> ThreadedRodeo<K, S> {
 }
 
 // An interner with the texts of a distinct list that fits the keys, in order, all copied into one bucket of
-// just their bytes (4096 where they have none), with no limit below the greatest number. There must be `len`
-// texts. It fails only out of memory (`FailedAllocation`), also where the texts have more bytes than a
+// just their bytes (4096 if they have none), with no limit below the greatest number. There must be `len`
+// texts. It fails only out of memory (`FailedAllocation`), also if the texts have more bytes than a
 // `usize` counts.
 fn copy_of<K: Key, S: BuildHasher + Drop, T: Texts>(
     alloc: Global,

@@ -103,7 +103,7 @@ impl<K: Key, S: BuildHasher + Default + Drop> ThreadedRodeo<K, S> {
     }
 }
 
-// The list of an array, or of the object that any other value has to be.
+// The texts of an array or of an object. A value that is neither is reported as no object.
 fn texts_of<K: Key>(alloc: Global, value: &Value) -> Result<Vec<&str>, JsonError>
     ensures read { ReadsOr (TakesText K.key_at (view value.now) ⊎ TakesPosition K.key_at (view value.now)) (read_list K.key_at (view value.now)) (shown (λ texts. map (λ t. t.now) texts.items) result) }
     ensures distinct { IfOk result (λ texts. IsDistinct (map (λ t. t.now) texts.items)) }

@@ -46,6 +46,7 @@ impl<'a, K: Key> Strings<'a, K> {
     fn prove_short(&self)
         ensures { length self.now < 2 ^ 64 }
     {
+        // Proofs learn the range of a word from code that reads it.
         let _ = self.end - self.position;
     }
 }

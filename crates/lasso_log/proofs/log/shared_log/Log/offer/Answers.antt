@@ -1,4 +1,4 @@
-use Rattle.std.proofs.Common.{◌≡◌, ◌∙◌}
+use Rattle.std.proofs.Common.{◌∙◌}
 use Rattle.lasso_log.proofs.Histories.{prefix_trans}
 use Rattle.lasso_log.proofs.log.shared_log.Log.offer.Goals as goal
 

@@ -1,5 +1,5 @@
 -- The newest bucket had no room: the others are tried after it.
-use Rattle.std.proofs.Common.{◌≡◌, ◌∙◌}
+use Rattle.std.proofs.Common.{◌∙◌}
 use Rattle.lasso_log.proofs.Reserved.{none_after, reserved_after}
 use Rattle.lasso_log.proofs.log.shared_log.Log.reserve_anywhere.Goals as goal
 

@@ -1,5 +1,5 @@
 -- A bucket has room after those before it had none.
-use Rattle.std.proofs.Common.{◌≡◌, ap, ◌∙◌}
+use Rattle.std.proofs.Common.{ap, ◌∙◌}
 use Rattle.lasso_log.proofs.Reserved.{none_longer, reserved_later}
 use Rattle.lasso_log.proofs.log.shared_log.Log.reserve_older.Goals as goal
 

@@ -1,4 +1,4 @@
-use Rattle.std.proofs.Common.{◌≡◌, ◌∙◌}
+use Rattle.std.proofs.Common.{◌∙◌}
 use Rattle.lasso_log.proofs.Reserved.{none_longer}
 use Rattle.lasso_log.proofs.log.shared_log.Log.wait_for.Goals as goal
 

@@ -1,0 +1,10 @@
+-- What is known of a shard while its lock is held.
+use Rattle.std.specs.Prelude.{ℕ}
+use Rattle.lasso_parts.specs.Texts.{Text}
+use Rattle.lasso_log.specs.Views.{InternerId}
+use Rattle.lasso_shared.specs.Shards.{IsShard}
+use Rattle.lasso_shared.specs.declared.shards.shard.Shard.{Shard}
+
+-- the locked shard is that of this number, for these hashes and this interner
+abbrev pub IsLocked : {A B C : Type 0} → (hash_of : Text → ℕ) → (number : ℕ) → InternerId → Shard A B C → Type 0
+IsLocked hash_of number of shard = IsShard hash_of number of shard.known shard.index shard.count
