@@ -19,7 +19,7 @@ use crate::error::RunError;
 use crate::input::next_line;
 use crate::interner::new_rodeo;
 use crate::line_table::LineTable;
-use crate::lines::{TextRule, taken, text_in};
+use crate::lines::{TextRule, Walk, taken, text_in};
 use crate::output::{end_flushed, write_bytes, write_line, write_number};
 use crate::ranking::{RankedLine, by_frequency};
 use crate::streams::{Input, Output};
@@ -27,7 +27,6 @@ use lasso::{MemoryLimits, SpurRodeo};
 use lasso_columns::LineError;
 use lasso_columns::counts::{count_codes, count_next};
 use lasso_input::{Line, Stretch};
-use lasso_single::batch::Batch;
 use std::alloc::Global;
 use std::cmp::Reverse;
 use std::io::{Read, Write};
@@ -130,18 +129,18 @@ fn count_lines<R: Read + Drop>(
     ensures faults { IfErr result IsInputError }
     ensures reads { input.new.failures ≡ input.old.failures + failed_reads result }
 {
-    let mut batch = Batch::new();
+    let mut walk = Walk::new(rule.alloc);
     let mut line = Vec::new(rule.alloc);
     let mut number = 1;
     while number < usize::MAX {
         let shown = input.buffered();
-        let (next, used) = count_stretch(rule, rodeo, &mut batch, counts, shown, number)?;
+        let (next, used) = count_stretch(rule, rodeo, &mut walk, counts, shown, number)?;
         input.consume(used);
         if !next_line(input, &mut line, next)? {
             return Ok(());
         }
         let whole = Line::untested(&line);
-        if let Err(error) = count_line(rule, rodeo, &mut batch, counts, &whole, next) {
+        if let Err(error) = count_line(rule, rodeo, &mut walk, counts, &whole, next) {
             return Err(RunError::Line(error));
         }
         number = next + 1;
@@ -154,7 +153,7 @@ fn count_lines<R: Read + Drop>(
 fn count_stretch(
     rule: TextRule,
     rodeo: &mut SpurRodeo,
-    batch: &mut Batch,
+    walk: &mut Walk,
     counts: &mut Vec<u64>,
     stretch: &[u8],
     first: usize,
@@ -174,22 +173,22 @@ fn count_stretch(
 {
     let mut lines = Stretch::new(stretch);
     for number in first..usize::MAX {
-        lines.look_ahead(rodeo, batch);
+        lines.look_ahead(rodeo, &mut walk.batch);
         let Some(line) = lines.next_ended() else {
             return Ok((number, taken(stretch, &lines)));
         };
-        if let Err(error) = count_line(rule, rodeo, batch, counts, &line, number) {
+        if let Err(error) = count_line(rule, rodeo, walk, counts, &line, number) {
             return Err(RunError::Line(error));
         }
     }
     Err(RunError::TooManyLines)
 }
 
-// Counts the line with this number, the next text of `batch`.
+// Counts the line with this number, the next one of the walk.
 fn count_line(
     rule: TextRule,
     rodeo: &mut SpurRodeo,
-    batch: &mut Batch,
+    walk: &mut Walk,
     counts: &mut Vec<u64>,
     line: &Line<'_>,
     number: usize,
@@ -203,8 +202,8 @@ fn count_line(
     ensures error { IfErr result (IsLineFault rule.only_utf8 rodeo.old line.now number) }
     ensures memory { IfErr result (RefusesNewLine rodeo.old counts.new line.now) }
 {
-    let text = text_in(rule, line, number)?;
-    match count_next(rodeo, text.as_str(), batch, counts) {
+    let text = text_in(rule, &mut walk.text, line, number)?;
+    match count_next(rodeo, text, &mut walk.batch, counts) {
         Ok(()) => Ok(()),
         Err(error) => Err(LineError::Refused(number, error)),
     }

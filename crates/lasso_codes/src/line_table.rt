@@ -68,7 +68,7 @@ impl<'a> LineTable<'a> {
     }
 
     /// The line at the position, counted from 0. The position must be below the number of lines.
-    #[inline]
+    #[inline(always)]
     pub fn at(&self, position: usize) -> &[u8]
         requires { position < length self.now }
         ensures { slice_get self.now position ≡ Some result.now }
