@@ -50,7 +50,7 @@ impl Walk {
 pub fn text_in<'a>(
     rule: TextRule,
     buffer: &'a mut Vec<u8>,
-    line: &Line<'a>,
+    line: &'a Line<'_>,
     number: usize,
 ) -> Result<&'a str, LineError>
     ensures { MatchResult result

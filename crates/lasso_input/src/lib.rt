@@ -7,6 +7,7 @@
 //! `text_of` gives each line a text, whatever its bytes are, and `line_of` gives the line back.
 #![tactic(auto)]
 
+mod digits;
 pub mod failures;
 pub mod laws;
 mod line;

@@ -7,6 +7,7 @@ ghost use Rattle.std.specs.Cow.{cow_slice_items, cow_str_bytes, IsBorrowedSlice,
 ghost use Rattle.std.specs.String.{string_bytes};
 ghost use Rattle.lasso_input.specs.Texts.{escaped, is_marked, is_own_text, line_of, text_of};
 
+use crate::digits::put_digits;
 use crate::line::Line;
 use hex::FromHexError;
 use std::alloc::{AllocError, Allocator};
@@ -119,15 +120,18 @@ pub fn escape_in<'a, A: Allocator>(
 pub fn append_escaped<A: Allocator>(texts: &mut Vec<u8, A>, bytes: &[u8]) -> Result<(), AllocError>
     ensures { OnOk result (texts.new.items ≡ texts.old.items ++ escaped bytes.now) }
 {
-    let digits = bytes.len().saturating_mul(2);
+    let Some(digits) = bytes.len().checked_mul(2) else {
+        return Err(AllocError);
+    };
     texts.reserve(digits.saturating_add(MARK_BYTES.len()))?;
     texts.extend_from_slice(&MARK_BYTES)?;
     let start = texts.len();
-    texts.resize(start.saturating_add(digits), 0)?;
-    match hex::encode_to_slice(bytes, texts.slice_mut(start..)) {
-        Ok(()) => Ok(()),
-        Err(_) => Err(AllocError),
-    }
+    let Some(end) = start.checked_add(digits) else {
+        return Err(AllocError);
+    };
+    texts.resize(end, 0)?;
+    put_digits(bytes, texts.slice_mut(start..));
+    Ok(())
 }
 
 // The mark, and then the digits of the bytes.
