@@ -19,7 +19,7 @@ use crate::error::RunError;
 use crate::input::next_line;
 use crate::interner::new_rodeo;
 use crate::line_table::LineTable;
-use crate::lines::{TextRule, Walk, taken, text_in};
+use crate::lines::{TextRule, Walk, plain_text_in, taken, text_in};
 use crate::output::{end_flushed, write_bytes, write_line, write_number};
 use crate::ranking::{RankedLine, by_frequency};
 use crate::streams::{Input, Output};
@@ -186,6 +186,34 @@ fn count_stretch(
 
 // Counts the line with this number, the next one of the walk.
 fn count_line(
+    rule: TextRule,
+    rodeo: &mut SpurRodeo,
+    walk: &mut Walk,
+    counts: &mut Vec<u64>,
+    line: &Line<'_>,
+    number: usize,
+) -> Result<(), LineError>
+    requires lengths { vec_len counts.old ≡ length rodeo.old.texts }
+    requires fits { sum counts.old.items < 2 ^ 64 - 1 }
+    ensures interned { OnOk result (IsLetIn rule.only_utf8 line.now × ((key : ℕ) × InternsIn {K = ℕ} spur_at rodeo.old (text_of line.now) (Ok key) rodeo.new)) }
+    ensures counted { OnOk result ((texts : List Text) → AreCounts texts rodeo.old.texts counts.old.items → AreCounts (texts ++ text_of line.now ∷ []) rodeo.new.texts counts.new.items) }
+    ensures total { OnOk result (sum counts.new.items ≡ sum counts.old.items + 1) }
+    ensures lengths { vec_len counts.new ≡ length rodeo.new.texts }
+    ensures error { IfErr result (IsLineFault rule.only_utf8 rodeo.old line.now number) }
+    ensures memory { IfErr result (RefusesNewLine rodeo.old counts.new line.now) }
+{
+    let Some(text) = plain_text_in(rule, line) else {
+        return count_any(rule, rodeo, walk, counts, line, number);
+    };
+    match count_next(rodeo, text, &mut walk.batch, counts) {
+        Ok(()) => Ok(()),
+        Err(error) => Err(LineError::Refused(number, error)),
+    }
+}
+
+// The same for any line.
+#[inline(never)]
+fn count_any(
     rule: TextRule,
     rodeo: &mut SpurRodeo,
     walk: &mut Walk,

@@ -22,7 +22,7 @@ use crate::error::RunError;
 use crate::input::next_line;
 use crate::interner::new_rodeo;
 use crate::line_table::LineTable;
-use crate::lines::{TextRule, Walk, known_bytes, taken, text_in};
+use crate::lines::{TextRule, Walk, known_bytes, plain_text_in, taken, text_in};
 use crate::output::end_flushed;
 use crate::streams::{Input, Output};
 use lasso::{MemoryLimits, SpurRodeo};
@@ -234,6 +234,33 @@ fn encode_line(
 
 // The entry of the line with this number. Interns the line, unless it is a null.
 fn entry_of(
+    rule: TextRule,
+    rodeo: &mut SpurRodeo,
+    walk: &mut Walk,
+    null: Option<&[u8]>,
+    line: &Line<'_>,
+    number: usize,
+) -> Result<u32, LineError>
+    ensures { MatchResult result
+        (λ entry. IsLetIn rule.only_utf8 line.now × IsNumbered (word_of null.entry) rodeo.old line.now rodeo.new entry)
+        (λ error. IsLineFault rule.only_utf8 rodeo.old line.now number error × LacksMemory rodeo.old line.now error × IsNoNull (word_of null.entry) line.now error) }
+{
+    let Some(text) = plain_text_in(rule, line) else {
+        return any_entry_of(rule, rodeo, walk, null, line, number);
+    };
+    if is_null(null, line.bytes()) {
+        walk.batch.skip();
+        return Ok(NULL);
+    }
+    match intern_code_next(rodeo, text, &mut walk.batch) {
+        Ok(entry) => Ok(entry),
+        Err(error) => Err(LineError::Refused(number, error)),
+    }
+}
+
+// The same for any line.
+#[inline(never)]
+fn any_entry_of(
     rule: TextRule,
     rodeo: &mut SpurRodeo,
     walk: &mut Walk,

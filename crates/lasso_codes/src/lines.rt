@@ -1,5 +1,5 @@
 //! Interns lines, and says how far a stretch of them is taken.
-ghost use Rattle.std.specs.Prelude.{◌≡◌, ◌-◌, ◌≤◌, false, ℕ, Ok, IfErr, MatchResult, drop, is_none, length};
+ghost use Rattle.std.specs.Prelude.{◌≡◌, ◌-◌, ◌≤◌, false, ℕ, Ok, IfErr, IfSome, MatchResult, drop, is_none, length};
 ghost use Rattle.hex.specs.Hex.{IsBytes};
 ghost use Rattle.lasso_parts.specs.Texts.{position_of};
 ghost use Rattle.lasso_single.specs.Intern.{InternsIn};
@@ -42,11 +42,10 @@ impl Walk {
     }
 }
 
-/// The text of the line with this number. It is the line, or is made in `buffer`.
+/// The text of any line with this number. It is the line, or is made in `buffer`.
 ///
 /// # Errors
 /// Only UTF-8 is let in, and the line is not; or out of memory, for a line that is not its own text.
-#[inline(always)]
 pub fn text_in<'a>(
     rule: TextRule,
     buffer: &'a mut Vec<u8>,
@@ -62,6 +61,20 @@ pub fn text_in<'a>(
     match own_text(line) {
         Some(text) => Ok(text),
         None => made_text(rule, buffer, line, number),
+    }
+}
+
+/// The text of the line, if it is known to be plain. Such a line is let in.
+#[inline(always)]
+pub fn plain_text_in<'a>(rule: TextRule, line: &Line<'a>) -> Option<&'a str>
+    ensures { IfSome result (λ text. IsLetIn rule.only_utf8 line.now × (text.now ≡ text_of line.now)) }
+{
+    let bytes = line.bytes();
+    known_bytes(bytes);
+    let _ = rule;
+    match line.plain_text() {
+        Some(text) => Some(text),
+        None => None,
     }
 }
 
@@ -120,6 +133,30 @@ fn is_let_in(only_utf8: bool, line: &Line<'_>) -> bool
 /// The line is not let in, or its text is refused. The interner is as it was. Out of memory occurs only for a
 /// text that the interner lacks and would take, or for a line that is not its own text.
 pub fn intern_line<S: BuildHasher, A: Allocator + Clone>(
+    rule: TextRule,
+    rodeo: &mut Rodeo<Spur, S, A>,
+    walk: &mut Walk,
+    line: &Line<'_>,
+    number: usize,
+) -> Result<bool, LineError>
+    ensures interned { MatchResult result
+        (λ is_new. IsLetIn rule.only_utf8 line.now × ((key : ℕ) × InternsIn {K = ℕ} spur_at rodeo.old (text_of line.now) (Ok key) rodeo.new) × (is_new ≡ is_none (position_of rodeo.old.texts (text_of line.now))))
+        (λ error. (rodeo.new ≡ rodeo.old) × IsLineFault rule.only_utf8 rodeo.old line.now number error) }
+    ensures memory { IfErr result (LacksMemory rodeo.old line.now) }
+{
+    let Some(text) = plain_text_in(rule, line) else {
+        return intern_any(rule, rodeo, walk, line, number);
+    };
+    let count = rodeo.len();
+    match intern_next(rodeo, text, &mut walk.batch) {
+        Ok(_) => Ok(rodeo.len() > count),
+        Err(error) => Err(LineError::Refused(number, error)),
+    }
+}
+
+// The same for any line. Out of line, so that the text of a plain one stays in registers.
+#[inline(never)]
+fn intern_any<S: BuildHasher, A: Allocator + Clone>(
     rule: TextRule,
     rodeo: &mut Rodeo<Spur, S, A>,
     walk: &mut Walk,

@@ -1,6 +1,6 @@
 //! A line of an input.
-ghost use Rattle.std.specs.Prelude.{◌≡◌, MatchResult, IsTrue, IsUtf8};
-ghost use Rattle.lasso_input.specs.Texts.{IsPlain};
+ghost use Rattle.std.specs.Prelude.{◌≡◌, true, IfSome, MatchResult, IsTrue, IsUtf8};
+ghost use Rattle.lasso_input.specs.Texts.{is_own_text, IsPlain};
 
 use std::marker::Model;
 use std::str::{Utf8Error, from_utf8, from_utf8_unchecked};
@@ -59,6 +59,17 @@ impl<'a> Line<'a> {
         ensures { result.now ≡ self.now }
     {
         self.bytes
+    }
+
+    /// The line as a `str`, if it is known to be plain, and so its own text: nothing is tested.
+    #[inline(always)]
+    pub fn plain_text(&self) -> Option<&'a str>
+        ensures { IfSome result (λ text. (text.now ≡ self.now) × (is_own_text self.now ≡ true)) }
+    {
+        if self.is_plain {
+            return Some(unsafe { from_utf8_unchecked(self.bytes) });
+        }
+        None
     }
 
     /// The line as a `str`.
