@@ -7,8 +7,8 @@ ghost use Rattle.lasso_single.specs.Interner.{InternerView, made_with};
 ghost use Rattle.lasso_single.specs.Coding.{spur_at};
 ghost use Rattle.lasso_input.specs.Lines.{lines_of};
 ghost use Rattle.lasso_input.specs.Texts.{text_of};
-ghost use Rattle.lasso_columns.specs.Counts.{AreCounts, pair_of};
-ghost use Rattle.lasso_codes.specs.Counts.{CountsEnd, CountingError, RefusesNewLine, count_line};
+ghost use Rattle.lasso_columns.specs.Counts.{AreCounts};
+ghost use Rattle.lasso_codes.specs.Counts.{CountsEnd, CountingError, RefusesNewLine, count_line, pair_by};
 ghost use Rattle.lasso_codes.specs.Limits.{line_texts, AreLetIn, IsLetIn, IsLineFault};
 ghost use Rattle.lasso_codes.specs.Stages.{Counting};
 ghost use Rattle.lasso_codes.specs.Streams.{Writes, WritesAll};
@@ -21,14 +21,15 @@ use crate::interner::new_rodeo;
 use crate::line_table::LineTable;
 use crate::lines::{TextRule, Walk, plain_text_in, taken, text_in};
 use crate::output::{end_flushed, write_bytes, write_line, write_number};
-use crate::ranking::{RankedLine, by_frequency};
+use crate::ranking::lines_by_frequency;
 use crate::streams::{Input, Output};
 use lasso::{MemoryLimits, SpurRodeo};
 use lasso_columns::LineError;
-use lasso_columns::counts::{count_codes, count_next};
+use lasso_columns::counts::{by_frequency, count_codes, count_next};
 use lasso_input::{Line, Stretch};
 use std::alloc::Global;
 use std::cmp::Reverse;
+use std::convert::AsSlice;
 use std::io::{Read, Write};
 use std::thread::Threads;
 
@@ -75,7 +76,15 @@ fn write_counts<H: AllocGlobal + Threads + Sync, R: Read + Drop, W: Write + Drop
     let mut counts = Vec::new(rt.alloc());
     count_all(rt, input, &mut rodeo, &mut counts, settings)?;
     let table = LineTable::new(rt.alloc(), &rodeo)?;
-    let Ok(ranked) = by_frequency(rt.alloc(), &table, &counts) else {
+    let Some(own) = table.own() else {
+        let Ok(lines) = lines_by_frequency(rt.alloc(), &table, &counts) else {
+            return Err(RunError::no_memory(0));
+        };
+        let count = lines.len().min(settings.top);
+        return write_ranked(output, &lines[..count]);
+    };
+    // Texts are compared faster than bytes.
+    let Ok(ranked) = by_frequency(rt.alloc(), own, &counts) else {
         return Err(RunError::no_memory(0));
     };
     let most = ranked.len().min(settings.top);
@@ -266,12 +275,12 @@ fn count_stream<H: AllocGlobal + Threads + Sync, R: Read + Drop>(
     Ok(())
 }
 
-// Writes each count and its text as a line.
-fn write_ranked<W: Write + Drop>(
+// Writes each count and its line.
+fn write_ranked<W: Write + Drop, T: AsSlice<u8>>(
     output: &mut Output<W>,
-    ranked: &[RankedLine<'_>],
+    ranked: &[(Reverse<u64>, T)],
 ) -> Result<(), RunError>
-    ensures written { Writes output.old.written output.new.written (WritesAll (flat_map count_line (map pair_of ranked.now)) result) }
+    ensures written { Writes output.old.written output.new.written (WritesAll (flat_map count_line (map (pair_by T.items) ranked.now)) result) }
     ensures writes { output.new.failures ≡ output.old.failures + failed_writes result }
     ensures gone { output.new.gone ≡ output.old.gone + gone_readers result }
 {
@@ -281,16 +290,17 @@ fn write_ranked<W: Write + Drop>(
     Ok(())
 }
 
-// Writes the count, a space, the text and a line feed.
-fn write_count<W: Write + Drop>(
+// Writes the count, a space, the line and a line feed.
+fn write_count<W: Write + Drop, T: AsSlice<u8>>(
     output: &mut Output<W>,
-    ranked: &RankedLine<'_>,
+    ranked: &(Reverse<u64>, T),
 ) -> Result<(), RunError>
-    ensures written { Writes output.old.written output.new.written (WritesAll (count_line (pair_of ranked.now)) result) }
+    ensures written { Writes output.old.written output.new.written (WritesAll (count_line (pair_by T.items ranked.now)) result) }
     ensures writes { output.new.failures ≡ output.old.failures + failed_writes result }
     ensures gone { output.new.gone ≡ output.old.gone + gone_readers result }
 {
-    let (Reverse(count), line) = *ranked;
+    let line = ranked.1.as_slice();
+    let Reverse(count) = ranked.0;
     write_number(output, count)?;
     write_bytes(output, b" ")?;
     write_line(output, line)
