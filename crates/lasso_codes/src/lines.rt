@@ -46,6 +46,7 @@ impl Walk {
 ///
 /// # Errors
 /// Only UTF-8 is let in, and the line is not; or out of memory, for a line that is not its own text.
+#[inline(always)]
 pub fn text_in<'a>(
     rule: TextRule,
     buffer: &'a mut Vec<u8>,
@@ -79,8 +80,7 @@ pub fn plain_text_in<'a>(rule: TextRule, line: &Line<'a>) -> Option<&'a str>
 }
 
 // The same for a line that is not its own text.
-#[cold]
-#[inline(never)]
+#[inline(always)]
 fn made_text<'a>(
     rule: TextRule,
     buffer: &'a mut Vec<u8>,

@@ -99,6 +99,7 @@ pub fn is_marked(bytes: &[u8]) -> bool
 ///
 /// # Errors
 /// Out of memory.
+#[inline]
 pub fn escape_in<'a, A: Allocator>(
     buffer: &'a mut Vec<u8, A>,
     bytes: &[u8],
@@ -115,8 +116,7 @@ pub fn escape_in<'a, A: Allocator>(
 ///
 /// # Errors
 /// Out of memory. What was appended is a beginning of the text.
-#[cold]
-#[inline(never)]
+#[inline]
 pub fn append_escaped<A: Allocator>(texts: &mut Vec<u8, A>, bytes: &[u8]) -> Result<(), AllocError>
     ensures { OnOk result (texts.new.items ≡ texts.old.items ++ escaped bytes.now) }
 {
