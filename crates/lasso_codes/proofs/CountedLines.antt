@@ -8,6 +8,7 @@ use Rattle.std.specs.Prelude.{flat_map, slice_get, IsSomeAnd, IsPermutation, IsS
 use Rattle.std.proofs.lemmas.Bool.{cases_order}
 use Rattle.std.proofs.lemmas.Grind.{flat_map-append}
 use Rattle.std.proofs.lemmas.List.{append-nil, map_push, map-append, take-map, take_more, take_all, take-append-drop}
+use Rattle.std.proofs.lemmas.List.Elements.{All-nil}
 use Rattle.lasso_parts.specs.Texts.{Text}
 use Rattle.lasso_parts.specs.declared.util.LassoErrorKind.TheVariants.{FailedAllocation}
 use Rattle.lasso_single.specs.Filling.{extend}
@@ -31,6 +32,18 @@ use Rattle.lasso_codes.proofs.LineTexts.{extend_line, texts_push}
 use Rattle.lasso_codes.proofs.Taken.{taken_push, taken_all, taken_first, taken_let_in, taken_few, taken_next}
 
 -- one line more
+-- no line was counted
+pub counting_begins : (input : List ℕ) (only : Bool) (old : InternerView) (counts : List ℕ) → old.texts ≡ [] → counts ≡ [] → Counting input input only 1 old old counts
+counting_begins input only old counts no_texts no_counts = record {
+  done = [];
+  taken = record { split = refl; let_in = All-nil (IsLetIn only); counted = refl };
+  counted = none_counted old.texts counts no_texts no_counts;
+  list = (refl, refl);
+}
+  where
+    none_counted : (list : List Text) (counts : List ℕ) → list ≡ [] → counts ≡ [] → AreCounts [] list counts
+    none_counted list counts no_texts no_counts = rw (no_texts, no_counts) (record { list_is = refl; each = λ text. refl; lengths = refl; total = refl })
+
 pub counting_push : (input rest : List ℕ) (only : Bool) (number : ℕ) (old now after : InternerView) (counts : List ℕ) (line left counts' : List ℕ) (key : ℕ) → Counting input rest only number old now counts → lines_of rest ≡ line ∷ lines_of left → IsLetIn only line → InternsIn spur_at now (text_of line) (Ok key) after → ((texts : List Text) → AreCounts texts now.texts counts → AreCounts (texts ++ text_of line ∷ []) after.texts counts') → Counting input left only (number + 1) old after counts'
 counting_push input rest only number old now after counts line left counts' key so_far cut let_in interns counts_line = record {
   done = so_far.done ++ line ∷ [];

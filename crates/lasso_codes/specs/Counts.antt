@@ -1,5 +1,6 @@
 -- What `counts` writes, and how it ends.
 use Rattle.std.specs.Prelude.{ℕ, ◌≡◌, ◌⊎◌, Bool, false, List, [], ◌∷◌, ◌++◌, length, map, IsPermutation, IsSorted, flat_map, take, sum_by, decimal, Vec, Result, MatchResult}
+use Rattle.std.specs.declared.cmp.Reverse.{Reverse}
 use Rattle.lasso_parts.specs.Texts.{Text}
 use Rattle.lasso_single.specs.Interner.{InternerView}
 use Rattle.lasso_input.specs.Lines.{lines_of}
@@ -16,6 +17,10 @@ use Rattle.lasso_codes.specs.Limits.{AreTaken}
 use Rattle.lasso_codes.specs.Streams.{Begins}
 use Rattle.lasso_codes.specs.declared.error.RunError.{RunError}
 use Rattle.lasso_codes.specs.declared.error.RunError.TheVariants.{Line, TooManyLines, ReadFailed, WriteFailed, ReaderGone, Column}
+
+-- a ranked item in contracts: its count, and the bytes that it lends
+abbrev pub pair_by : {T : Type 0} → (T → Text) → Reverse ℕ × T → ℕ × Text
+pair_by lent ranked = (ranked.0.0, lent ranked.1)
 
 -- a line of the report: the count's digits, a space, the line and a line feed
 abbrev pub count_line : ℕ × Text → List ℕ

@@ -7,8 +7,8 @@ ghost use Rattle.lasso_single.specs.Interner.{InternerView, made_with};
 ghost use Rattle.lasso_single.specs.Coding.{spur_at};
 ghost use Rattle.lasso_input.specs.Lines.{lines_of};
 ghost use Rattle.lasso_input.specs.Texts.{text_of};
-ghost use Rattle.lasso_columns.specs.Counts.{AreCounts, pair_of};
-ghost use Rattle.lasso_codes.specs.Counts.{CountsEnd, CountingError, RefusesNewLine, count_line};
+ghost use Rattle.lasso_columns.specs.Counts.{AreCounts};
+ghost use Rattle.lasso_codes.specs.Counts.{CountsEnd, CountingError, RefusesNewLine, count_line, pair_by};
 ghost use Rattle.lasso_codes.specs.Limits.{line_texts, AreLetIn, IsLetIn, IsLineFault};
 ghost use Rattle.lasso_codes.specs.Stages.{Counting};
 ghost use Rattle.lasso_codes.specs.Streams.{Writes, WritesAll};
@@ -19,17 +19,17 @@ use crate::error::RunError;
 use crate::input::next_line;
 use crate::interner::new_rodeo;
 use crate::line_table::LineTable;
-use crate::lines::{TextRule, taken, text_in};
+use crate::lines::{TextRule, Walk, plain_text_in, taken, text_in};
 use crate::output::{end_flushed, write_bytes, write_line, write_number};
-use crate::ranking::{RankedLine, by_frequency};
+use crate::ranking::lines_by_frequency;
 use crate::streams::{Input, Output};
 use lasso::{MemoryLimits, SpurRodeo};
 use lasso_columns::LineError;
-use lasso_columns::counts::{count_codes, count_next};
+use lasso_columns::counts::{by_frequency, count_codes, count_next};
 use lasso_input::{Line, Stretch};
-use lasso_single::batch::Batch;
 use std::alloc::Global;
 use std::cmp::Reverse;
+use std::convert::AsSlice;
 use std::io::{Read, Write};
 use std::thread::Threads;
 
@@ -76,7 +76,15 @@ fn write_counts<H: AllocGlobal + Threads + Sync, R: Read + Drop, W: Write + Drop
     let mut counts = Vec::new(rt.alloc());
     count_all(rt, input, &mut rodeo, &mut counts, settings)?;
     let table = LineTable::new(rt.alloc(), &rodeo)?;
-    let Ok(ranked) = by_frequency(rt.alloc(), &table, &counts) else {
+    let Some(own) = table.own() else {
+        let Ok(lines) = lines_by_frequency(rt.alloc(), &table, &counts) else {
+            return Err(RunError::no_memory(0));
+        };
+        let count = lines.len().min(settings.top);
+        return write_ranked(output, &lines[..count]);
+    };
+    // Texts are compared faster than bytes.
+    let Ok(ranked) = by_frequency(rt.alloc(), own, &counts) else {
         return Err(RunError::no_memory(0));
     };
     let most = ranked.len().min(settings.top);
@@ -130,18 +138,18 @@ fn count_lines<R: Read + Drop>(
     ensures faults { IfErr result IsInputError }
     ensures reads { input.new.failures ≡ input.old.failures + failed_reads result }
 {
-    let mut batch = Batch::new();
+    let mut walk = Walk::new(rule.alloc);
     let mut line = Vec::new(rule.alloc);
     let mut number = 1;
     while number < usize::MAX {
         let shown = input.buffered();
-        let (next, used) = count_stretch(rule, rodeo, &mut batch, counts, shown, number)?;
+        let (next, used) = count_stretch(rule, rodeo, &mut walk, counts, shown, number)?;
         input.consume(used);
         if !next_line(input, &mut line, next)? {
             return Ok(());
         }
         let whole = Line::untested(&line);
-        if let Err(error) = count_line(rule, rodeo, &mut batch, counts, &whole, next) {
+        if let Err(error) = count_line(rule, rodeo, &mut walk, counts, &whole, next) {
             return Err(RunError::Line(error));
         }
         number = next + 1;
@@ -154,7 +162,7 @@ fn count_lines<R: Read + Drop>(
 fn count_stretch(
     rule: TextRule,
     rodeo: &mut SpurRodeo,
-    batch: &mut Batch,
+    walk: &mut Walk,
     counts: &mut Vec<u64>,
     stretch: &[u8],
     first: usize,
@@ -174,22 +182,22 @@ fn count_stretch(
 {
     let mut lines = Stretch::new(stretch);
     for number in first..usize::MAX {
-        lines.look_ahead(rodeo, batch);
+        lines.look_ahead(rodeo, &mut walk.batch);
         let Some(line) = lines.next_ended() else {
             return Ok((number, taken(stretch, &lines)));
         };
-        if let Err(error) = count_line(rule, rodeo, batch, counts, &line, number) {
+        if let Err(error) = count_line(rule, rodeo, walk, counts, &line, number) {
             return Err(RunError::Line(error));
         }
     }
     Err(RunError::TooManyLines)
 }
 
-// Counts the line with this number, the next text of `batch`.
+// Counts the line with this number, the next one of the walk.
 fn count_line(
     rule: TextRule,
     rodeo: &mut SpurRodeo,
-    batch: &mut Batch,
+    walk: &mut Walk,
     counts: &mut Vec<u64>,
     line: &Line<'_>,
     number: usize,
@@ -203,8 +211,36 @@ fn count_line(
     ensures error { IfErr result (IsLineFault rule.only_utf8 rodeo.old line.now number) }
     ensures memory { IfErr result (RefusesNewLine rodeo.old counts.new line.now) }
 {
-    let text = text_in(rule, line, number)?;
-    match count_next(rodeo, text.as_str(), batch, counts) {
+    let Some(text) = plain_text_in(rule, line) else {
+        return count_any(rule, rodeo, walk, counts, line, number);
+    };
+    match count_next(rodeo, text, &mut walk.batch, counts) {
+        Ok(()) => Ok(()),
+        Err(error) => Err(LineError::Refused(number, error)),
+    }
+}
+
+// The same for any line.
+#[inline(never)]
+fn count_any(
+    rule: TextRule,
+    rodeo: &mut SpurRodeo,
+    walk: &mut Walk,
+    counts: &mut Vec<u64>,
+    line: &Line<'_>,
+    number: usize,
+) -> Result<(), LineError>
+    requires lengths { vec_len counts.old ≡ length rodeo.old.texts }
+    requires fits { sum counts.old.items < 2 ^ 64 - 1 }
+    ensures interned { OnOk result (IsLetIn rule.only_utf8 line.now × ((key : ℕ) × InternsIn {K = ℕ} spur_at rodeo.old (text_of line.now) (Ok key) rodeo.new)) }
+    ensures counted { OnOk result ((texts : List Text) → AreCounts texts rodeo.old.texts counts.old.items → AreCounts (texts ++ text_of line.now ∷ []) rodeo.new.texts counts.new.items) }
+    ensures total { OnOk result (sum counts.new.items ≡ sum counts.old.items + 1) }
+    ensures lengths { vec_len counts.new ≡ length rodeo.new.texts }
+    ensures error { IfErr result (IsLineFault rule.only_utf8 rodeo.old line.now number) }
+    ensures memory { IfErr result (RefusesNewLine rodeo.old counts.new line.now) }
+{
+    let text = text_in(rule, &mut walk.text, line, number)?;
+    match count_next(rodeo, text, &mut walk.batch, counts) {
         Ok(()) => Ok(()),
         Err(error) => Err(LineError::Refused(number, error)),
     }
@@ -239,12 +275,12 @@ fn count_stream<H: AllocGlobal + Threads + Sync, R: Read + Drop>(
     Ok(())
 }
 
-// Writes each count and its text as a line.
-fn write_ranked<W: Write + Drop>(
+// Writes each count and its line.
+fn write_ranked<W: Write + Drop, T: AsSlice<u8>>(
     output: &mut Output<W>,
-    ranked: &[RankedLine<'_>],
+    ranked: &[(Reverse<u64>, T)],
 ) -> Result<(), RunError>
-    ensures written { Writes output.old.written output.new.written (WritesAll (flat_map count_line (map pair_of ranked.now)) result) }
+    ensures written { Writes output.old.written output.new.written (WritesAll (flat_map count_line (map (pair_by T.items) ranked.now)) result) }
     ensures writes { output.new.failures ≡ output.old.failures + failed_writes result }
     ensures gone { output.new.gone ≡ output.old.gone + gone_readers result }
 {
@@ -254,16 +290,17 @@ fn write_ranked<W: Write + Drop>(
     Ok(())
 }
 
-// Writes the count, a space, the text and a line feed.
-fn write_count<W: Write + Drop>(
+// Writes the count, a space, the line and a line feed.
+fn write_count<W: Write + Drop, T: AsSlice<u8>>(
     output: &mut Output<W>,
-    ranked: &RankedLine<'_>,
+    ranked: &(Reverse<u64>, T),
 ) -> Result<(), RunError>
-    ensures written { Writes output.old.written output.new.written (WritesAll (count_line (pair_of ranked.now)) result) }
+    ensures written { Writes output.old.written output.new.written (WritesAll (count_line (pair_by T.items ranked.now)) result) }
     ensures writes { output.new.failures ≡ output.old.failures + failed_writes result }
     ensures gone { output.new.gone ≡ output.old.gone + gone_readers result }
 {
-    let (Reverse(count), line) = *ranked;
+    let line = ranked.1.as_slice();
+    let Reverse(count) = ranked.0;
     write_number(output, count)?;
     write_bytes(output, b" ")?;
     write_line(output, line)

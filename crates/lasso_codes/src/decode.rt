@@ -140,7 +140,7 @@ fn write_stretch<W: Write + Drop>(
 }
 
 // Writes the line of the entry with this number.
-#[inline]
+#[inline(always)]
 fn write_entry_line<W: Write + Drop>(
     output: &mut Output<W>,
     table: &LineTable<'_>,

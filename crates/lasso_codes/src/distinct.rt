@@ -8,12 +8,11 @@ ghost use Rattle.lasso_codes.specs.Errors.{failed_reads, failed_writes, gone_rea
 use crate::error::RunError;
 use crate::input::next_line;
 use crate::interner::new_rodeo;
-use crate::lines::{TextRule, intern_line, taken};
+use crate::lines::{TextRule, Walk, intern_line, taken};
 use crate::output::{end_flushed, write_line};
 use crate::streams::{Input, Output};
 use lasso::{MemoryLimits, SpurRodeo};
 use lasso_input::{Line, Stretch};
-use lasso_single::batch::Batch;
 use std::io::{Read, Write};
 
 /// Writes each distinct line once, where it first occurs, with a line feed. The output is flushed before a
@@ -55,12 +54,12 @@ fn write_distinct<R: Read + Drop, W: Write + Drop>(
     ensures gone { output.new.gone ≡ output.old.gone + gone_readers result }
 {
     let mut rodeo = new_rodeo(rule.alloc, limits)?;
-    let mut batch = Batch::new();
+    let mut walk = Walk::new(rule.alloc);
     let mut line = Vec::new(rule.alloc);
     let mut number = 1;
     while number < usize::MAX {
         let shown = input.buffered();
-        let (next, used) = pass_stretch(rule, &mut rodeo, &mut batch, shown, number, output)?;
+        let (next, used) = pass_stretch(rule, &mut rodeo, &mut walk, shown, number, output)?;
         input.consume(used);
         // The next line is not in the buffer as a whole, so reading it may wait.
         output.flush()?;
@@ -68,7 +67,7 @@ fn write_distinct<R: Read + Drop, W: Write + Drop>(
             return Ok(());
         }
         let whole = Line::untested(&line);
-        pass_line(rule, &mut rodeo, &mut batch, &whole, next, output)?;
+        pass_line(rule, &mut rodeo, &mut walk, &whole, next, output)?;
         number = next + 1;
     }
     Err(RunError::TooManyLines)
@@ -79,7 +78,7 @@ fn write_distinct<R: Read + Drop, W: Write + Drop>(
 fn pass_stretch<W: Write + Drop>(
     rule: TextRule,
     rodeo: &mut SpurRodeo,
-    batch: &mut Batch,
+    walk: &mut Walk,
     stretch: &[u8],
     first: usize,
     output: &mut Output<W>,
@@ -99,20 +98,20 @@ fn pass_stretch<W: Write + Drop>(
 {
     let mut lines = Stretch::new(stretch);
     for number in first..usize::MAX {
-        lines.look_ahead(rodeo, batch);
+        lines.look_ahead(rodeo, &mut walk.batch);
         let Some(line) = lines.next_ended() else {
             return Ok((number, taken(stretch, &lines)));
         };
-        pass_line(rule, rodeo, batch, &line, number, output)?;
+        pass_line(rule, rodeo, walk, &line, number, output)?;
     }
     Err(RunError::TooManyLines)
 }
 
-// Interns the line with this number, the next text of `batch`, and writes it if it is new.
+// Interns the line with this number, the next one of the walk, and writes it if it is new.
 fn pass_line<W: Write + Drop>(
     rule: TextRule,
     rodeo: &mut SpurRodeo,
-    batch: &mut Batch,
+    walk: &mut Walk,
     line: &Line<'_>,
     number: usize,
     output: &mut Output<W>,
@@ -122,7 +121,7 @@ fn pass_line<W: Write + Drop>(
     ensures writes { output.new.failures ≡ output.old.failures + failed_writes result }
     ensures gone { output.new.gone ≡ output.old.gone + gone_readers result }
 {
-    match intern_line(rule, rodeo, batch, line, number) {
+    match intern_line(rule, rodeo, walk, line, number) {
         Ok(true) => write_line(output, line.bytes()),
         Ok(false) => Ok(()),
         Err(error) => Err(RunError::Line(error)),

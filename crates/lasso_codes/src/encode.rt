@@ -22,13 +22,12 @@ use crate::error::RunError;
 use crate::input::next_line;
 use crate::interner::new_rodeo;
 use crate::line_table::LineTable;
-use crate::lines::{TextRule, known_bytes, taken, text_in};
+use crate::lines::{TextRule, Walk, known_bytes, plain_text_in, taken, text_in};
 use crate::output::end_flushed;
 use crate::streams::{Input, Output};
 use lasso::{MemoryLimits, SpurRodeo};
 use lasso_columns::{LineError, NULL, is_null};
 use lasso_input::{Line, Stretch, text_of};
-use lasso_single::batch::Batch;
 use lasso_single::coding::intern_code_next;
 use std::alloc::Global;
 use std::borrow::CowStr;
@@ -159,18 +158,18 @@ fn encode_lines<R: Read + Drop>(
     ensures faults { IfErr result IsInputError }
     ensures reads { input.new.failures ≡ input.old.failures + failed_reads result }
 {
-    let mut batch = Batch::new();
+    let mut walk = Walk::new(rule.alloc);
     let mut line = Vec::new(rule.alloc);
     let mut number = 1;
     while number < usize::MAX {
         let shown = input.buffered();
-        let (next, used) = encode_stretch(rule, rodeo, &mut batch, numbers, null, shown, number)?;
+        let (next, used) = encode_stretch(rule, rodeo, &mut walk, numbers, null, shown, number)?;
         input.consume(used);
         if !next_line(input, &mut line, next)? {
             return Ok(());
         }
         let whole = Line::untested(&line);
-        if let Err(error) = encode_line(rule, rodeo, &mut batch, numbers, null, &whole, next) {
+        if let Err(error) = encode_line(rule, rodeo, &mut walk, numbers, null, &whole, next) {
             return Err(RunError::Line(error));
         }
         number = next + 1;
@@ -183,7 +182,7 @@ fn encode_lines<R: Read + Drop>(
 fn encode_stretch(
     rule: TextRule,
     rodeo: &mut SpurRodeo,
-    batch: &mut Batch,
+    walk: &mut Walk,
     numbers: &mut Vec<u32>,
     null: Option<&[u8]>,
     stretch: &[u8],
@@ -202,22 +201,22 @@ fn encode_stretch(
 {
     let mut lines = Stretch::new(stretch);
     for number in first..usize::MAX {
-        lines.look_ahead(rodeo, batch);
+        lines.look_ahead(rodeo, &mut walk.batch);
         let Some(line) = lines.next_ended() else {
             return Ok((number, taken(stretch, &lines)));
         };
-        if let Err(error) = encode_line(rule, rodeo, batch, numbers, null, &line, number) {
+        if let Err(error) = encode_line(rule, rodeo, walk, numbers, null, &line, number) {
             return Err(RunError::Line(error));
         }
     }
     Err(RunError::TooManyLines)
 }
 
-// Appends the entry of the line with this number, the next text of `batch`.
+// Appends the entry of the line with this number, the next one of the walk.
 fn encode_line(
     rule: TextRule,
     rodeo: &mut SpurRodeo,
-    batch: &mut Batch,
+    walk: &mut Walk,
     numbers: &mut Vec<u32>,
     null: Option<&[u8]>,
     line: &Line<'_>,
@@ -228,7 +227,7 @@ fn encode_line(
     ensures memory { IfErr result (EntryMayLackMemory rodeo.old numbers.old line.now) }
     ensures null { IfErr result (IsNoNull (word_of null.entry) line.now) }
 {
-    let entry = entry_of(rule, rodeo, batch, null, line, number)?;
+    let entry = entry_of(rule, rodeo, walk, null, line, number)?;
     append(numbers, entry, number)?;
     Ok(())
 }
@@ -237,7 +236,7 @@ fn encode_line(
 fn entry_of(
     rule: TextRule,
     rodeo: &mut SpurRodeo,
-    batch: &mut Batch,
+    walk: &mut Walk,
     null: Option<&[u8]>,
     line: &Line<'_>,
     number: usize,
@@ -246,12 +245,39 @@ fn entry_of(
         (λ entry. IsLetIn rule.only_utf8 line.now × IsNumbered (word_of null.entry) rodeo.old line.now rodeo.new entry)
         (λ error. IsLineFault rule.only_utf8 rodeo.old line.now number error × LacksMemory rodeo.old line.now error × IsNoNull (word_of null.entry) line.now error) }
 {
-    let text = text_in(rule, line, number)?;
+    let Some(text) = plain_text_in(rule, line) else {
+        return any_entry_of(rule, rodeo, walk, null, line, number);
+    };
     if is_null(null, line.bytes()) {
-        batch.skip();
+        walk.batch.skip();
         return Ok(NULL);
     }
-    match intern_code_next(rodeo, text.as_str(), batch) {
+    match intern_code_next(rodeo, text, &mut walk.batch) {
+        Ok(entry) => Ok(entry),
+        Err(error) => Err(LineError::Refused(number, error)),
+    }
+}
+
+// The same for any line.
+#[inline(never)]
+fn any_entry_of(
+    rule: TextRule,
+    rodeo: &mut SpurRodeo,
+    walk: &mut Walk,
+    null: Option<&[u8]>,
+    line: &Line<'_>,
+    number: usize,
+) -> Result<u32, LineError>
+    ensures { MatchResult result
+        (λ entry. IsLetIn rule.only_utf8 line.now × IsNumbered (word_of null.entry) rodeo.old line.now rodeo.new entry)
+        (λ error. IsLineFault rule.only_utf8 rodeo.old line.now number error × LacksMemory rodeo.old line.now error × IsNoNull (word_of null.entry) line.now error) }
+{
+    let text = text_in(rule, &mut walk.text, line, number)?;
+    if is_null(null, line.bytes()) {
+        walk.batch.skip();
+        return Ok(NULL);
+    }
+    match intern_code_next(rodeo, text, &mut walk.batch) {
         Ok(entry) => Ok(entry),
         Err(error) => Err(LineError::Refused(number, error)),
     }

@@ -126,6 +126,7 @@ fn entry_in(line: &[u8]) -> Entry
 ///
 /// # Errors
 /// The entry is missing, is not a code, or its code is past the texts. Or it is a null, and `null` is `None`.
+#[inline(always)]
 pub fn line_at<'a>(
     table: &'a LineTable<'_>,
     null: Option<&'a [u8]>,

@@ -2,7 +2,7 @@
 //!
 //! Most texts are their own lines. If all are, the table is the interner. If not, the table has a list of its
 //! own, into which each line is read back once.
-ghost use Rattle.std.specs.Prelude.{◌≡◌, ◌<◌, ◌≤◌, true, Some, IfOk, IfErr, length, map, slice_get};
+ghost use Rattle.std.specs.Prelude.{◌≡◌, ◌<◌, ◌≤◌, true, Some, IfOk, IfErr, IfSome, length, map, slice_get};
 ghost use Rattle.lasso_columns.specs.declared.faults.LineError.TheVariants.{Refused};
 ghost use Rattle.lasso_input.specs.Texts.{line_of};
 ghost use Rattle.lasso_parts.specs.declared.util.LassoErrorKind.TheVariants.{FailedAllocation};
@@ -60,6 +60,17 @@ impl<'a> LineTable<'a> {
         Ok(LineTable { rodeo, lines })
     }
 
+    /// The interner, if all its texts are their own lines.
+    pub fn own(&self) -> Option<&'a SpurRodeo>
+        ensures { IfSome result (λ rodeo. rodeo.now.texts ≡ self.now) }
+    {
+        if self.lines.is_empty() {
+            Some(self.rodeo)
+        } else {
+            None
+        }
+    }
+
     /// The number of lines.
     pub fn len(&self) -> usize
         ensures { result ≡ length self.now }
@@ -68,7 +79,7 @@ impl<'a> LineTable<'a> {
     }
 
     /// The line at the position, counted from 0. The position must be below the number of lines.
-    #[inline]
+    #[inline(always)]
     pub fn at(&self, position: usize) -> &[u8]
         requires { position < length self.now }
         ensures { slice_get self.now position ≡ Some result.now }

@@ -1,19 +1,17 @@
 //! Interns lines, and says how far a stretch of them is taken.
-ghost use Rattle.std.specs.Prelude.{◌≡◌, ◌-◌, ◌≤◌, ℕ, Ok, IfErr, MatchResult, drop, is_none, length};
-ghost use Rattle.std.specs.Cow.{cow_str_bytes};
+ghost use Rattle.std.specs.Prelude.{◌≡◌, ◌-◌, ◌≤◌, false, ℕ, Ok, IfErr, IfSome, MatchResult, drop, is_none, length};
 ghost use Rattle.hex.specs.Hex.{IsBytes};
 ghost use Rattle.lasso_parts.specs.Texts.{position_of};
 ghost use Rattle.lasso_single.specs.Intern.{InternsIn};
 ghost use Rattle.lasso_single.specs.Coding.{spur_at};
-ghost use Rattle.lasso_input.specs.Texts.{text_of};
+ghost use Rattle.lasso_input.specs.Texts.{is_own_text, text_of};
 ghost use Rattle.lasso_codes.specs.Limits.{is_let_in, IsLetIn, IsLineFault, IsNotLetIn, LacksMemory};
 
 use lasso::{LassoError, LassoErrorKind, Rodeo, Spur};
 use lasso_columns::LineError;
-use lasso_input::{Line, Stretch, text_of};
+use lasso_input::{Line, Stretch, escape_in, own_text};
 use lasso_single::batch::{Batch, intern_next};
 use std::alloc::{Allocator, Global};
-use std::borrow::CowStr;
 use std::hash::BuildHasher;
 
 /// How lines get their texts.
@@ -25,26 +23,80 @@ pub struct TextRule {
     pub only_utf8: bool,
 }
 
-/// The text of the line with this number.
+/// What is kept from line to line.
+#[derive(Drop)]
+pub struct Walk {
+    /// The batch of texts that are looked up.
+    pub batch: Batch,
+    /// A buffer for the text of a line that is not its own text.
+    pub text: Vec<u8>,
+}
+
+impl Walk {
+    /// Before the first line.
+    pub fn new(alloc: Global) -> Self {
+        Walk {
+            batch: Batch::new(),
+            text: Vec::new(alloc),
+        }
+    }
+}
+
+/// The text of any line with this number. It is the line, or is made in `buffer`.
 ///
 /// # Errors
 /// Only UTF-8 is let in, and the line is not; or out of memory, for a line that is not its own text.
 #[inline(always)]
 pub fn text_in<'a>(
     rule: TextRule,
-    line: &Line<'a>,
+    buffer: &'a mut Vec<u8>,
+    line: &'a Line<'_>,
     number: usize,
-) -> Result<CowStr<'a, Global>, LineError>
+) -> Result<&'a str, LineError>
     ensures { MatchResult result
-        (λ text. IsLetIn rule.only_utf8 line.now × (cow_str_bytes text ≡ text_of line.now))
+        (λ text. IsLetIn rule.only_utf8 line.now × (text.now ≡ text_of line.now))
         (IsNotLetIn rule.only_utf8 line.now number) }
 {
     let bytes = line.bytes();
     known_bytes(bytes);
+    match own_text(line) {
+        Some(text) => Ok(text),
+        None => made_text(rule, buffer, line, number),
+    }
+}
+
+/// The text of the line, if it is known to be plain. Such a line is let in.
+#[inline(always)]
+pub fn plain_text_in<'a>(rule: TextRule, line: &Line<'a>) -> Option<&'a str>
+    ensures { IfSome result (λ text. IsLetIn rule.only_utf8 line.now × (text.now ≡ text_of line.now)) }
+{
+    let bytes = line.bytes();
+    known_bytes(bytes);
+    let _ = rule;
+    match line.plain_text() {
+        Some(text) => Some(text),
+        None => None,
+    }
+}
+
+// The same for a line that is not its own text.
+#[inline(always)]
+fn made_text<'a>(
+    rule: TextRule,
+    buffer: &'a mut Vec<u8>,
+    line: &Line<'_>,
+    number: usize,
+) -> Result<&'a str, LineError>
+    requires bytes { IsBytes line.now }
+    requires other { is_own_text line.now ≡ false }
+    ensures { MatchResult result
+        (λ text. IsLetIn rule.only_utf8 line.now × (text.now ≡ text_of line.now))
+        (IsNotLetIn rule.only_utf8 line.now number) }
+{
     if !is_let_in(rule.only_utf8, line) {
         return Err(LineError::NotText(number));
     }
-    match text_of(rule.alloc, line) {
+    match escape_in(buffer, line.bytes()) {
         Ok(text) => Ok(text),
         Err(_) => {
             let error = LassoError::new(LassoErrorKind::FailedAllocation);
@@ -75,7 +127,7 @@ fn is_let_in(only_utf8: bool, line: &Line<'_>) -> bool
     }
 }
 
-/// Interns the text of the line with this number, the next one of `batch`, and returns whether it is new.
+/// Interns the text of the line with this number, the next one of the walk, and returns whether it is new.
 ///
 /// # Errors
 /// The line is not let in, or its text is refused. The interner is as it was. Out of memory occurs only for a
@@ -83,7 +135,7 @@ fn is_let_in(only_utf8: bool, line: &Line<'_>) -> bool
 pub fn intern_line<S: BuildHasher, A: Allocator + Clone>(
     rule: TextRule,
     rodeo: &mut Rodeo<Spur, S, A>,
-    batch: &mut Batch,
+    walk: &mut Walk,
     line: &Line<'_>,
     number: usize,
 ) -> Result<bool, LineError>
@@ -92,9 +144,33 @@ pub fn intern_line<S: BuildHasher, A: Allocator + Clone>(
         (λ error. (rodeo.new ≡ rodeo.old) × IsLineFault rule.only_utf8 rodeo.old line.now number error) }
     ensures memory { IfErr result (LacksMemory rodeo.old line.now) }
 {
-    let text = text_in(rule, line, number)?;
+    let Some(text) = plain_text_in(rule, line) else {
+        return intern_any(rule, rodeo, walk, line, number);
+    };
     let count = rodeo.len();
-    match intern_next(rodeo, text.as_str(), batch) {
+    match intern_next(rodeo, text, &mut walk.batch) {
+        Ok(_) => Ok(rodeo.len() > count),
+        Err(error) => Err(LineError::Refused(number, error)),
+    }
+}
+
+// The same for any line. Out of line, so that the text of a plain one stays in registers.
+#[inline(never)]
+fn intern_any<S: BuildHasher, A: Allocator + Clone>(
+    rule: TextRule,
+    rodeo: &mut Rodeo<Spur, S, A>,
+    walk: &mut Walk,
+    line: &Line<'_>,
+    number: usize,
+) -> Result<bool, LineError>
+    ensures interned { MatchResult result
+        (λ is_new. IsLetIn rule.only_utf8 line.now × ((key : ℕ) × InternsIn {K = ℕ} spur_at rodeo.old (text_of line.now) (Ok key) rodeo.new) × (is_new ≡ is_none (position_of rodeo.old.texts (text_of line.now))))
+        (λ error. (rodeo.new ≡ rodeo.old) × IsLineFault rule.only_utf8 rodeo.old line.now number error) }
+    ensures memory { IfErr result (LacksMemory rodeo.old line.now) }
+{
+    let text = text_in(rule, &mut walk.text, line, number)?;
+    let count = rodeo.len();
+    match intern_next(rodeo, text, &mut walk.batch) {
         Ok(_) => Ok(rodeo.len() > count),
         Err(error) => Err(LineError::Refused(number, error)),
     }

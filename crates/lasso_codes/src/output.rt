@@ -13,6 +13,7 @@ use std::io::Write;
 ///
 /// # Errors
 /// The writer failed, or its reader is gone. A beginning of the bytes was written.
+#[inline(always)]
 pub fn write_bytes<W: Write + Drop>(output: &mut Output<W>, bytes: &[u8]) -> Result<(), RunError>
     ensures written { Writes output.old.written output.new.written (WritesAll bytes.now result) }
     ensures writes { output.new.failures ≡ output.old.failures + failed_writes result }

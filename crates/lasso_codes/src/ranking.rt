@@ -1,4 +1,4 @@
-//! Ranks lines by their counts.
+//! Ranks lines by their counts, where some are not texts. Texts are ranked by `lasso_columns::counts`.
 ghost use Rattle.std.specs.Prelude.{◌≡◌, List, IfOk, IsPermutation, IsSorted, length, map, sum, sum_by, zip};
 ghost use Rattle.lasso_columns.specs.Counts.{ranked_cmp, pair_of};
 
@@ -6,7 +6,7 @@ use crate::line_table::LineTable;
 use std::alloc::{AllocError, Global};
 use std::cmp::Reverse;
 
-/// A count and its line. Their order is that of `by_frequency`.
+/// A count and its line. Their order is that of `lines_by_frequency`.
 pub type RankedLine<'r> = (Reverse<u64>, &'r [u8]);
 
 /// The lines of the table with their counts, the most frequent first. Lines with equal counts are in the order
@@ -16,7 +16,7 @@ pub type RankedLine<'r> = (Reverse<u64>, &'r [u8]);
 ///
 /// # Errors
 /// Out of memory.
-pub fn by_frequency<'r>(
+pub fn lines_by_frequency<'r>(
     alloc: Global,
     table: &'r LineTable<'_>,
     counts: &[u64],

@@ -11,12 +11,11 @@ ghost use Rattle.lasso_codes.specs.Errors.{failed_reads, IsDataError, IsInputErr
 use crate::columns::{BINARY_HEADER, TEXT_HEADER};
 use crate::error::{ColumnError, RunError};
 use crate::input::{Cut, next_whole_line};
-use crate::lines::{TextRule, intern_line, taken};
+use crate::lines::{TextRule, Walk, intern_line, taken};
 use crate::streams::Input;
 use lasso::SpurRodeo;
 use lasso_columns::LineError;
 use lasso_input::{Line, Stretch, parse_digits};
-use lasso_single::batch::Batch;
 use memchr::memchr;
 use std::io::Read;
 
@@ -76,11 +75,11 @@ pub fn read_texts<R: Read + Drop>(
     ensures faults { IfErr result IsInputError }
     ensures reads { input.new.failures ≡ input.old.failures + failed_reads result }
 {
-    let mut batch = Batch::new();
+    let mut walk = Walk::new(rule.alloc);
     let mut count = 0;
     while count < distinct {
         let shown = input.buffered();
-        let (next, used) = add_texts(rule, rodeo, &mut batch, shown, distinct, count, column)?;
+        let (next, used) = add_texts(rule, rodeo, &mut walk, shown, distinct, count, column)?;
         input.consume(used);
         if next == distinct {
             return Ok(());
@@ -89,7 +88,7 @@ pub fn read_texts<R: Read + Drop>(
         match next_whole_line(input, line)? {
             Cut::Whole => {
                 let whole = Line::untested(line);
-                if let Err(error) = add_text(rule, rodeo, &mut batch, &whole, number) {
+                if let Err(error) = add_text(rule, rodeo, &mut walk, &whole, number) {
                     return Err(RunError::Column(column, error));
                 }
             }
@@ -107,7 +106,7 @@ pub fn read_texts<R: Read + Drop>(
 fn add_texts(
     rule: TextRule,
     rodeo: &mut SpurRodeo,
-    batch: &mut Batch,
+    walk: &mut Walk,
     stretch: &[u8],
     distinct: usize,
     count: usize,
@@ -127,7 +126,7 @@ fn add_texts(
         let Some(line) = lines.next_ended() else {
             return Ok((position, taken(stretch, &lines)));
         };
-        if let Err(error) = add_text(rule, rodeo, batch, &line, position + 1) {
+        if let Err(error) = add_text(rule, rodeo, walk, &line, position + 1) {
             return Err(RunError::Column(column, error));
         }
     }
@@ -138,13 +137,13 @@ fn add_texts(
 fn add_text(
     rule: TextRule,
     rodeo: &mut SpurRodeo,
-    batch: &mut Batch,
+    walk: &mut Walk,
     line: &Line<'_>,
     number: usize,
 ) -> Result<(), ColumnError>
     ensures { MatchResult result (λ _. AddsText rule.only_utf8 rodeo.old line.now rodeo.new) (AddError rule.only_utf8 rodeo.old line.now number) }
 {
-    match intern_line(rule, rodeo, batch, line, number) {
+    match intern_line(rule, rodeo, walk, line, number) {
         Ok(true) => Ok(()),
         Ok(false) => Err(ColumnError::Doubled(number)),
         Err(LineError::NotText(_)) => Err(ColumnError::NotUtf8(number)),

@@ -255,7 +255,7 @@ impl<W: Write + Drop> Output<W> {
     ///
     /// # Errors
     /// The writer failed, or its reader is gone. None of the bytes was written.
-    #[inline]
+    #[inline(always)]
     pub fn write(&mut self, bytes: &[u8]) -> Result<usize, RunError>
         requires { 0 < length bytes.now }
         ensures bytes { WriteAppends self.old.written self.new.written result bytes.now }
@@ -308,7 +308,7 @@ impl<W: Write + Drop> Output<W> {
 }
 
 // Writes some of the bytes. A write that was interrupted is tried again, 2^64 - 1 times at most.
-#[inline]
+#[inline(always)]
 fn write_some<W: Write + Drop>(inner: &mut BufWriter<W>, bytes: &[u8]) -> io::Result<usize>
     ensures bound { WritesAtMost result bytes.now }
     ensures bytes { WriteAppends (writer_contents W.contents inner.old) (writer_contents W.contents inner.new) result bytes.now }

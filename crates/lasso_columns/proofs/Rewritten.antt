@@ -6,10 +6,10 @@
 use Rattle.std.proofs.Common.{ℕ, zero, suc, ◌≡◌, ◌-◌, ◌<◌, ◌≤◌, List, [], ◌∷◌, ◌++◌, map, take, drop, length, Some, Option, None, IfSome, refl, sym, ap, subst, ◌∙◌, arith, get_or}
 use Rattle.std.specs.List.{AllWithin}
 use Rattle.std.specs.Prelude.{slice_get, All}
-use Rattle.std.proofs.lemmas.List.{append-nil, length-append, get_or-take, length-take-le, take_all}
-use Rattle.std.proofs.Math.ListN.{drop_of_length-le}
-use Rattle.std.proofs.Math.Seq.{take-append_seam, drop-append_seam}
+use Rattle.std.proofs.lemmas.List.{length-append, get_or-take, length-take-le, take_all}
+use Rattle.std.proofs.Math.Seq.{drop-append_seam}
 use Rattle.std.proofs.lemmas.Option.{slice_get-get_or, slice_get_within, slice_get_past}
+use Rattle.lasso_input.proofs.Ends.{end_written}
 use Rattle.lasso_parts.specs.Texts.{Text}
 use Rattle.lasso_single.proofs.Coded.{codes_stand}
 use Rattle.lasso_single.specs.Codes.{AreCodes, StandFor}
@@ -49,19 +49,6 @@ adds_rewritten table codes before after rewritten n within is long each next =
     not_there : (o : Option ℕ) → IfSome o (λ code. length table ≤ code) → IfSome o (λ code. slice_get table code ≡ None)
     not_there None past = tt
     not_there (Some code) past = slice_get_past table code past
-
--- a list whose end was appended and then overwritten
-end_written : (before added written mid : List ℕ) (m n : ℕ) → m ≡ length before → mid ≡ before ++ added → n ≡ length mid → length written ≡ length added → take n ((take m mid ++ (written ++ drop (length written) (drop m mid))) ++ drop (length (take m mid ++ (written ++ drop (length written) (drop m mid)))) mid) ≡ before ++ written
-end_written before added written mid m n start is long same =
-    let front : take m mid ≡ before = ap (λ k. take k mid) start ∙ ap (take (length before)) is ∙ take-append_seam before added in
-    let end : drop m mid ≡ added = ap (λ k. drop k mid) start ∙ ap (drop (length before)) is ∙ drop-append_seam before added in
-    let none : drop (length written) (drop m mid) ≡ [] = ap (drop (length written)) end ∙ drop_of_length-le added (omega (arith, same)) in
-    let whole : take m mid ++ (written ++ drop (length written) (drop m mid)) ≡ before ++ written =
-    ap (λ (xs : List ℕ). xs ++ (written ++ drop (length written) (drop m mid))) front ∙ ap (λ (xs : List ℕ). before ++ (written ++ xs)) none ∙ ap (λ (xs : List ℕ). before ++ xs) (append-nil written) in
-    let total : length (before ++ written) ≡ length mid = omega (arith, length-append before written, length-append before added, ap length is, same) in
-    let past : drop (length (before ++ written)) mid ≡ [] = drop_of_length-le mid (omega (arith, total)) in
-    ap (λ (xs : List ℕ). take n (xs ++ drop (length xs) mid)) whole ∙ ap (λ (xs : List ℕ). take n ((before ++ written) ++ xs)) past ∙ ap (take n) (append-nil (before ++ written))
-    ∙ take_all n (before ++ written) (omega (arith, long, total))
 
 -- the first n codes were appended, and then each of them was rewritten
 module _ (table codes before mid : List ℕ) (start total n : ℕ) (within : n ≤ length codes) (begins : start ≡ length before) (is : mid ≡ before ++ take n codes) (long : total ≡ length mid) (below : AllWithin (λ code. code < length table) codes 0 n) where

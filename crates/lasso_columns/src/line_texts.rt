@@ -4,10 +4,10 @@ ghost use Rattle.hex.specs.Hex.{IsBytes};
 ghost use Rattle.lasso_columns.specs.Streams.{BecomeTexts, lines_in};
 ghost use Rattle.lasso_columns.specs.Texts.{text_by, texts_by};
 ghost use Rattle.lasso_input.specs.Lines.{lines_of};
-ghost use Rattle.lasso_input.specs.Texts.{text_of};
+ghost use Rattle.lasso_input.specs.Texts.{escaped, text_of};
 
 use crate::reading_blocks::Blocks;
-use lasso_input::{Line, Stretch, own_text, text_of};
+use lasso_input::{Line, Stretch, append_escaped, own_text};
 use std::alloc::{AllocError, Global};
 use std::io;
 use std::io::ErrorKind;
@@ -70,26 +70,31 @@ fn text_block(alloc: Global, bytes: &[u8], only_utf8: bool) -> Result<Vec<u8>, A
     let mut texts = Vec::new(alloc);
     let mut lines = Stretch::new(bytes);
     while let Some(line) = lines.next_line() {
-        append_text(alloc, &mut texts, &line, only_utf8)?;
+        append_text(&mut texts, &line, only_utf8)?;
         texts.push(b'\n')?;
     }
     Ok(texts)
 }
 
 // Appends the text of the line. Only UTF-8: the line itself, if it is not UTF-8.
-fn append_text(
-    alloc: Global,
-    texts: &mut Vec<u8>,
-    line: &Line<'_>,
-    only_utf8: bool,
-) -> Result<(), AllocError>
+fn append_text(texts: &mut Vec<u8>, line: &Line<'_>, only_utf8: bool) -> Result<(), AllocError>
     ensures { OnOk result (texts.new.items ≡ texts.old.items ++ text_by only_utf8 line.now) }
 {
-    if is_refused(line, only_utf8) {
+    if stays(line, only_utf8) {
         return texts.extend_from_slice(line.bytes());
     }
-    let text = text_of(alloc, line)?;
-    texts.extend_from_slice(text.as_str().as_bytes())
+    append_escaped(texts, line.bytes())
+}
+
+// Whether the line stays as it is: it is its own text, or is refused.
+fn stays(line: &Line<'_>, only_utf8: bool) -> bool
+    ensures line { result ≡ true → text_by only_utf8 line.now ≡ line.now }
+    ensures text { result ≡ false → text_by only_utf8 line.now ≡ escaped line.now }
+{
+    match own_text(line) {
+        Some(_) => true,
+        None => is_refused(line, only_utf8),
+    }
 }
 
 // Whether the line is refused: it is not UTF-8, and only UTF-8 is let in.

@@ -3,19 +3,20 @@
 -- A line that is its own text doesn't begin with the mark, so it is read back as itself. Another line's text begins
 -- with the mark, and its digits are read back as the bytes. The mark is a character and digits are ASCII, so both
 -- are UTF-8.
-use Rattle.std.proofs.Common.{ℕ, ◌≡◌, ◌&&◌, ◌++◌, ◌⊎◌, Bool, true, false, not, List, [], ◌∷◌, drop, Err, Ok, inl, inr, nat_lt, refl, sym, ap, subst, ◌∙◌}
+use Rattle.std.proofs.Common.{ℕ, ◌≡◌, ◌+◌, ◌≤◌, ◌&&◌, ◌++◌, ◌⊎◌, Bool, true, false, not, List, [], ◌∷◌, drop, length, take, Err, Ok, inl, inr, nat_lt, refl, sym, ap, subst, ◌∙◌, append_assoc, arith}
 use Rattle.std.proofs.lemmas.Bool.{and_parts, cases_Bool, cond-true, cond-false, false≢true, not-true}
 use Rattle.std.proofs.lemmas.Str.{IsUtf8-append, IsUtf8-from_ascii, IsUtf8-from_is_utf8, is_utf8-from_IsUtf8}
+use Rattle.std.proofs.lemmas.List.{length-append, take_all}
 use borrow.Author.Tests.{ltb-true}
 use lib.Utf8.{encode}
 use Rattle.std.proofs.lemmas.Str.Ascii.{IsAscii-cons, IsAscii-nil}
-use Rattle.std.specs.List.{insert_slice}
 use Rattle.std.specs.Result.{result_unwrap_or}
 use Rattle.std.specs.Str.{is_utf8, IsAscii, IsUtf8}
 use Rattle.hex.specs.declared.error.FromHexError.{FromHexError}
 use Rattle.hex.specs.declared.error.FromHexError.TheVariants.{OutOfMemory}
 use Rattle.hex.specs.Hex.{IsBytes, decode_of, encode_lower, lower_digits}
 use Rattle.hex.proofs.HexLemmas.{IsAscii-encode_with, decode_of-encode_lower}
+use Rattle.lasso_input.proofs.Ends.{end_written}
 use Rattle.lasso_input.specs.Texts.{escaped, is_marked, is_own_text, line_of, mark, text_of}
 
 -- ---- the two cases of a text
@@ -116,7 +117,7 @@ digits_are_ascii : IsAscii lower_digits
 unfolding all_ascii
 digits_are_ascii = ascii_by_test lower_digits refl
 
-escaped_is_utf8 : (line : List ℕ) → IsUtf8 (escaped line)
+pub escaped_is_utf8 : (line : List ℕ) → IsUtf8 (escaped line)
 unfolding escaped
 escaped_is_utf8 line = IsUtf8-append mark (encode_lower line) mark_is_utf8 (IsUtf8-from_ascii (encode_lower line) (IsAscii-encode_with lower_digits line digits_are_ascii))
 
@@ -127,7 +128,11 @@ text_is_utf8 line = elim (cases_Bool (is_own_text line)) [
   | inr other ↦ subst IsUtf8 (sym (other_is_escaped line other)) (escaped_is_utf8 line)
 ]
 
--- the mark that is put in front of the digits
-pub mark_in_front : (digits bytes text : List ℕ) → digits ≡ encode_lower bytes → text ≡ insert_slice digits 0 (encode 1114111) → text ≡ escaped bytes
-unfolding escaped encode
-mark_in_front digits bytes text digits_are put = put ∙ ap (λ ds. mark ++ ds) digits_are
+-- the mark and the digits at the end of other bytes
+pub escaped_written : (old ext mid zeros written bytes : List ℕ) (m k n : ℕ) → ext ≡ old ++ mark → m ≡ length ext → mid ≡ take k ext ++ zeros → m ≤ k → n ≡ length mid → length written + m ≡ n → written ≡ encode_lower bytes
+    → take n ((take m mid ++ (written ++ drop (length written) (drop m mid))) ++ drop (length (take m mid ++ (written ++ drop (length written) (drop m mid)))) mid) ≡ old ++ escaped bytes
+unfolding escaped
+escaped_written old ext mid zeros written bytes m k n ext_is start mid_is more long fits digits =
+    let is : mid ≡ ext ++ zeros = mid_is ∙ ap (λ (xs : List ℕ). xs ++ zeros) (take_all k ext (omega (arith, start, more))) in
+    let same : length written ≡ length zeros = omega (arith, length-append ext zeros, ap length is, start, long, fits) in
+    end_written ext zeros written mid m n start is long same ∙ ap (λ (xs : List ℕ). ext ++ xs) digits ∙ ap (λ (xs : List ℕ). xs ++ encode_lower bytes) ext_is ∙ append_assoc old mark (encode_lower bytes)

@@ -1,5 +1,5 @@
 -- The texts of lines of any bytes.
-use Rattle.std.specs.Prelude.{ℕ, ◌≡◌, ◌&&◌, Bool, not, List, [], ◌∷◌, ◌++◌, drop, nat_eq, if◌then◌else◌}
+use Rattle.std.specs.Prelude.{ℕ, ◌≡◌, ◌&&◌, All, Bool, false, not, List, [], ◌∷◌, ◌++◌, drop, nat_eq, if◌then◌else◌}
 use Rattle.std.specs.List.{starts_with}
 use Rattle.std.specs.Result.{result_unwrap_or}
 use Rattle.std.specs.Str.{is_utf8, IsUtf8}
@@ -12,6 +12,10 @@ mark = 244 ∷ 143 ∷ 191 ∷ 191 ∷ []
 -- whether the bytes begin with the mark
 unfoldable pub is_marked : List ℕ → Bool
 is_marked bytes = starts_with nat_eq bytes mark
+
+-- UTF-8 without the first byte of the mark: each line of it is its own text
+abbrev pub IsPlain : List ℕ → Type 0
+IsPlain bytes = IsUtf8 bytes × All (λ b. nat_eq b 244 ≡ false) bytes
 
 -- whether the line is its own text: it is UTF-8 and doesn't begin with the mark
 unfoldable pub is_own_text : List ℕ → Bool

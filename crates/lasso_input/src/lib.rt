@@ -9,6 +9,7 @@
 //! `MAX_WORKERS` is how many threads may share the work on an input.
 #![tactic(auto)]
 
+mod digits;
 pub mod failures;
 pub mod laws;
 mod line;
@@ -26,5 +27,5 @@ pub use line::Line;
 pub use newlines::{after_newline, find_newline, first_line};
 pub use numbers::parse_digits;
 pub use stretch::Stretch;
-pub use texts::{MARK, is_marked, line_of, own_text, text_of};
+pub use texts::{MARK, append_escaped, escape_in, is_marked, line_of, own_text, text_of};
 pub use workers::MAX_WORKERS;

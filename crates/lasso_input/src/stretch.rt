@@ -1,15 +1,18 @@
 //! The lines of a stretch of the input: bytes that are in memory at one time.
 //!
-//! A stretch is tested for UTF-8 once, for all its lines. A line feed is ASCII, so a line that ends in the
-//! tested bytes is UTF-8, and so are the tested bytes after it.
-ghost use Rattle.std.specs.Prelude.{◌≡◌, ◌-◌, ◌<◌, ◌++◌, ◌∷◌, [], MatchOption, IfSome, IsTrue, IsUtf8, length, take};
+//! A stretch is tested once, for all its lines: for UTF-8, and for the first byte of the mark. A line feed is
+//! ASCII, so a line that ends in the tested bytes is UTF-8 without the mark, and so are the tested bytes after it.
+ghost use Rattle.std.specs.Prelude.{◌≡◌, ◌-◌, ◌<◌, ◌≤◌, ◌++◌, ◌∷◌, [], MatchOption, IfSome, IsTrue, IsUtf8, length, take};
 ghost use Rattle.lasso_input.specs.Lines.{NoFeed, lines_of};
+ghost use Rattle.lasso_input.specs.Texts.{IsPlain};
 
 use crate::line::Line;
 use crate::newlines::{after_newline, find_newline};
+use crate::texts::FIRST_OF_MARK;
 use lasso_parts::keys::Key;
 use lasso_single::batch::{Batch, TOGETHER, look_ahead};
 use lasso_single::rodeo::Rodeo;
+use memchr::memchr;
 use std::alloc::Allocator;
 use std::hash::BuildHasher;
 use std::marker::Model;
@@ -19,18 +22,19 @@ use std::str::from_utf8;
 #[derive(Drop)]
 pub struct Stretch<'a> {
     rest: &'a [u8],
-    // how many bytes at the end are not known to be UTF-8
+    // how many bytes at the end are not known to be plain: UTF-8 without the first byte of the mark
     untested: usize,
 }
 
 impl<'a> Model for Stretch<'a> {
-    ghost use Rattle.std.specs.Prelude.{ℕ, ◌-◌, List, IsUtf8, length, take};
+    ghost use Rattle.std.specs.Prelude.{ℕ, ◌-◌, List, length, take};
+    ghost use Rattle.lasso_input.specs.Texts.{IsPlain};
 
     ghost Value = { List ℕ };
 
     ghost view = { λ s. s.rest.now };
 
-    ghost invariant = { λ s. IsUtf8 (take (length s.rest.now - s.untested) s.rest.now) };
+    ghost invariant = { λ s. IsPlain (take (length s.rest.now - s.untested) s.rest.now) };
 }
 
 impl<'a> Stretch<'a> {
@@ -86,7 +90,7 @@ impl<'a> Stretch<'a> {
         Some(Line::tested(last, self.untested == 0))
     }
 
-    /// Looks ahead at the next lines, if that is due and pays: up to the first that is not known to be UTF-8.
+    /// Looks ahead at the next lines, if that is due and pays: up to the first that is not UTF-8.
     /// The caller then interns or looks for them with `batch`, line by line.
     #[inline(always)]
     pub fn look_ahead<K: Key, S: BuildHasher, A: Allocator>(
@@ -99,7 +103,8 @@ impl<'a> Stretch<'a> {
         }
     }
 
-    /// Whether all bytes that are left are known to be UTF-8. They are if all bytes of the stretch were.
+    /// Whether all bytes that are left are known to be UTF-8. They are if the stretch is UTF-8 and has no character
+    /// from U+100000 on.
     #[inline(always)]
     pub fn is_text(&self) -> bool
         ensures { IsTrue result → IsUtf8 self.now }
@@ -143,16 +148,28 @@ fn look_ahead_at<K: Key, S: BuildHasher, A: Allocator>(
     look_ahead(rodeo, &texts[..count], batch);
 }
 
-// How many bytes at the end are not known to be UTF-8. The bytes before them are. Tests for ASCII first, which
+// How many bytes at the end are not known to be plain. The bytes before them are. Tests for ASCII first, which
 // is faster.
 fn untested_len(bytes: &[u8]) -> usize
-    ensures { IsUtf8 (take (length bytes.now - result) bytes.now) }
+    ensures { IsPlain (take (length bytes.now - result) bytes.now) }
 {
     if bytes.is_ascii() {
         return 0;
     }
+    let len = utf8_len(bytes);
+    match memchr(FIRST_OF_MARK, &bytes[..len]) {
+        Some(_) => bytes.len(),
+        None => bytes.len() - len,
+    }
+}
+
+// How many bytes at the begin are UTF-8.
+fn utf8_len(bytes: &[u8]) -> usize
+    ensures within { result ≤ length bytes.now }
+    ensures text { IsUtf8 (take result bytes.now) }
+{
     match from_utf8(bytes) {
-        Ok(_) => 0,
-        Err(error) => bytes.len() - error.valid_up_to(),
+        Ok(_) => bytes.len(),
+        Err(error) => error.valid_up_to(),
     }
 }

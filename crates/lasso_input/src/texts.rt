@@ -2,21 +2,26 @@
 //!
 //! A line that is UTF-8 and doesn't begin with the mark is its own text. The text of any other line is the mark
 //! and then the line's bytes as digits. So an interner of texts can hold lines of any bytes.
-ghost use Rattle.std.specs.Prelude.{◌≡◌, ◌≤◌, true, false, IfOk, IsOkAnd, MatchOption, length};
+ghost use Rattle.std.specs.Prelude.{◌≡◌, ◌≤◌, ◌++◌, true, false, IfOk, OnOk, IsOkAnd, MatchOption, length};
 ghost use Rattle.std.specs.Cow.{cow_slice_items, cow_str_bytes, IsBorrowedSlice, IsBorrowedStr};
 ghost use Rattle.std.specs.String.{string_bytes};
 ghost use Rattle.lasso_input.specs.Texts.{escaped, is_marked, is_own_text, line_of, text_of};
 
+use crate::digits::put_digits;
 use crate::line::Line;
 use hex::FromHexError;
 use std::alloc::{AllocError, Allocator};
 use std::borrow::{CowSlice, CowStr};
+use std::str::from_utf8_unchecked;
 
 /// The mark: the first character of a text that is not its own line. Unicode assigns it to no use.
 pub const MARK: char = '\u{10FFFF}';
 
 // The mark in UTF-8.
-const MARK_BYTES: [u8; 4] = [0xF4, 0x8F, 0xBF, 0xBF];
+const MARK_BYTES: [u8; 4] = [FIRST_OF_MARK, 0x8F, 0xBF, 0xBF];
+
+// The first byte of the mark in UTF-8.
+pub(crate) const FIRST_OF_MARK: u8 = 0xF4;
 
 /// The text of the line. A line that is its own text is borrowed. Any other line's text is the mark and then
 /// the line's bytes as lower-case hexadecimal digits, two a byte.
@@ -42,10 +47,21 @@ pub fn own_text<'a>(line: &Line<'a>) -> Option<&'a str>
     let Ok(text) = line.text() else {
         return None;
     };
-    if is_marked(line.bytes()) {
+    if begins_with_mark(line) {
         return None;
     }
     Some(text)
+}
+
+// Whether the line begins with the mark. A plain line doesn't.
+#[inline(always)]
+fn begins_with_mark(line: &Line<'_>) -> bool
+    ensures { result ≡ is_marked line.now }
+{
+    if line.is_plain() {
+        return false;
+    }
+    is_marked(line.bytes())
 }
 
 /// The line that has this text. After the mark, digits of both cases are read. A text that begins with the mark,
@@ -79,12 +95,52 @@ pub fn is_marked(bytes: &[u8]) -> bool
     bytes.starts_with(&MARK_BYTES)
 }
 
+/// The text of a line that is not its own text, made in the buffer, whose bytes are lost.
+///
+/// # Errors
+/// Out of memory.
+#[inline]
+pub fn escape_in<'a, A: Allocator>(
+    buffer: &'a mut Vec<u8, A>,
+    bytes: &[u8],
+) -> Result<&'a str, AllocError>
+    ensures { IfOk result (λ text. text.now ≡ escaped bytes.now) }
+{
+    buffer.clear();
+    append_escaped(buffer, bytes)?;
+    Ok(unsafe { from_utf8_unchecked(buffer.as_slice()) })
+}
+
+/// Appends the text of a line that is not its own text: the mark, and then the digits of its bytes. Asks for the
+/// memory of just these bytes if there is none.
+///
+/// # Errors
+/// Out of memory. What was appended is a beginning of the text.
+#[inline]
+pub fn append_escaped<A: Allocator>(texts: &mut Vec<u8, A>, bytes: &[u8]) -> Result<(), AllocError>
+    ensures { OnOk result (texts.new.items ≡ texts.old.items ++ escaped bytes.now) }
+{
+    let Some(digits) = bytes.len().checked_mul(2) else {
+        return Err(AllocError);
+    };
+    texts.reserve(digits.saturating_add(MARK_BYTES.len()))?;
+    texts.extend_from_slice(&MARK_BYTES)?;
+    let start = texts.len();
+    let Some(end) = start.checked_add(digits) else {
+        return Err(AllocError);
+    };
+    texts.resize(end, 0)?;
+    put_digits(bytes, texts.slice_mut(start..));
+    Ok(())
+}
+
 // The mark, and then the digits of the bytes.
 #[cold]
+#[inline(never)]
 fn escape<A: Allocator>(alloc: A, bytes: &[u8]) -> Result<String<A>, AllocError>
     ensures { IfOk result (λ text. string_bytes text ≡ escaped bytes.now) }
 {
-    let mut text = hex::encode(alloc, bytes)?;
-    text.insert(0, MARK)?;
-    Ok(text)
+    let mut text = Vec::new(alloc);
+    append_escaped(&mut text, bytes)?;
+    Ok(unsafe { String::from_utf8_unchecked(text) })
 }

@@ -1,13 +1,21 @@
-use Rattle.std.proofs.Common.{◌≡◌, ◌∙◌, ◌∷◌, ◌++◌, drop, sym, subst, arith}
+use Rattle.std.proofs.Common.{◌≡◌, ◌∙◌, ◌+◌, ◌∷◌, ◌++◌, ap, drop, length, refl, sum, sym, subst, arith}
 use Rattle.std.proofs.lemmas.Result.{err_from_is_err_and}
 use Rattle.lasso_single.specs.Interner.{InternerView}
 use Rattle.lasso_codes.specs.Limits.{IsLineFault}
 use Rattle.lasso_input.specs.Lines.{lines_of}
 use Rattle.lasso_codes.specs.Stages.{Counting}
 use Rattle.lasso_codes.proofs.Feeds.{no_line, one_line}
-use Rattle.lasso_codes.proofs.CountedLines.{counting_push, counting_ends, counting_interned, counting_many, counting_read_fails, counting_line_fails}
+use Rattle.lasso_codes.proofs.CountedLines.{counting_begins, counting_push, counting_ends, counting_interned, counting_many, counting_read_fails, counting_line_fails}
 use Rattle.lasso_codes.proofs.Stretches.{left_after}
 use Rattle.lasso_codes.proofs.counts.count_lines.Goals as goal
+
+pub loop-number-init : goal.loop-number-init
+loop-number-init g c = record {
+  lengths = omega (arith, ap length c.requires.no_texts, ap length c.requires.no_counts);
+  total = ap (λ ns. sum ns + 1) c.requires.no_counts;
+  ahead = λ bytes e. (bytes, e, counting_begins bytes c.args.rule.only_utf8 c.args.rodeo.now c.args.counts.now.items c.requires.no_texts c.requires.no_counts);
+  reads = refl;
+}
 
 -- a buffered line is refused or not UTF-8
 pub returns-in_err-next-clause-error : goal.returns-in_err-next-clause-error

@@ -1,6 +1,10 @@
-use Rattle.std.specs.String.{string_bytes}
-use Rattle.lasso_input.proofs.LineTexts.{mark_in_front}
+use Rattle.std.proofs.Common.{ℕ, List, ◌++◌, ap, sym, subst, ◌∙◌}
+use Rattle.std.specs.Str.{IsUtf8}
+use Rattle.lasso_input.specs.Texts.{escaped}
+use Rattle.lasso_input.proofs.LineTexts.{escaped_is_utf8}
 use Rattle.lasso_input.proofs.texts.escape.Goals as goal
 
-pub returns : goal.returns
-returns g c = mark_in_front (string_bytes c.in_ok-text.text) c.args.bytes.now (string_bytes c.insert.new.self) c.in_ok-text.ensures c.in_ok-insert.ensures.bytes
+pub from_utf8_unchecked-requires : goal.from_utf8_unchecked-requires
+from_utf8_unchecked-requires g c =
+    let bytes = c.args.bytes.now in
+    subst IsUtf8 (sym (c.in_ok-append_escaped.ensures ∙ ap (λ (xs : List ℕ). xs ++ escaped bytes) c.new-text.ensures.items)) (escaped_is_utf8 bytes)

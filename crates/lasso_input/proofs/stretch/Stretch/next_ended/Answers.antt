@@ -1,8 +1,8 @@
 use Rattle.std.proofs.Common.{◌≡◌, ◌+◌, ◌-◌, ◌<◌, ◌++◌, ◌∷◌, length, take, drop, refl, sym, ap, subst, ◌∙◌, arith}
 use Rattle.std.proofs.lemmas.Grind.{common_steps}
 use Rattle.std.proofs.lemmas.Bool.Decides.{nat_tests}
-use Rattle.std.specs.Str.{IsUtf8}
 use Rattle.lasso_input.specs.Lines.{NoFeed}
+use Rattle.lasso_input.specs.Texts.{IsPlain}
 use Rattle.lasso_input.proofs.FirstLines.{cut_at, none_no_feed}
 use Rattle.lasso_input.proofs.Tested.{line_is_tested, after_is_tested}
 use Rattle.lasso_input.proofs.stretch.Stretch.next_ended.Goals as goal
@@ -21,7 +21,7 @@ pub invariant_of-self : goal.invariant_of-self
 invariant_of-self c =
     let rest = c.self.inside.rest.now in
     let untested = c.self.inside.untested in
-    subst (λ bs. IsUtf8 (take (length bs - untested) bs)) (sym c.after_newline-self-inside.ensures.value) (after_is_tested rest c.in-Some.at untested c.self.invariant c.in-Some.ensures)
+    subst (λ bs. IsPlain (take (length bs - untested) bs)) (sym c.after_newline-self-inside.ensures.value) (after_is_tested rest c.in-Some.at untested c.self.invariant c.in-Some.ensures)
 
 pub returns-clause-line : goal.returns-clause-line
 returns-clause-line c =

@@ -4,7 +4,7 @@ use Rattle.std.specs.Ordering.{is_lt}
 use Rattle.std.proofs.lemmas.List.Sorted.{IsPermutation-map}
 use Rattle.lasso_columns.specs.Counts.{pair_of, ranked_cmp}
 use Rattle.lasso_columns.proofs.Ranks.{sorted_map, pairs_total}
-use Rattle.lasso_codes.proofs.ranking.by_frequency.Goals as goal
+use Rattle.lasso_codes.proofs.ranking.lines_by_frequency.Goals as goal
 
 pub returns-clause-pairs : goal.returns-clause-pairs
 returns-clause-pairs c =
