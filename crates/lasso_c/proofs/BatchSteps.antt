@@ -10,7 +10,8 @@ use Rattle.std.proofs.lemmas.List.{get_or-drop, drop_more, map-append, length-ta
 use Rattle.lasso_parts.specs.Texts.{Text, position_of}
 use Rattle.lasso_parts.proofs.TextLemmas.{take_more_at}
 use Rattle.lasso_c.specs.Bitmap.{present_at}
-use Rattle.lasso_c.specs.Layout.{texts_from, layout_texts, column_rows, present_texts, over}
+use Rattle.lasso_parts.specs.Layout.{texts_from, layout_texts}
+use Rattle.lasso_c.specs.Layout.{column_rows, present_texts, over}
 use Rattle.lasso_c.specs.Encoding.{with_new, with_all_new, codes_or, row_code, row_codes}
 use Rattle.lasso_c.proofs.Layouts.{length-layout_texts}
 use Rattle.lasso_c.proofs.Interning.{position_stays}

@@ -13,7 +13,8 @@ use Rattle.lasso_parts.specs.declared.util.LassoErrorKind.TheVariants.{MemoryLim
 use Rattle.lasso_single.specs.Filling.{extend}
 use Rattle.lasso_single.specs.Interner.{InternerView}
 use Rattle.lasso_c.specs.Bitmap.{bits_fit, present_at}
-use Rattle.lasso_c.specs.Layout.{greatest_offset, layout_texts, start_fault, text_fault, null_fault, row_fault, rows_fault, column_fault, column_rows, greatest_offset, over, present_texts}
+use Rattle.lasso_parts.specs.Layout.{greatest_offset, layout_texts, greatest_offset}
+use Rattle.lasso_c.specs.Layout.{start_fault, text_fault, null_fault, row_fault, rows_fault, column_fault, column_rows, over, present_texts}
 use Rattle.lasso_c.specs.Decoding.{nothing}
 use Rattle.lasso_c.specs.Encoding.{column_refusal, dictionary_of, of_column, row_codes, with_all_new}
 use Rattle.lasso_c.specs.Interning.{key_of_code, InternsRoomed, InternsPart, refusal_at}

@@ -17,7 +17,8 @@ use Rattle.lasso_single.specs.Intern.{InternsIn}
 use Rattle.lasso_single.specs.Interner.{InternerView}
 use Rattle.lasso_single.proofs.Filled.{extend_push}
 use Rattle.lasso_c.specs.Bitmap.{bits_fit, present_at}
-use Rattle.lasso_c.specs.Layout.{layout_texts, start_fault, text_fault, null_fault, row_fault, rows_fault, column_fault, column_rows, present_texts}
+use Rattle.lasso_parts.specs.Layout.{layout_texts}
+use Rattle.lasso_c.specs.Layout.{start_fault, text_fault, null_fault, row_fault, rows_fault, column_fault, column_rows, present_texts}
 use Rattle.lasso_c.specs.Encoding.{with_new}
 use Rattle.lasso_c.specs.Interning.{key_of_code, InternsCode, InternsUnless, InternsRow, InternsNext, InternsColumn, InternsRoomed, InternsPart, batch_start_fault, null_outcome}
 use Rattle.lasso_c.specs.Decoding.{nothing}

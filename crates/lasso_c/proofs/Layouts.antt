@@ -10,7 +10,8 @@ use Rattle.std.proofs.lemmas.Str.{IsUtf8-from_is_utf8}
 use Rattle.std.proofs.lemmas.Bool.Decides.{nat_tests}
 use Rattle.std.proofs.lemmas.Option.{slice_get_past}
 use Rattle.lasso_parts.specs.Texts.{Text}
-use Rattle.lasso_c.specs.Layout.{reach, texts_from, layout_texts, start_fault, text_fault, texts_fault, layout_fault}
+use Rattle.lasso_parts.specs.Layout.{reach, texts_from, layout_texts}
+use Rattle.lasso_c.specs.Layout.{start_fault, text_fault, texts_fault, layout_fault}
 use Rattle.lasso_c.specs.declared.error.CallError.{CallError}
 use Rattle.lasso_c.specs.declared.error.CallError.TheVariants.{NotUtf8}
 

@@ -7,7 +7,7 @@ use Rattle.lasso_parts.specs.Texts.{Text, IsDistinct, position_of}
 use Rattle.lasso_parts.proofs.IndexLaws.{absent_before, position_of_at}
 use Rattle.lasso_c.specs.Encoding.{with_new, with_all_new}
 use Rattle.lasso_c.specs.Laws.{LoadingUndoesSaving}
-use Rattle.lasso_c.proofs.RoundTrip.{texts_back}
+use Rattle.lasso_parts.proofs.LayoutTexts.{texts_back}
 
 here : (before rest : List Text) (text : Text) → slice_get (before ++ text ∷ rest) (length before) ≡ Some text
 here [] rest text = refl

@@ -9,7 +9,7 @@ use Rattle.std.proofs.lemmas.Bool.Decides.{nat_tests}
 use Rattle.std.proofs.lemmas.List.{length-map}
 use Rattle.std.proofs.lemmas.Option.{slice_get-get_or, slice_get-map}
 use Rattle.lasso_parts.specs.Texts.{Text}
-use Rattle.lasso_c.specs.Layout.{greatest_offset}
+use Rattle.lasso_parts.specs.Layout.{greatest_offset}
 use Rattle.lasso_c.specs.Decoding.{nothing, rows_named, text_of_code, with_next, unless_refused, measured}
 use Rattle.lasso_c.specs.declared.error.Sizes.{Sizes}
 use Rattle.lasso_c.specs.declared.error.CallError.TheVariants.{NoSuchCode}

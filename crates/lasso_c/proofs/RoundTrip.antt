@@ -8,13 +8,14 @@ use Rattle.std.specs.List.{slice_range, concat}
 use Rattle.std.specs.Option.{option_or, unwrap_or}
 use Rattle.std.specs.Str.{IsUtf8, bytes_eq}
 use Rattle.std.proofs.lemmas.Bool.Decides.{nat_tests}
-use Rattle.std.proofs.lemmas.List.{drop_at, take_at}
 use Rattle.std.proofs.lemmas.List.Edits.{length-between}
 use Rattle.std.proofs.lemmas.Map.Keys.{IsDistinct-from_apart}
 use Rattle.std.proofs.lemmas.Str.{is_utf8-from_IsUtf8}
 use Rattle.lasso_parts.specs.Texts.{Text, position_of, IsDistinct}
 use Rattle.lasso_parts.proofs.TextLemmas.{distinct_push, position_here, position_last}
-use Rattle.lasso_c.specs.Layout.{greatest_offset, reach, texts_from, layout_texts, start_fault, text_fault, texts_fault, layout_fault, offsets_from}
+use Rattle.lasso_parts.proofs.LayoutTexts.{slice_here, behind, texts_back}
+use Rattle.lasso_parts.specs.Layout.{greatest_offset, reach, texts_from, layout_texts, offsets_from}
+use Rattle.lasso_c.specs.Layout.{start_fault, text_fault, texts_fault, layout_fault}
 use Rattle.lasso_c.specs.Encoding.{with_new, with_all_new, dictionary_of, codes_of, sizes_of}
 use Rattle.lasso_c.specs.Decoding.{texts_named, with_next, unless_refused, measured, fitting, unless_faulty, nothing}
 use Rattle.lasso_c.specs.Laws.{DecodesBack, DecodingUndoesEncoding}
@@ -27,27 +28,6 @@ use Rattle.lasso_c.proofs.Interning.{position_stays, new_bytes}
 abbrev pub Each : (Text → Type 0) → List Text → Type 0
 Each P [] = Unit {0}
 Each P (text ∷ texts) = P text × Each P texts
-
--- the first text, up to the next offset
-cut_first : (bytes : List ℕ) (from end : ℕ) (texts : List Text) → texts_from bytes from (offsets_from end texts) ≡ slice_range bytes from end ∷ layout_texts bytes (offsets_from end texts)
-cut_first bytes from end [] = refl
-cut_first bytes from end (text ∷ texts) = refl
-
-slice_here : (front text back : List ℕ) (at : ℕ) → at ≡ length front → slice_range (front ++ (text ++ back)) at (at + length text) ≡ text
-slice_here front text back at e =
-    let n : (at + length text) - at ≡ length text = omega arith in
-    ap (λ k. take k (drop at (front ++ (text ++ back)))) n ∙ ap (λ xs. take (length text) xs) (drop_at front (text ++ back) at (sym e)) ∙ take_at text back (length text) refl
-
-behind : (front text : List ℕ) (at : ℕ) → at ≡ length front → at + length text ≡ length (front ++ text)
-behind front text at e = omega (arith, length-append front text)
-
--- texts are cut out again where they lie
-pub texts_back : (front : List ℕ) (texts : List Text) (at : ℕ) → at ≡ length front → layout_texts (front ++ concat texts) (offsets_from at texts) ≡ texts
-texts_back front [] at e = refl
-texts_back front (text ∷ texts) at e =
-    let end = at + length text in
-    let others : layout_texts (front ++ (text ++ concat texts)) (offsets_from end texts) ≡ texts = ap (λ bytes. layout_texts bytes (offsets_from end texts)) (sym (append_assoc front text (concat texts))) ∙ texts_back (front ++ text) texts end (behind front text at e) in
-    cut_first (front ++ (text ++ concat texts)) at end texts ∙ ap (λ (t : Text). t ∷ layout_texts (front ++ (text ++ concat texts)) (offsets_from end texts)) (slice_here front text (concat texts) at e) ∙ ap (λ ts. text ∷ ts) others
 
 -- the faults from the first of some offsets on
 faults_at : List ℕ → ℕ → List ℕ → Option CallError

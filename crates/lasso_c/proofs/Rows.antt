@@ -11,7 +11,8 @@ use Rattle.std.proofs.lemmas.Bool.Decides.{nat_tests}
 use Rattle.std.specs.Option.{unwrap_or}
 use Rattle.lasso_parts.specs.Texts.{Text, position_of}
 use Rattle.lasso_c.specs.Bitmap.{present_at}
-use Rattle.lasso_c.specs.Layout.{reach, texts_from, layout_texts, start_fault, text_fault, null_fault, row_fault, rows_fault, column_fault, rows_from, column_rows, with_row, present_texts, greatest_offset, layout_fault}
+use Rattle.lasso_parts.specs.Layout.{reach, texts_from, layout_texts, greatest_offset}
+use Rattle.lasso_c.specs.Layout.{start_fault, text_fault, null_fault, row_fault, rows_fault, column_fault, rows_from, column_rows, with_row, present_texts, layout_fault}
 use Rattle.lasso_c.specs.Encoding.{row_codes, codes_of, dictionary_of, column_outcome, encoding_outcome, rows_outcome}
 use Rattle.lasso_c.specs.Decoding.{unless_faulty}
 use Rattle.lasso_c.proofs.Layouts.{or_none}

@@ -9,7 +9,8 @@ use Rattle.std.proofs.lemmas.List.{set_split, take-append-drop, length-set, leng
 use Rattle.std.proofs.lemmas.Option.{slice_get_within, get_or_from_slice_get}
 use Rattle.std.proofs.lemmas.List.Edits.{paste_all, paste-paste}
 use Rattle.lasso_parts.specs.Texts.{Text}
-use Rattle.lasso_c.specs.Layout.{offsets_from, over, over_from}
+use Rattle.lasso_parts.specs.Layout.{offsets_from}
+use Rattle.lasso_c.specs.Layout.{over, over_from}
 
 over_is : (start n : ℕ) (part buffer : List ℕ) → n ≡ length part → over_from start part buffer ≡ paste buffer start part n
 over_is start n part buffer same = sym (paste_all buffer start part n same ∙ ap (λ m. take start buffer ++ (part ++ drop (start + m) buffer)) same)

@@ -1,7 +1,8 @@
 -- What decoding answers and writes.
 use Rattle.std.specs.Prelude.{ℕ, ◌+◌, ◌*◌, List, [], ◌∷◌, length, map, slice_get, unwrap_or, nat_eq, nat_le, nat_lt, if◌then◌else◌, Option, Some, None, Result, Ok, Err}
 use Rattle.lasso_parts.specs.Texts.{Text}
-use Rattle.lasso_c.specs.Layout.{greatest_offset, layout_texts, layout_fault}
+use Rattle.lasso_parts.specs.Layout.{greatest_offset, layout_texts}
+use Rattle.lasso_c.specs.Layout.{layout_fault}
 use Rattle.lasso_c.specs.declared.error.Sizes.{Sizes}
 use Rattle.lasso_c.specs.declared.error.CallError.{CallError}
 use Rattle.lasso_c.specs.declared.error.CallError.TheVariants.{NoSuchCode, TooManyBytes, OffsetsTooShort, BytesTooShort, BitmapTooShort}

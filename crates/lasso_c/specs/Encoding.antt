@@ -3,7 +3,8 @@ use Rattle.std.specs.Prelude.{ℕ, ◌*◌, Option, None, Some, List, [], ◌∷
 use Rattle.std.specs.List.{concat}
 use Rattle.lasso_parts.specs.Texts.{Text, position_of}
 use Rattle.lasso_c.specs.Bitmap.{bits_fit}
-use Rattle.lasso_c.specs.Layout.{greatest_offset, layout_texts, layout_fault, column_fault, column_rows, present_texts}
+use Rattle.lasso_parts.specs.Layout.{greatest_offset, layout_texts}
+use Rattle.lasso_c.specs.Layout.{layout_fault, column_fault, column_rows, present_texts}
 use Rattle.lasso_c.specs.Decoding.{fitting, unless_faulty}
 use Rattle.lasso_c.specs.declared.error.Sizes.{Sizes}
 use Rattle.lasso_c.specs.declared.error.CallError.{CallError}

@@ -4,7 +4,8 @@ use Rattle.std.specs.Prelude.{ℕ, Bool, true, false, List, [], length, drop, sl
 use Rattle.std.specs.List.{concat}
 use Rattle.lasso_parts.specs.Account.{Account}
 use Rattle.lasso_parts.specs.Texts.{Text, position_of}
-use Rattle.lasso_c.specs.Layout.{layout_texts, layout_fault}
+use Rattle.lasso_parts.specs.Layout.{layout_texts}
+use Rattle.lasso_c.specs.Layout.{layout_fault}
 use Rattle.lasso_c.specs.Encoding.{sizes_of}
 use Rattle.lasso_c.specs.Decoding.{fitting, unless_faulty}
 use Rattle.lasso_c.specs.declared.error.Sizes.{Sizes}

@@ -9,7 +9,8 @@ use Rattle.lasso_single.specs.Filling.{extend}
 use Rattle.lasso_single.specs.Intern.{InternsIn}
 use Rattle.lasso_single.specs.Interner.{InternerView}
 use Rattle.lasso_c.specs.Bitmap.{bits_fit, present_at}
-use Rattle.lasso_c.specs.Layout.{layout_texts, start_fault, text_fault, null_fault, column_fault, column_rows, present_texts}
+use Rattle.lasso_parts.specs.Layout.{layout_texts}
+use Rattle.lasso_c.specs.Layout.{start_fault, text_fault, null_fault, column_fault, column_rows, present_texts}
 use Rattle.lasso_c.specs.Decoding.{nothing}
 use Rattle.lasso_c.specs.Status.{Reports, outcome_status, outcome_report}
 use Rattle.lasso_c.specs.declared.error.LassoReport.{LassoReport}

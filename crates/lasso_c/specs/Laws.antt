@@ -3,7 +3,8 @@ use Rattle.std.specs.Prelude.{ℕ, ◌≡◌, ◌<◌, ◌≤◌, List, [], leng
 use Rattle.std.specs.List.{concat, slice_index_or}
 use Rattle.lasso_parts.specs.Texts.{Text, IsDistinct, position_of}
 use Rattle.lasso_c.specs.Bitmap.{bitmap_of, code_bits, present_at}
-use Rattle.lasso_c.specs.Layout.{greatest_offset, layout_texts, layout_fault, offsets_from, present_texts}
+use Rattle.lasso_parts.specs.Layout.{greatest_offset, layout_texts, offsets_from}
+use Rattle.lasso_c.specs.Layout.{layout_fault, present_texts}
 use Rattle.lasso_c.specs.Encoding.{with_all_new, dictionary_of, codes_of, row_codes, sizes_of}
 use Rattle.lasso_c.specs.Decoding.{texts_named, rows_named, decoding_outcome}
 

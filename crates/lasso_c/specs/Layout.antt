@@ -1,39 +1,16 @@
--- A layout: texts in one buffer of bytes, beside a buffer of offsets, as Arrow lays out arrays of strings:
--- text k is what lies between offset k and offset k + 1, so that there is one offset more than there are
--- texts. A column is a layout and a bitmap. Its rows are texts and nulls.
+-- What is wrong with a layout, its rows, and how it is written. A column is a layout and a bitmap. Its rows are
+-- texts and nulls.
 --
--- An offset reaches no further than the bytes and than the greatest offset of its width, which these
--- definitions take first; all else is one for both widths.
-use Rattle.std.specs.Prelude.{ℕ, ◌+◌, List, [], ◌∷◌, ◌++◌, length, take, drop, min, nat_lt, if◌then◌else◌, Option, Some, None}
+-- The definitions of faults take the greatest offset of the offsets' width first; all else is one for both widths.
+use Rattle.std.specs.Prelude.{ℕ, ◌+◌, List, [], ◌∷◌, ◌++◌, length, take, drop, nat_lt, if◌then◌else◌, Option, Some, None}
 use Rattle.std.specs.List.{slice_range}
 use Rattle.std.specs.Option.{option_or}
 use Rattle.std.specs.Str.{is_utf8}
+use Rattle.lasso_parts.specs.Layout.{reach, layout_texts}
 use Rattle.lasso_parts.specs.Texts.{Text}
 use Rattle.lasso_c.specs.Bitmap.{present_at}
 use Rattle.lasso_c.specs.declared.error.CallError.{CallError}
 use Rattle.lasso_c.specs.declared.error.CallError.TheVariants.{OffsetsFall, OffsetPastBytes, NotUtf8}
-
--- the greatest offset of 32 bits, a signed number: 2 ^ 31 - 1
-abbrev pub greatest_offset : ℕ
-greatest_offset = 2147483647
-
--- that of 64 bits: 2 ^ 63 - 1
-abbrev pub greatest_large_offset : ℕ
-greatest_large_offset = 9223372036854775807
-
--- how far offsets of that greatest one may reach into the bytes
-abbrev pub reach : ℕ → List ℕ → ℕ
-reach greatest bytes = min (length bytes) greatest
-
--- the texts between an offset and those after it
-abbrev pub texts_from : List ℕ → ℕ → List ℕ → List Text
-texts_from bytes from [] = []
-texts_from bytes from (to ∷ offsets) = slice_range bytes from to ∷ texts_from bytes to offsets
-
--- the texts of a buffer with these offsets; no offsets at all mean no texts
-abbrev pub layout_texts : List ℕ → List ℕ → List Text
-layout_texts bytes [] = []
-layout_texts bytes (from ∷ offsets) = texts_from bytes from offsets
 
 -- what is wrong with the offset where the first text begins, or nothing
 abbrev pub start_fault : ℕ → List ℕ → ℕ → Option CallError
@@ -95,11 +72,6 @@ with_row (Some text) texts = text ∷ texts
 abbrev pub present_texts : List (Option Text) → List Text
 present_texts [] = []
 present_texts (row ∷ rows) = with_row row (present_texts rows)
-
--- the offsets of texts that lie one after another from an offset on
-abbrev pub offsets_from : ℕ → List Text → List ℕ
-offsets_from at [] = at ∷ []
-offsets_from at (text ∷ texts) = at ∷ offsets_from (at + length text) texts
 
 -- a buffer once this is written over its front: so are the bytes of a layout, and its offsets
 -- (`offsets_from 0`)

@@ -2,7 +2,8 @@
 
 use crate::encoding::Dictionary;
 use crate::layout::text_between;
-use crate::offsets::Offset;
+use crate::offsets::{count, number};
+use lasso_parts::offsets::Offset;
 use lasso_single::batch::{Batch, TOGETHER, look_ahead};
 
 // Looks ahead at the rows from `at` on, if that is due and pays.
@@ -28,14 +29,14 @@ fn look_ahead_at_rows<O: Offset>(
     at: usize,
     batch: &mut Batch,
 ) {
-    let rows = O::count(offsets).saturating_sub(1);
+    let rows = count(offsets).saturating_sub(1);
     let mut texts = [""; TOGETHER];
     let mut count = 0;
     for row in at..rows {
         if count >= TOGETHER {
             break;
         }
-        let (from, to) = (O::number(offsets, row), O::number(offsets, row + 1));
+        let (from, to) = (number(offsets, row), number(offsets, row + 1));
         let Ok(text) = text_between::<O>(bytes, row, from, to) else {
             break;
         };

@@ -4,7 +4,8 @@ ghost use Rattle.std.specs.List.{concat};
 ghost use Rattle.std.specs.Result.{result_err};
 ghost use Rattle.lasso_parts.specs.Texts.{position_of};
 ghost use Rattle.lasso_c.specs.Bitmap.{bits_fit};
-ghost use Rattle.lasso_c.specs.Layout.{column_rows, greatest_offset, layout_fault, layout_texts, offsets_from, over, present_texts};
+ghost use Rattle.lasso_parts.specs.Layout.{greatest_offset, layout_texts, offsets_from};
+ghost use Rattle.lasso_c.specs.Layout.{column_rows, layout_fault, over, present_texts};
 ghost use Rattle.lasso_c.specs.Encoding.{with_all_new, codes_of, codes_or, row_codes, sizes_of};
 ghost use Rattle.lasso_c.specs.Handles.{code_lookup_in, part_lookup_outcome, part_outcome};
 ghost use Rattle.lasso_c.specs.Interning.{InternsCode, InternsNext, InternsPart, batch_report, batch_start_fault, refusal_at};
@@ -15,9 +16,10 @@ use crate::encoding::{Dictionary, text_at_code};
 use crate::error::{CallError, LassoReport, Sizes, status_of};
 use crate::layout::{check_layout, first_start, put_text, text_between};
 use crate::nulls::{check_null, fit, is_present};
-use crate::offsets::Offset;
+use crate::offsets::{count, number, put};
 use crate::status::{DONE, NO_SUCH_CODE};
 use lasso_parts::keys::Key;
+use lasso_parts::offsets::Offset;
 use lasso_parts::util::LassoErrorKind;
 use lasso_single::batch::{Batch, get_next};
 use lasso_single::coding::intern_code_next;
@@ -57,13 +59,13 @@ pub(crate) fn intern_column<O: Offset>(
     null: u32,
     codes: &mut [u32],
 ) -> Progress
-    ensures interned { InternsPart O.greatest (length codes.old) bits.now bytes.now (O.numbers offsets.now) result.done dictionary.old result.outcome dictionary.new }
+    ensures interned { InternsPart O.GREATEST (length codes.old) bits.now bytes.now (O.numbers offsets.now) result.done dictionary.old result.outcome dictionary.new }
     ensures texts { dictionary.new.texts ≡ with_all_new dictionary.old.texts (present_texts (take result.done (column_rows bits.now bytes.now (O.numbers offsets.now)))) }
     ensures codes { codes.new ≡ over (row_codes null dictionary.new.texts (take result.done (column_rows bits.now bytes.now (O.numbers offsets.now)))) codes.old }
     ensures whole { OnOk result.outcome (result.done ≡ length (layout_texts bytes.now (O.numbers offsets.now))) }
     ensures within { result.done ≤ length (layout_texts bytes.now (O.numbers offsets.now)) }
 {
-    let count = O::count(offsets);
+    let count = count(offsets);
     if count == 0 {
         return Progress {
             done: 0,
@@ -71,7 +73,7 @@ pub(crate) fn intern_column<O: Offset>(
         };
     }
     let rows = count - 1;
-    let first = O::number(offsets, 0);
+    let first = number(offsets, 0);
     if let Err(refusal) = first_fault::<O>(bytes, first, rows, bits, codes.len()) {
         return Progress {
             done: 0,
@@ -102,7 +104,7 @@ pub(crate) fn intern_layout<O: Offset>(
     offsets: &[O],
     codes: &mut [u32],
 ) -> Progress
-    ensures interned { InternsPart O.greatest (length codes.old) [] bytes.now (O.numbers offsets.now) result.done dictionary.old result.outcome dictionary.new }
+    ensures interned { InternsPart O.GREATEST (length codes.old) [] bytes.now (O.numbers offsets.now) result.done dictionary.old result.outcome dictionary.new }
     ensures texts { dictionary.new.texts ≡ with_all_new dictionary.old.texts (take result.done (layout_texts bytes.now (O.numbers offsets.now))) }
     ensures codes { codes.new ≡ over (codes_of dictionary.new.texts (take result.done (layout_texts bytes.now (O.numbers offsets.now)))) codes.old }
     ensures whole { OnOk result.outcome (result.done ≡ length (layout_texts bytes.now (O.numbers offsets.now))) }
@@ -119,7 +121,7 @@ fn first_fault<O: Offset>(
     bits: &[u8],
     room: usize,
 ) -> Result<(), CallError>
-    ensures { result_err result ≡ batch_start_fault O.greatest bits.now bytes.now first rows room }
+    ensures { result_err result ≡ batch_start_fault O.GREATEST bits.now bytes.now first rows room }
 {
     if room < rows {
         return Err(CallError::CodesTooShort(Sizes { texts: 0, bytes: 0 }));
@@ -145,9 +147,9 @@ fn code_at<O: Offset>(
     requires within { at + 1 < length (O.numbers offsets.now) }
     requires counted { at + 1 < 2 ^ 64 }
     requires bit { IsTrue (bits_fit bits.now (at + 1)) }
-    ensures { InternsNext O.greatest bits.now null bytes.now (O.numbers offsets.now) at dictionary.old result dictionary.new }
+    ensures { InternsNext O.GREATEST bits.now null bytes.now (O.numbers offsets.now) at dictionary.old result dictionary.new }
 {
-    let (from, to) = (O::number(offsets, at), O::number(offsets, at + 1));
+    let (from, to) = (number(offsets, at), number(offsets, at + 1));
     if !is_present(bits, at) {
         check_null::<O>(bytes, at, from, to)?;
         batch.skip();
@@ -201,10 +203,10 @@ pub(crate) fn find_layout<O: Offset>(
     absent: u32,
     codes: &mut [u32],
 ) -> Result<Sizes, CallError>
-    ensures outcome { result ≡ part_lookup_outcome O.greatest bytes.now (O.numbers offsets.now) (length codes.old) }
+    ensures outcome { result ≡ part_lookup_outcome O.GREATEST bytes.now (O.numbers offsets.now) (length codes.old) }
     ensures codes { codes.new ≡ (if is_ok result then over (codes_or absent dictionary.now.texts (layout_texts bytes.now (O.numbers offsets.now))) codes.old else codes.old) }
 {
-    let count = O::count(offsets).saturating_sub(1);
+    let count = count(offsets).saturating_sub(1);
     let needed = Sizes {
         texts: count,
         bytes: 0,
@@ -225,14 +227,14 @@ fn put_codes<O: Offset>(
     absent: u32,
     codes: &mut [u32],
 )
-    requires layout { layout_fault O.greatest bytes.now (O.numbers offsets.now) ≡ None }
+    requires layout { layout_fault O.GREATEST bytes.now (O.numbers offsets.now) ≡ None }
     requires room { length (layout_texts bytes.now (O.numbers offsets.now)) ≤ length codes.old }
     ensures { codes.new ≡ over (codes_or absent dictionary.now.texts (layout_texts bytes.now (O.numbers offsets.now))) codes.old }
 {
     let mut batch = Batch::new();
-    for at in 0..O::count(offsets).saturating_sub(1) {
+    for at in 0..count(offsets).saturating_sub(1) {
         look_ahead_from(dictionary, bytes, offsets, at, &mut batch);
-        let (from, to) = (O::number(offsets, at), O::number(offsets, at + 1));
+        let (from, to) = (number(offsets, at), number(offsets, at + 1));
         let text = text_between::<O>(bytes, at, from, to).unwrap();
         codes[at] = code_or(dictionary, text, &mut batch, absent);
     }
@@ -258,14 +260,14 @@ pub(crate) fn write_from<O: Offset>(
     bytes: &mut [u8],
     offsets: &mut [O],
 ) -> Result<Sizes, CallError>
-    ensures outcome { result ≡ part_outcome O.greatest (drop from dictionary.now.texts) (length (O.numbers offsets.old)) (length bytes.old) }
+    ensures outcome { result ≡ part_outcome O.GREATEST (drop from dictionary.now.texts) (length (O.numbers offsets.old)) (length bytes.old) }
     ensures bytes { bytes.new ≡ (if is_ok result then over (concat (drop from dictionary.now.texts)) bytes.old else bytes.old) }
     ensures offsets { O.numbers offsets.new ≡ (if is_ok result then over (offsets_from 0 (drop from dictionary.now.texts)) (O.numbers offsets.old) else O.numbers offsets.old) }
 {
     let Some(sizes) = sizes_from::<O>(dictionary, from) else {
         return Err(CallError::TooManyBytes(0));
     };
-    if sizes.texts >= O::count(offsets) {
+    if sizes.texts >= count(offsets) {
         return Err(CallError::OffsetsTooShort(sizes));
     }
     if bytes.len() < sizes.bytes {
@@ -278,14 +280,14 @@ pub(crate) fn write_from<O: Offset>(
 // How many texts there are from the code on, and their bytes, unless these are more than offsets can tell.
 fn sizes_from<O: Offset>(dictionary: &Dictionary, from: usize) -> Option<Sizes>
     ensures sizes { IfSome result (λ sizes. sizes ≡ sizes_of (drop from dictionary.now.texts)) }
-    ensures small { IfSome result (λ sizes. sizes.bytes ≤ O.greatest) }
-    ensures large { result ≡ None → O.greatest < length (concat (drop from dictionary.now.texts)) }
+    ensures small { IfSome result (λ sizes. sizes.bytes ≤ O.GREATEST) }
+    ensures large { result ≡ None → O.GREATEST < length (concat (drop from dictionary.now.texts)) }
 {
     let mut bytes = 0;
     let count = dictionary.len().saturating_sub(from);
     for at in 0..count {
         let text = text_at_code(dictionary, from + at);
-        if text.len() > O::greatest() - bytes {
+        if text.len() > O::GREATEST - bytes {
             return None;
         }
         bytes += text.len();
@@ -298,7 +300,7 @@ fn sizes_from<O: Offset>(dictionary: &Dictionary, from: usize) -> Option<Sizes>
 
 // Writes the texts from the code on. There must be room.
 fn put_from<O: Offset>(dictionary: &Dictionary, from: usize, bytes: &mut [u8], offsets: &mut [O])
-    requires small { length (concat (drop from dictionary.now.texts)) ≤ O.greatest }
+    requires small { length (concat (drop from dictionary.now.texts)) ≤ O.GREATEST }
     requires bytes { length (concat (drop from dictionary.now.texts)) ≤ length bytes.old }
     requires offsets { length (drop from dictionary.now.texts) < length (O.numbers offsets.old) }
     ensures bytes { bytes.new ≡ over (concat (drop from dictionary.now.texts)) bytes.old }
@@ -310,7 +312,7 @@ fn put_from<O: Offset>(dictionary: &Dictionary, from: usize, bytes: &mut [u8], o
         let text = text_at_code(dictionary, from + at).as_bytes();
         start = put_text(text, at, start, offsets, bytes);
     }
-    O::put(offsets, count, start);
+    put(offsets, count, start);
 }
 
 // Writes the text of the code as far as there is room, and how many bytes it has.

@@ -2,14 +2,15 @@
 ghost use Rattle.std.specs.Prelude.{◌≡◌, ◌+◌, ◌^◌, ◌<◌, ◌≤◌, None, Some, IfOk, IsOkAnd, length, is_ok, if◌then◌else◌};
 ghost use Rattle.std.specs.List.{concat};
 ghost use Rattle.std.specs.Option.{option_copied};
-ghost use Rattle.lasso_c.specs.Layout.{greatest_offset, layout_fault, layout_texts, offsets_from, over};
+ghost use Rattle.lasso_parts.specs.Layout.{greatest_offset, layout_texts, offsets_from};
+ghost use Rattle.lasso_c.specs.Layout.{layout_fault, over};
 ghost use Rattle.lasso_c.specs.Bitmap.{bitmap_of, code_bits};
 ghost use Rattle.lasso_c.specs.Decoding.{measured, nothing, nulls_decoding_outcome, rows_decoding_outcome, rows_named, text_of_code, with_next};
 
 use crate::error::{CallError, Sizes};
 use crate::layout::{check_layout, put_text, text_at};
 use crate::nulls::put_bits;
-use crate::offsets::Offset;
+use lasso_parts::offsets::Offset;
 
 // Writes the texts that the codes name, or nothing. The code of nulls, if there is one, names an empty text.
 pub(crate) fn decode(
@@ -118,7 +119,7 @@ fn with_next(sizes: Sizes, text: Option<&[u8]>) -> Result<Sizes, CallError>
     let Some(text) = text else {
         return Err(CallError::NoSuchCode(sizes.texts));
     };
-    if text.len() > u32::greatest() - sizes.bytes {
+    if text.len() > <u32 as Offset>::GREATEST - sizes.bytes {
         return Err(CallError::TooManyBytes(sizes.texts));
     }
     Ok(Sizes {

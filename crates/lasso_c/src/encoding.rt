@@ -4,7 +4,8 @@ ghost use Rattle.std.specs.List.{concat};
 ghost use Rattle.lasso_single.specs.Filling.{extend};
 ghost use Rattle.lasso_single.specs.Interner.{made_with};
 ghost use Rattle.lasso_c.specs.Interning.{key_of_code};
-ghost use Rattle.lasso_c.specs.Layout.{column_rows, greatest_offset, layout_texts, offsets_from, over, present_texts};
+ghost use Rattle.lasso_parts.specs.Layout.{greatest_offset, layout_texts, offsets_from};
+ghost use Rattle.lasso_c.specs.Layout.{column_rows, over, present_texts};
 ghost use Rattle.lasso_c.specs.Encoding.{codes_of, column_outcome, column_refusal, dictionary_of, encoding_outcome, of_column, row_codes, sizes_of};
 ghost use Rattle.lasso_c.specs.declared.error.CallError.TheVariants.{NoMemory};
 

@@ -2,7 +2,8 @@
 //! `_large` does, and has the same statuses.
 ghost use Rattle.std.specs.Prelude.{◌≡◌, ◌≤◌, [], length, take, drop};
 ghost use Rattle.std.specs.List.{concat};
-ghost use Rattle.lasso_c.specs.Layout.{greatest_large_offset, column_rows, layout_texts, offsets_from, over, present_texts};
+ghost use Rattle.lasso_parts.specs.Layout.{greatest_large_offset, layout_texts, offsets_from};
+ghost use Rattle.lasso_c.specs.Layout.{column_rows, over, present_texts};
 ghost use Rattle.lasso_c.specs.Encoding.{codes_of, codes_or, row_codes, with_all_new};
 ghost use Rattle.lasso_c.specs.Handles.{dictionary_outcome, lookup_outcome, seed_in, texts_in};
 ghost use Rattle.lasso_c.specs.Interning.{BatchEnds};

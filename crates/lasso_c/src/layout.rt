@@ -3,22 +3,24 @@ ghost use Rattle.std.specs.Prelude.{◌≡◌, ◌+◌, ◌<◌, ◌≤◌, None
 ghost use Rattle.std.specs.List.{slice_range};
 ghost use Rattle.std.specs.Option.{option_copied};
 ghost use Rattle.std.specs.Result.{result_err};
-ghost use Rattle.lasso_c.specs.Layout.{greatest_offset, reach, layout_texts, start_fault, text_fault, layout_fault, over_from};
+ghost use Rattle.lasso_parts.specs.Layout.{greatest_offset, reach, layout_texts};
+ghost use Rattle.lasso_c.specs.Layout.{start_fault, text_fault, layout_fault, over_from};
 
 use crate::error::CallError;
-use crate::offsets::Offset;
+use crate::offsets::{count, number, put};
 use crate::utf8::text_of;
+use lasso_parts::offsets::Offset;
 
 // How far offsets may reach into the bytes.
 pub(crate) fn reach<O: Offset>(bytes: &[u8]) -> usize
-    ensures { result ≡ reach O.greatest bytes.now }
+    ensures { result ≡ reach O.GREATEST bytes.now }
 {
-    bytes.len().min(O::greatest())
+    bytes.len().min(O::GREATEST)
 }
 
 // Where the first text begins, where its offset is good.
 pub(crate) fn first_start<O: Offset>(bytes: &[u8], from: usize) -> Result<usize, CallError>
-    ensures { MatchResult result (λ start. (start ≡ from) × (start_fault O.greatest bytes.now from ≡ None)) (λ refusal. start_fault O.greatest bytes.now from ≡ Some refusal) }
+    ensures { MatchResult result (λ start. (start ≡ from) × (start_fault O.GREATEST bytes.now from ≡ None)) (λ refusal. start_fault O.GREATEST bytes.now from ≡ Some refusal) }
 {
     if from > reach::<O>(bytes) {
         return Err(CallError::OffsetPastBytes(0));
@@ -33,8 +35,8 @@ pub(crate) fn text_between<O: Offset>(
     from: usize,
     to: usize,
 ) -> Result<&str, CallError>
-    ensures { MatchResult result (λ text. (text.now ≡ slice_range bytes.now from to) × (from ≤ to) × (to ≤ reach O.greatest bytes.now) × (text_fault O.greatest bytes.now at from to ≡ None))
-        (λ refusal. text_fault O.greatest bytes.now at from to ≡ Some refusal) }
+    ensures { MatchResult result (λ text. (text.now ≡ slice_range bytes.now from to) × (from ≤ to) × (to ≤ reach O.GREATEST bytes.now) × (text_fault O.GREATEST bytes.now at from to ≡ None))
+        (λ refusal. text_fault O.GREATEST bytes.now at from to ≡ Some refusal) }
 {
     if to < from {
         return Err(CallError::OffsetsFall(at));
@@ -50,15 +52,15 @@ pub(crate) fn text_between<O: Offset>(
 
 // Finds what is first wrong with the layout.
 pub(crate) fn check_layout<O: Offset>(bytes: &[u8], offsets: &[O]) -> Result<(), CallError>
-    ensures { result_err result ≡ layout_fault O.greatest bytes.now (O.numbers offsets.now) }
+    ensures { result_err result ≡ layout_fault O.GREATEST bytes.now (O.numbers offsets.now) }
 {
-    let count = O::count(offsets);
+    let count = count(offsets);
     if count == 0 {
         return Ok(());
     }
-    let mut from = first_start::<O>(bytes, O::number(offsets, 0))?;
+    let mut from = first_start::<O>(bytes, number(offsets, 0))?;
     for at in 0..count - 1 {
-        let to = O::number(offsets, at + 1);
+        let to = number(offsets, at + 1);
         text_between::<O>(bytes, at, from, to)?;
         from = to;
     }
@@ -87,13 +89,13 @@ pub(crate) fn put_text<O: Offset>(
 ) -> usize
     requires offsets { at < length (O.numbers offsets.old) }
     requires bytes { start + length text.now ≤ length bytes.old }
-    requires small { start ≤ O.greatest }
+    requires small { start ≤ O.GREATEST }
     ensures end { result ≡ start + length text.now }
     ensures offsets { O.numbers offsets.new ≡ slice_set (O.numbers offsets.old) at start }
     ensures bytes { bytes.new ≡ over_from start text.now bytes.old }
 {
     let end = start + text.len();
-    O::put(offsets, at, start);
+    put(offsets, at, start);
     bytes[start..end].copy_from_slice(text);
     end
 }

@@ -6,7 +6,8 @@
 
 ghost use Rattle.std.specs.Prelude.{◌≡◌, ◌⊎◌, Err, Some, length, take};
 ghost use Rattle.std.specs.List.{concat};
-ghost use Rattle.lasso_c.specs.Layout.{column_rows, layout_texts, offsets_from, over, present_texts};
+ghost use Rattle.lasso_parts.specs.Layout.{layout_texts, offsets_from};
+ghost use Rattle.lasso_c.specs.Layout.{column_rows, over, present_texts};
 ghost use Rattle.lasso_c.specs.Encoding.{column_outcome, codes_of, dictionary_of, encoding_outcome, row_codes};
 ghost use Rattle.lasso_c.specs.Bitmap.{bitmap_of, code_bits};
 ghost use Rattle.lasso_c.specs.Decoding.{decoding_outcome, nulls_decoding_outcome, rows_named, texts_named};

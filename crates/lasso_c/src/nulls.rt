@@ -6,7 +6,7 @@ ghost use Rattle.lasso_c.specs.Layout.{null_fault, over};
 
 use crate::error::CallError;
 use crate::layout::reach;
-use crate::offsets::Offset;
+use lasso_parts::offsets::Offset;
 
 // Whether the bitmap has a bit for each of `rows` rows, or is empty.
 pub(crate) fn fit(bits: &[u8], rows: usize) -> bool
@@ -30,7 +30,7 @@ pub(crate) fn check_null<O: Offset>(
     from: usize,
     to: usize,
 ) -> Result<(), CallError>
-    ensures { result_err result ≡ null_fault O.greatest bytes.now at from to }
+    ensures { result_err result ≡ null_fault O.GREATEST bytes.now at from to }
 {
     if to < from {
         return Err(CallError::OffsetsFall(at));

@@ -1,73 +1,28 @@
-//! Offsets of 32 bits and of 64 bits, which are read and written as numbers.
-ghost use Rattle.std.specs.Prelude.{ℕ, ◌≡◌, ◌<◌, ◌≤◌, List, length, get_or, slice_set};
-ghost use Rattle.lasso_c.specs.Layout.{greatest_offset, greatest_large_offset};
+//! Offsets that are read and written as numbers.
+ghost use Rattle.std.specs.Prelude.{◌≡◌, ◌<◌, ◌≤◌, length, get_or, slice_set};
 
-/// A width of offsets. Offsets are signed, so a negative one is read as a number above the greatest.
-pub trait Offset: Copy {
-    ghost greatest: { ℕ };
+use lasso_parts::offsets::Offset;
 
-    ghost numbers: { List Self → List ℕ };
-
-    /// The greatest offset.
-    fn greatest() -> usize
-        ensures { result ≡ greatest };
-
-    /// How many offsets there are.
-    fn count(offsets: &[Self]) -> usize
-        ensures { result ≡ length (numbers offsets.now) };
-
-    /// The offset at this position.
-    fn number(offsets: &[Self], at: usize) -> usize
-        requires { at < length (numbers offsets.now) }
-        ensures { result ≡ get_or (numbers offsets.now) at 0 };
-
-    /// Writes an offset at this position.
-    fn put(offsets: &mut [Self], at: usize, number: usize)
-        requires within { at < length (numbers offsets.old) }
-        requires small { number ≤ greatest }
-        ensures { numbers offsets.new ≡ slice_set (numbers offsets.old) at number };
+// How many offsets there are.
+pub(crate) fn count<O: Offset>(offsets: &[O]) -> usize
+    ensures { result ≡ length (O.numbers offsets.now) }
+{
+    offsets.len()
 }
 
-impl Offset for u32 {
-    ghost greatest = { greatest_offset };
-
-    ghost numbers = { λ offsets. offsets };
-
-    fn greatest() -> usize {
-        2_147_483_647
-    }
-
-    fn count(offsets: &[u32]) -> usize {
-        offsets.len()
-    }
-
-    fn number(offsets: &[u32], at: usize) -> usize {
-        offsets[at] as usize
-    }
-
-    fn put(offsets: &mut [u32], at: usize, number: usize) {
-        offsets[at] = number as u32;
-    }
+// The offset at this position.
+pub(crate) fn number<O: Offset>(offsets: &[O], at: usize) -> usize
+    requires { at < length (O.numbers offsets.now) }
+    ensures { result ≡ get_or (O.numbers offsets.now) at 0 }
+{
+    offsets[at].into_usize()
 }
 
-impl Offset for u64 {
-    ghost greatest = { greatest_large_offset };
-
-    ghost numbers = { λ offsets. offsets };
-
-    fn greatest() -> usize {
-        9_223_372_036_854_775_807
-    }
-
-    fn count(offsets: &[u64]) -> usize {
-        offsets.len()
-    }
-
-    fn number(offsets: &[u64], at: usize) -> usize {
-        offsets[at] as usize
-    }
-
-    fn put(offsets: &mut [u64], at: usize, number: usize) {
-        offsets[at] = number as u64;
-    }
+// Writes an offset at this position.
+pub(crate) fn put<O: Offset>(offsets: &mut [O], at: usize, number: usize)
+    requires within { at < length (O.numbers offsets.old) }
+    requires small { number ≤ O.GREATEST }
+    ensures { O.numbers offsets.new ≡ slice_set (O.numbers offsets.old) at number }
+{
+    offsets[at] = O::from_usize(number);
 }

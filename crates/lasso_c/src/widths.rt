@@ -1,7 +1,8 @@
 //! The calls on a handle that read or write offsets, at either width of these.
 ghost use Rattle.std.specs.Prelude.{◌≡◌, ◌≤◌, [], length, take, drop};
 ghost use Rattle.std.specs.List.{concat};
-ghost use Rattle.lasso_c.specs.Layout.{column_rows, layout_texts, offsets_from, over, present_texts};
+ghost use Rattle.lasso_parts.specs.Layout.{layout_texts, offsets_from};
+ghost use Rattle.lasso_c.specs.Layout.{column_rows, over, present_texts};
 ghost use Rattle.lasso_c.specs.Encoding.{codes_of, codes_or, row_codes, with_all_new};
 ghost use Rattle.lasso_c.specs.Handles.{dictionary_outcome, lookup_outcome, seed_in, texts_in};
 ghost use Rattle.lasso_c.specs.Interning.{BatchEnds};
@@ -10,8 +11,8 @@ ghost use Rattle.lasso_c.specs.Status.{Reports};
 use crate::batches::{find_layout, intern_column, intern_layout, tell_batch, write_from};
 use crate::error::{CallError, LassoReport, tell};
 use crate::handle::Lasso;
-use crate::offsets::Offset;
 use crate::status::DONE;
+use lasso_parts::offsets::Offset;
 
 // Interns the texts of a layout, as `lasso_intern_batch` says.
 pub(crate) fn intern_batch<O: Offset>(
@@ -21,7 +22,7 @@ pub(crate) fn intern_batch<O: Offset>(
     codes: &mut [u32],
     report: &mut LassoReport,
 ) -> u32
-    ensures outcome { BatchEnds O.greatest lasso.old.seat.value [] bytes.now (O.numbers offsets.now) (length codes.old) result report.new lasso.new.seat.value }
+    ensures outcome { BatchEnds O.GREATEST lasso.old.seat.value [] bytes.now (O.numbers offsets.now) (length codes.old) result report.new lasso.new.seat.value }
     ensures texts { texts_in lasso.new.seat.value ≡ with_all_new (texts_in lasso.old.seat.value) (take report.new.texts (layout_texts bytes.now (O.numbers offsets.now))) }
     ensures codes { codes.new ≡ over (codes_of (texts_in lasso.new.seat.value) (take report.new.texts (layout_texts bytes.now (O.numbers offsets.now)))) codes.old }
     ensures seed { seed_in lasso.new.seat.value ≡ seed_in lasso.old.seat.value }
@@ -45,7 +46,7 @@ pub(crate) fn intern_batch_nulls<O: Offset>(
     codes: &mut [u32],
     report: &mut LassoReport,
 ) -> u32
-    ensures outcome { BatchEnds O.greatest lasso.old.seat.value present.now bytes.now (O.numbers offsets.now) (length codes.old) result report.new lasso.new.seat.value }
+    ensures outcome { BatchEnds O.GREATEST lasso.old.seat.value present.now bytes.now (O.numbers offsets.now) (length codes.old) result report.new lasso.new.seat.value }
     ensures texts { texts_in lasso.new.seat.value ≡ with_all_new (texts_in lasso.old.seat.value) (present_texts (take report.new.texts (column_rows present.now bytes.now (O.numbers offsets.now)))) }
     ensures codes { codes.new ≡ over (row_codes null (texts_in lasso.new.seat.value) (take report.new.texts (column_rows present.now bytes.now (O.numbers offsets.now)))) codes.old }
     ensures seed { seed_in lasso.new.seat.value ≡ seed_in lasso.old.seat.value }
@@ -68,7 +69,7 @@ pub(crate) fn get_batch<O: Offset>(
     codes: &mut [u32],
     report: &mut LassoReport,
 ) -> u32
-    ensures outcome { Reports (lookup_outcome O.greatest lasso.old.seat.value bytes.now (O.numbers offsets.now) (length codes.old)) result report.new }
+    ensures outcome { Reports (lookup_outcome O.GREATEST lasso.old.seat.value bytes.now (O.numbers offsets.now) (length codes.old)) result report.new }
     ensures codes { result ≡ DONE → codes.new ≡ over (codes_or absent (texts_in lasso.old.seat.value) (layout_texts bytes.now (O.numbers offsets.now))) codes.old }
     ensures codes_kept { ¬ (result ≡ DONE) → codes.new ≡ codes.old }
     ensures kept { lasso.new.seat.value ≡ lasso.old.seat.value }
@@ -88,7 +89,7 @@ pub(crate) fn dictionary<O: Offset>(
     offsets: &mut [O],
     report: &mut LassoReport,
 ) -> u32
-    ensures outcome { Reports (dictionary_outcome O.greatest lasso.old.seat.value from (length (O.numbers offsets.old)) (length bytes.old)) result report.new }
+    ensures outcome { Reports (dictionary_outcome O.GREATEST lasso.old.seat.value from (length (O.numbers offsets.old)) (length bytes.old)) result report.new }
     ensures bytes { result ≡ DONE → bytes.new ≡ over (concat (drop from (texts_in lasso.old.seat.value))) bytes.old }
     ensures offsets { result ≡ DONE → O.numbers offsets.new ≡ over (offsets_from 0 (drop from (texts_in lasso.old.seat.value))) (O.numbers offsets.old) }
     ensures bytes_kept { ¬ (result ≡ DONE) → bytes.new ≡ bytes.old }

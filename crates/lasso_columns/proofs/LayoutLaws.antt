@@ -1,8 +1,7 @@
 -- Texts that are written one after another are cut out again, and their layout has no fault.
 --
--- A text is cut out at its offsets whatever bytes are in front of it. So the proofs go from text to text,
--- and each text joins the bytes in front of the next. A text of a distinct list differs from all before
--- it, so no text is doubled when they are read in order.
+-- The proofs go from text to text, and each text joins the bytes in front of the next. A text of a distinct list
+-- differs from all before it, so no text is doubled when they are read in order.
 use Rattle.std.proofs.Common.{ℕ, suc, ◌≡◌, ◌+◌, ◌-◌, ◌<◌, ◌≤◌, false, List, [], ◌∷◌, ◌++◌, length, take, drop, slice_get, Option, Some, None, refl, ap, sym, subst, ◌∙◌, arith, length-append, append_assoc, length-drop}
 use Rattle.std.specs.Prelude.{All}
 use Rattle.std.specs.List.{slice_range, concat}
@@ -10,14 +9,16 @@ use Rattle.std.specs.Option.{option_or}
 use Rattle.std.specs.Str.{IsUtf8, is_utf8}
 use Rattle.std.proofs.Math.Seq.{take-add}
 use Rattle.std.proofs.lemmas.Bool.Decides.{nat_tests}
-use Rattle.std.proofs.lemmas.List.{drop_at, take_at, take-append-drop, get_or-drop}
+use Rattle.std.proofs.lemmas.List.{take-append-drop, get_or-drop}
 use Rattle.std.proofs.lemmas.Option.{slice_get_within, slice_get-get_or, get_or_from_slice_get}
 use Rattle.std.proofs.lemmas.Bool.{false_from_ne_true}
 use Rattle.std.proofs.lemmas.Str.{IsUtf8-from_is_utf8, is_utf8-from_IsUtf8}
 use Rattle.lasso_parts.proofs.IndexLaws.{absent_before}
 use Rattle.lasso_parts.specs.Texts.{Text, IsDistinct, position_of}
 use Rattle.lasso_columns.specs.Dictionaries.{ReadingUndoesWriting, LayoutsByHand}
-use Rattle.lasso_columns.specs.Layout.{reach, texts_from, layout_texts, start_fault, text_fault, texts_fault, layout_fault, offsets_from}
+use Rattle.lasso_parts.proofs.LayoutTexts.{slice_here, behind, texts_back}
+use Rattle.lasso_parts.specs.Layout.{reach, texts_from, layout_texts, offsets_from}
+use Rattle.lasso_columns.specs.Layout.{start_fault, text_fault, texts_fault, layout_fault}
 use Rattle.lasso_columns.specs.declared.faults.ReadError.{ReadError}
 use Rattle.lasso_columns.specs.declared.faults.ReadError.TheVariants.{NotText}
 
@@ -26,27 +27,6 @@ all_head P x xs all = all 0 x (omega arith)
 
 all_tail : {X : Type 0} (P : X → Type 0) (x : X) (xs : List X) → All P (x ∷ xs) → All P xs
 all_tail P x xs all = λ k d small. all (suc k) d (omega arith)
-
--- the first text, up to the next offset
-cut_first : (bytes : List ℕ) (from end : ℕ) (texts : List Text) → texts_from bytes from (offsets_from end texts) ≡ slice_range bytes from end ∷ layout_texts bytes (offsets_from end texts)
-cut_first bytes from end [] = refl
-cut_first bytes from end (text ∷ texts) = refl
-
-slice_here : (front text back : List ℕ) (at : ℕ) → at ≡ length front → slice_range (front ++ (text ++ back)) at (at + length text) ≡ text
-slice_here front text back at e =
-    let n : (at + length text) - at ≡ length text = omega arith in
-    ap (λ k. take k (drop at (front ++ (text ++ back)))) n ∙ ap (λ xs. take (length text) xs) (drop_at front (text ++ back) at (sym e)) ∙ take_at text back (length text) refl
-
-behind : (front text : List ℕ) (at : ℕ) → at ≡ length front → at + length text ≡ length (front ++ text)
-behind front text at e = omega (arith, length-append front text)
-
--- texts are cut out again at their offsets
-texts_back : (front : List ℕ) (texts : List Text) (at : ℕ) → at ≡ length front → layout_texts (front ++ concat texts) (offsets_from at texts) ≡ texts
-texts_back front [] at e = refl
-texts_back front (text ∷ texts) at e =
-    let end = at + length text in
-    let others : layout_texts (front ++ (text ++ concat texts)) (offsets_from end texts) ≡ texts = ap (λ bytes. layout_texts bytes (offsets_from end texts)) (sym (append_assoc front text (concat texts))) ∙ texts_back (front ++ text) texts end (behind front text at e) in
-    cut_first (front ++ (text ++ concat texts)) at end texts ∙ ap (λ (t : Text). t ∷ layout_texts (front ++ (text ++ concat texts)) (offsets_from end texts)) (slice_here front text (concat texts) at e) ∙ ap (λ ts. text ∷ ts) others
 
 -- a UTF-8 text between two rising offsets that are within reach has no fault
 pub good_text : (most : ℕ) (bytes : List ℕ) (at from to : ℕ) → from ≤ to → to ≤ reach most bytes → IsUtf8 (slice_range bytes from to) → text_fault most bytes at from to ≡ None

@@ -17,7 +17,8 @@ use Rattle.lasso_single.specs.Intern.{InternsIn}
 use Rattle.lasso_single.specs.Interner.{InternerView}
 use Rattle.lasso_single.proofs.Filled.{accepted, extend_push}
 use Rattle.lasso_columns.specs.Dictionaries.{AppendsNew, AppendsUnless, IsFaultAfter, IsGoodAnd, IsRefusedReading, appended, fault_position}
-use Rattle.lasso_columns.specs.Layout.{texts_from, layout_texts, start_fault, text_fault, texts_fault, layout_fault}
+use Rattle.lasso_parts.specs.Layout.{texts_from, layout_texts}
+use Rattle.lasso_columns.specs.Layout.{start_fault, text_fault, texts_fault, layout_fault}
 use Rattle.lasso_columns.specs.declared.faults.ReadError.{ReadError}
 use Rattle.lasso_columns.specs.declared.faults.ReadError.TheVariants.{OffsetsFall, OffsetPastBytes, NotText, Doubled, Refused}
 

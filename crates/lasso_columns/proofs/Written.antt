@@ -13,7 +13,7 @@ use Rattle.std.proofs.lemmas.Option.{slice_get_within, slice_get-get_or, get_or_
 use Rattle.lasso_parts.specs.Texts.{Text}
 use Rattle.lasso_parts.proofs.TextLemmas.{take_more_at}
 use Rattle.lasso_columns.specs.Dictionaries.{IsWriteFault}
-use Rattle.lasso_columns.specs.Layout.{offsets_from}
+use Rattle.lasso_parts.specs.Layout.{offsets_from}
 use Rattle.lasso_columns.specs.declared.faults.WriteError.TheVariants.{TooManyBytes}
 
 -- text `from + at` of the list is text `at` of those from `from` on

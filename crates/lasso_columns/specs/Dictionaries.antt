@@ -7,7 +7,8 @@ use Rattle.lasso_parts.specs.declared.util.LassoErrorKind.TheVariants.{FailedAll
 use Rattle.lasso_single.specs.Filling.{extend}
 use Rattle.lasso_single.specs.Intern.{InternsIn}
 use Rattle.lasso_single.specs.Interner.{InternerView}
-use Rattle.lasso_columns.specs.Layout.{layout_texts, layout_fault, offsets_from}
+use Rattle.lasso_parts.specs.Layout.{layout_texts, offsets_from}
+use Rattle.lasso_columns.specs.Layout.{layout_fault}
 use Rattle.lasso_columns.specs.declared.faults.ReadError.{ReadError}
 use Rattle.lasso_columns.specs.declared.faults.ReadError.TheVariants.{OffsetsFall, OffsetPastBytes, NotText, Doubled, Refused}
 use Rattle.lasso_columns.specs.declared.faults.WriteError.{WriteError}

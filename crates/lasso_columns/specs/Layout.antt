@@ -1,29 +1,12 @@
--- Texts as a buffer of bytes and a buffer of offsets, like Arrow's arrays of strings: text k is the bytes
--- from offset k to offset k + 1. So there is one more offset than texts.
---
--- lasso_c has definitions like these, with errors of its own and with nulls. Here `most` is the greatest
--- offset that the width of the offsets allows.
-use Rattle.std.specs.Prelude.{ℕ, ◌+◌, List, [], ◌∷◌, length, min, nat_lt, if◌then◌else◌, Option, Some, None}
+-- What is wrong with a layout. `most` is the greatest offset that the width of the offsets allows. lasso_c has
+-- definitions like these, with errors of its own and with nulls.
+use Rattle.std.specs.Prelude.{ℕ, ◌+◌, List, [], ◌∷◌, nat_lt, if◌then◌else◌, Option, Some, None}
 use Rattle.std.specs.List.{slice_range}
 use Rattle.std.specs.Option.{option_or}
 use Rattle.std.specs.Str.{is_utf8}
-use Rattle.lasso_parts.specs.Texts.{Text}
+use Rattle.lasso_parts.specs.Layout.{reach}
 use Rattle.lasso_columns.specs.declared.faults.ReadError.{ReadError}
 use Rattle.lasso_columns.specs.declared.faults.ReadError.TheVariants.{OffsetsFall, OffsetPastBytes, NotText}
-
--- how far offsets may reach into the bytes
-abbrev pub reach : ℕ → List ℕ → ℕ
-reach most bytes = min (length bytes) most
-
--- the texts between an offset and those after it
-abbrev pub texts_from : List ℕ → ℕ → List ℕ → List Text
-texts_from bytes from [] = []
-texts_from bytes from (to ∷ offsets) = slice_range bytes from to ∷ texts_from bytes to offsets
-
--- the texts of a buffer with these offsets; no offsets at all mean no texts
-abbrev pub layout_texts : List ℕ → List ℕ → List Text
-layout_texts bytes [] = []
-layout_texts bytes (from ∷ offsets) = texts_from bytes from offsets
 
 -- the fault of the offset where the first text begins, if it has one
 abbrev pub start_fault : ℕ → List ℕ → ℕ → Option ReadError
@@ -47,8 +30,3 @@ texts_fault most bytes at from (to ∷ offsets) = option_or (text_fault most byt
 abbrev pub layout_fault : ℕ → List ℕ → List ℕ → Option ReadError
 layout_fault most bytes [] = None
 layout_fault most bytes (from ∷ offsets) = option_or (start_fault most bytes from) (texts_fault most bytes 0 from offsets)
-
--- the offsets of texts that lie one after another, the first of them at this offset
-abbrev pub offsets_from : ℕ → List Text → List ℕ
-offsets_from at [] = at ∷ []
-offsets_from at (text ∷ texts) = at ∷ offsets_from (at + length text) texts

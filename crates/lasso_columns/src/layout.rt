@@ -1,64 +1,10 @@
 //! Texts as a buffer of bytes and a buffer of offsets, like Arrow's arrays of strings.
-ghost use Rattle.std.specs.Prelude.{◌≡◌, ℕ, ◌≤◌, None, Some, MatchResult};
+ghost use Rattle.std.specs.Prelude.{◌≡◌, None, Some, MatchResult};
 ghost use Rattle.std.specs.List.{slice_range};
 ghost use Rattle.lasso_columns.specs.Layout.{start_fault, text_fault};
 
 use crate::faults::ReadError;
 use std::str::from_utf8;
-
-/// A type of offsets: `u32` or `u64`. Arrow's offsets are signed integers of the same width, with the same
-/// bits. So the greatest offset is the greatest signed integer of that width.
-pub trait Offset: Copy {
-    /// The greatest offset.
-    const GREATEST: usize;
-
-    // the greatest offset, in contracts
-    ghost GREATEST: { ℕ };
-
-    // the offset as a number, in contracts
-    ghost number: { Self → ℕ };
-
-    /// The offset as a number.
-    fn into_usize(self) -> usize
-        ensures { result ≡ number self };
-
-    /// The offset of this number, which must be at most the greatest offset.
-    fn from_usize(number_of_bytes: usize) -> Self
-        requires { number_of_bytes ≤ GREATEST }
-        ensures { number result ≡ number_of_bytes };
-}
-
-impl Offset for u32 {
-    const GREATEST: usize = 2_147_483_647;
-
-    ghost GREATEST = { 2147483647 };
-
-    ghost number = { λ offset. offset };
-
-    fn into_usize(self) -> usize {
-        self as usize
-    }
-
-    fn from_usize(number_of_bytes: usize) -> Self {
-        number_of_bytes as u32
-    }
-}
-
-impl Offset for u64 {
-    const GREATEST: usize = 9_223_372_036_854_775_807;
-
-    ghost GREATEST = { 9223372036854775807 };
-
-    ghost number = { λ offset. offset };
-
-    fn into_usize(self) -> usize {
-        self as usize
-    }
-
-    fn from_usize(number_of_bytes: usize) -> Self {
-        number_of_bytes as u64
-    }
-}
 
 /// Texts as `write_dictionary` returns them: text n is the bytes from offset n to offset n + 1. There is one
 /// more offset than texts, and the first offset is 0.

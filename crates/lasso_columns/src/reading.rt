@@ -5,11 +5,13 @@ ghost use Rattle.lasso_parts.specs.declared.util.LassoErrorKind.TheVariants.{Fai
 ghost use Rattle.lasso_single.specs.Filling.{extend};
 ghost use Rattle.lasso_single.specs.Interner.{made_with};
 ghost use Rattle.lasso_columns.specs.Dictionaries.{AppendsNew, AppendsUnless, IsFaultAfter, IsRefusedReading, appended, first_bucket};
-ghost use Rattle.lasso_columns.specs.Layout.{layout_texts, layout_fault, text_fault};
+ghost use Rattle.lasso_parts.specs.Layout.{layout_texts};
+ghost use Rattle.lasso_columns.specs.Layout.{layout_fault, text_fault};
 
 use crate::faults::ReadError;
-use crate::layout::{Offset, check_start, text_between};
+use crate::layout::{check_start, text_between};
 use lasso::{Capacity, Key, LassoErrorKind, MemoryLimits, Rodeo};
+use lasso_parts::offsets::Offset;
 use std::alloc::Allocator;
 use std::hash::BuildHasher;
 

@@ -2,12 +2,13 @@
 ghost use Rattle.std.specs.Prelude.{◌≡◌, ◌+◌, ◌<◌, ◌≤◌, OnOk, IfOk, IfErr, All, IsUtf8, length, map, drop};
 ghost use Rattle.std.specs.List.{concat};
 ghost use Rattle.lasso_columns.specs.Dictionaries.{IsWriteFault};
-ghost use Rattle.lasso_columns.specs.Layout.{offsets_from};
+ghost use Rattle.lasso_parts.specs.Layout.{offsets_from};
 
 use crate::faults::WriteError;
-use crate::layout::{Layout, Offset};
+use crate::layout::Layout;
 use lasso::index::Texts;
 use lasso::{Key, Rodeo, RodeoReader, RodeoResolver};
+use lasso_parts::offsets::Offset;
 use std::alloc::{Allocator, Global};
 use std::hash::BuildHasher;
 

@@ -30,3 +30,4 @@ mod JsonWritten
 mod JsonTextsSet
 pub mod JsonLaws
 pub mod JsonObjectLaws
+pub mod LayoutTexts

@@ -27,3 +27,4 @@ pub mod JsonErrors
 pub mod JsonLaws
 pub mod JsonObjects
 pub mod JsonObjectLaws
+pub mod Layout

@@ -8,5 +8,5 @@ use Rattle.lasso_c.proofs.batches.intern_column.Given as goal
 abbrev pub invariant-loop-at : goal.invariant-loop-at
 invariant-loop-at g l = record {
   codes : Batch l.null l.fn.dictionary.texts (take l.at (column_rows l.bits l.bytes (g.O.Offset.numbers l.offsets))) l.fn.codes l.dictionary.texts l.codes;
-  begun : Begun g.O.Offset.greatest l.bits l.bytes (g.O.Offset.numbers l.offsets) l.at l.fn.dictionary l.dictionary;
+  begun : Begun g.O.Offset.GREATEST l.bits l.bytes (g.O.Offset.numbers l.offsets) l.at l.fn.dictionary l.dictionary;
 }

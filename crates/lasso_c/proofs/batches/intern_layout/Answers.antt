@@ -1,6 +1,7 @@
 use Rattle.std.proofs.Common.{List, ap, ◌∙◌}
 use Rattle.lasso_parts.specs.Texts.{Text}
-use Rattle.lasso_c.specs.Layout.{layout_texts, over}
+use Rattle.lasso_parts.specs.Layout.{layout_texts}
+use Rattle.lasso_c.specs.Layout.{over}
 use Rattle.lasso_c.specs.Encoding.{with_all_new}
 use Rattle.lasso_c.proofs.Rows.{plain_texts, plain_codes}
 use Rattle.lasso_c.proofs.batches.intern_layout.Goals as goal

@@ -2,7 +2,8 @@ use Rattle.std.proofs.Common.{◌≡◌, ◌+◌, get_or, take, ap, ◌∙◌, a
 use Rattle.std.proofs.lemmas.Grind.{common_steps}
 use Rattle.std.proofs.lemmas.List.{take_all}
 use Rattle.std.specs.List.{slice_range}
-use Rattle.lasso_c.specs.Layout.{layout_texts, over}
+use Rattle.lasso_parts.specs.Layout.{layout_texts}
+use Rattle.lasso_c.specs.Layout.{over}
 use Rattle.lasso_c.specs.Encoding.{codes_or}
 use Rattle.lasso_c.proofs.Layouts.{good_at, length-layout_texts}
 use Rattle.lasso_c.proofs.BatchSteps.{found_next}
@@ -10,7 +11,7 @@ use Rattle.lasso_c.proofs.batches.put_codes.Goals as goal
 
 pub unwrap-text-requires : goal.unwrap-text-requires
 unwrap-text-requires g c =
-    let good = good_at g.O.Offset.greatest c.args.bytes.now (g.O.Offset.numbers c.args.offsets.now) c.loop-at.at c.requires.layout (omega arith) in
+    let good = good_at g.O.Offset.GREATEST c.args.bytes.now (g.O.Offset.numbers c.args.offsets.now) c.loop-at.at c.requires.layout (omega arith) in
     grind (arith, common_steps)
 
 pub bounds-codes-at : goal.bounds-codes-at

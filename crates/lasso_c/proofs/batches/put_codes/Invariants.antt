@@ -1,5 +1,6 @@
 use Rattle.std.proofs.Common.{◌≡◌, take}
-use Rattle.lasso_c.specs.Layout.{layout_texts, over}
+use Rattle.lasso_parts.specs.Layout.{layout_texts}
+use Rattle.lasso_c.specs.Layout.{over}
 use Rattle.lasso_c.specs.Encoding.{codes_or}
 use Rattle.lasso_c.proofs.batches.put_codes.Given as goal
 

@@ -9,8 +9,8 @@ loop-at-preserved g c =
     let left = bytes_left (drop c.args.from texts) c.loop-at.at text (get_from texts c.args.from c.loop-at.at text c.text_at_code-text.ensures) in
     (omega (arith, left, c.loop-at.invariant.0), omega (arith, c.loop-at.invariant.1))
 
-pub returns-then-text-greatest-clause-large : goal.returns-then-text-greatest-clause-large
-returns-then-text-greatest-clause-large g c =
+pub returns-then-text-GREATEST-clause-large : goal.returns-then-text-GREATEST-clause-large
+returns-then-text-GREATEST-clause-large g c =
     let texts = c.args.dictionary.now.texts in
     let text = c.text_at_code-text.result.now in
     let left = bytes_left (drop c.args.from texts) c.loop-at.at text (get_from texts c.args.from c.loop-at.at text c.text_at_code-text.ensures) in

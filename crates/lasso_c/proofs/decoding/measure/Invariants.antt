@@ -1,5 +1,5 @@
 use Rattle.std.proofs.Common.{◌≡◌, ◌≤◌, drop}
-use Rattle.lasso_c.specs.Layout.{greatest_offset, layout_texts}
+use Rattle.lasso_parts.specs.Layout.{greatest_offset, layout_texts}
 use Rattle.lasso_c.specs.Decoding.{measured, nothing}
 use Rattle.lasso_c.proofs.decoding.measure.Given as goal
 

@@ -2,7 +2,7 @@ use Rattle.std.proofs.Common.{◌≡◌, length, get_or, set, unwrap_or, Some, r
 use Rattle.std.proofs.lemmas.List.{length-map}
 use Rattle.std.specs.Option.{option_copied}
 use Rattle.std.proofs.lemmas.Grind.{common_steps}
-use Rattle.lasso_c.specs.Layout.{greatest_offset, layout_texts}
+use Rattle.lasso_parts.specs.Layout.{greatest_offset, layout_texts}
 use Rattle.lasso_c.specs.Decoding.{rows_named, text_of_code}
 use Rattle.lasso_c.proofs.Measuring.{room_known, named_at}
 use Rattle.lasso_c.proofs.Writing.{none_written, room_at, written_next, written_to}

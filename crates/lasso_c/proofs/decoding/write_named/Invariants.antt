@@ -1,7 +1,8 @@
 use Rattle.std.proofs.Common.{drop}
 use Rattle.std.specs.List.{concat}
 use Rattle.lasso_c.specs.Decoding.{rows_named}
-use Rattle.lasso_c.specs.Layout.{greatest_offset, offsets_from, over, layout_texts}
+use Rattle.lasso_parts.specs.Layout.{greatest_offset, offsets_from, layout_texts}
+use Rattle.lasso_c.specs.Layout.{over}
 use Rattle.lasso_c.proofs.Writing.{Writes}
 use Rattle.lasso_c.proofs.decoding.write_named.Given as goal
 

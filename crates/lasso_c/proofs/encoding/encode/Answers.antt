@@ -1,7 +1,8 @@
 use Rattle.std.proofs.Common.{◌≡◌, ◌⊎◌, List, length, is_ok, if◌then◌else◌, Err, ap, subst, ◌∙◌}
 use Rattle.std.specs.List.{concat}
 use Rattle.lasso_parts.specs.Texts.{Text}
-use Rattle.lasso_c.specs.Layout.{offsets_from, over}
+use Rattle.lasso_parts.specs.Layout.{offsets_from}
+use Rattle.lasso_c.specs.Layout.{over}
 use Rattle.lasso_c.specs.declared.error.CallError.TheVariants.{NoMemory}
 use Rattle.lasso_c.proofs.Rows.{plain_outcome, plain_dictionary, plain_encoded}
 use Rattle.lasso_c.proofs.encoding.encode.Goals as goal

@@ -4,7 +4,8 @@ use Rattle.lasso_single.specs.Filling.{extend}
 use Rattle.lasso_single.specs.Interner.{InternerView}
 use Rattle.lasso_single.proofs.Filled.{just_made}
 use Rattle.lasso_c.specs.Encoding.{column_refusal}
-use Rattle.lasso_c.specs.Layout.{column_rows, greatest_offset, layout_texts, present_texts}
+use Rattle.lasso_parts.specs.Layout.{greatest_offset, layout_texts}
+use Rattle.lasso_c.specs.Layout.{column_rows, present_texts}
 use Rattle.lasso_c.specs.Interning.{key_of_code, InternsPart}
 use Rattle.lasso_c.specs.declared.error.CallError.TheVariants.{NoMemory}
 use Rattle.lasso_c.proofs.Columns.{ColumnDone, column_done, column_list, part_err}

@@ -1,5 +1,5 @@
 use Rattle.std.proofs.Common.{◌≡◌, length, set, arith, ap, ◌∙◌}
-use Rattle.lasso_c.specs.Layout.{greatest_offset}
+use Rattle.lasso_parts.specs.Layout.{greatest_offset}
 use Rattle.lasso_c.proofs.Writing.{room_at, written_next, written_to}
 use Rattle.lasso_c.proofs.encoding.write_dictionary.Goals as goal
 

@@ -1,6 +1,7 @@
 use Rattle.std.proofs.Common.{drop}
 use Rattle.std.specs.List.{concat}
-use Rattle.lasso_c.specs.Layout.{greatest_offset, offsets_from, over}
+use Rattle.lasso_parts.specs.Layout.{greatest_offset, offsets_from}
+use Rattle.lasso_c.specs.Layout.{over}
 use Rattle.lasso_c.proofs.Writing.{Writes}
 use Rattle.lasso_c.proofs.encoding.write_dictionary.Given as goal
 

@@ -6,4 +6,4 @@ use Rattle.lasso_c.proofs.layout.check_layout.Given as goal
 abbrev pub invariant-loop-at : goal.invariant-loop-at
 invariant-loop-at g l =
     let offsets = g.O.Offset.numbers l.offsets in
-    layout_fault g.O.Offset.greatest l.bytes offsets ≡ texts_fault g.O.Offset.greatest l.bytes l.at l.from (drop (l.at + 1) offsets)
+    layout_fault g.O.Offset.GREATEST l.bytes offsets ≡ texts_fault g.O.Offset.GREATEST l.bytes l.at l.from (drop (l.at + 1) offsets)

@@ -1,5 +1,5 @@
 use Rattle.std.proofs.Common.{arith, sym}
-use Rattle.lasso_c.specs.Layout.{greatest_offset}
+use Rattle.lasso_parts.specs.Layout.{greatest_offset}
 use Rattle.lasso_c.proofs.Layouts.{lies, lacks}
 use Rattle.lasso_c.proofs.layout.text_at.Goals as goal
 
