@@ -8,7 +8,7 @@ use Rattle.lasso_parts.specs.Texts.{Text}
 use Rattle.lasso_single.specs.Interner.{InternerView}
 use Rattle.lasso_input.specs.Lines.{lines_of}
 use Rattle.lasso_columns.specs.Blocks.{StopsInRound}
-use Rattle.lasso_columns.specs.Rows.{EncodesRows, StopsAtRow, IsRowFault}
+use Rattle.lasso_columns.specs.Rows.{EncodesRows, IsRowFault}
 use Rattle.lasso_columns.specs.Streams.{AreBytesBy, AreUnreadBy, EndsRound, FollowBy, ReadsTexts, StopsInStreamBy, lines_in}
 use Rattle.lasso_columns.specs.Texts.{texts_by}
 use Rattle.lasso_columns.specs.declared.line_texts.LineTexts.{LineTexts}

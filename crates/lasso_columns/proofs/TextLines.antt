@@ -2,8 +2,8 @@
 --
 -- A text has no line feed, as its line has none and digits are none. So bytes that are made of texts, each with a line
 -- feed, have these texts as lines. ASCII bytes have only lines that are their own texts.
-use Rattle.std.proofs.Common.{ℕ, zero, suc, ◌≡◌, ◌+◌, ◌<◌, ◌==◌, inl, inr, Bool, true, false, not, cond, List, [], ◌∷◌, ◌++◌, map, take, drop, length, Option, Some, None, Result, Ok, Err, refl, sym, ap, subst, ◌∙◌, arith, append_assoc, append-nil}
-use Rattle.std.specs.Prelude.{All, IfErr, ◌/◌, ◌%◌, ◌≤◌, if◌then◌else◌, slice_index, set, Vec}
+use Rattle.std.proofs.Common.{ℕ, zero, suc, ◌≡◌, ◌+◌, ◌<◌, inl, inr, Bool, true, false, cond, List, [], ◌∷◌, ◌++◌, map, take, drop, length, Option, Some, Result, Ok, Err, refl, sym, ap, subst, ◌∙◌, arith, append_assoc, append-nil}
+use Rattle.std.specs.Prelude.{All, IfErr, ◌/◌, ◌%◌, ◌≤◌, slice_index, set, Vec}
 use Rattle.std.specs.List.{onto_first, starts_with}
 use Rattle.std.specs.Prelude.{◌&&◌, nat_eq}
 use Rattle.std.specs.Str.{is_utf8, IsAscii, IsUtf8}
@@ -23,8 +23,8 @@ use Rattle.lasso_input.specs.Lines.{lines_of, is_line_feed, NoFeed}
 use Rattle.lasso_input.specs.Texts.{escaped, is_marked, is_own_text, mark, text_of}
 use Rattle.lasso_input.proofs.FirstLines.{lines_cut, no_feed_both}
 use Rattle.lasso_input.proofs.LineTexts.{other_is_escaped, own_by_parts, own_is_text, own_parts}
-use Rattle.lasso_columns.specs.Rows.{EncodesRows, StopsAtRow}
-use Rattle.lasso_columns.specs.Streams.{AreBytesBy, AreUnread, AreUnreadBy, BecomeTexts, Follow, FollowBy, ReadsBlocks, ReadsTexts, StopsBy, StopsInStream, StopsInStreamBy, lines_in}
+use Rattle.lasso_columns.specs.Rows.{EncodesRows}
+use Rattle.lasso_columns.specs.Streams.{AreBytesBy, AreUnreadBy, BecomeTexts, Follow, FollowBy, ReadsBlocks, ReadsTexts, StopsInStream, StopsInStreamBy, lines_in}
 use Rattle.lasso_columns.specs.Texts.{text_by, texts_by}
 use Rattle.lasso_columns.specs.declared.line_texts.LineTexts.{LineTexts}
 use Rattle.lasso_columns.specs.declared.line_texts.LineTexts.TheVariants.{Own, OfBytes}

@@ -1,4 +1,4 @@
-use Rattle.std.proofs.Common.{◌≡◌, true, false, ap, sym, ◌∙◌}
+use Rattle.std.proofs.Common.{ap, ◌∙◌}
 use Rattle.lasso_columns.specs.Texts.{text_by}
 use Rattle.lasso_columns.proofs.TextLines.{other_text, refused_text}
 use Rattle.lasso_columns.proofs.line_texts.is_refused.Goals as goal

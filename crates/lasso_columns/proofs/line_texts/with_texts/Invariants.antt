@@ -1,4 +1,3 @@
-use Rattle.std.proofs.Common.{◌≡◌, length}
 use Rattle.lasso_columns.proofs.TextLines.{BlocksSoFar}
 use Rattle.lasso_columns.proofs.line_texts.with_texts.Given as goal
 

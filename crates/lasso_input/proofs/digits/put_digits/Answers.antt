@@ -1,4 +1,4 @@
-use Rattle.std.proofs.Common.{ℕ, ap, arith, refl, slice_index, ◌∙◌}
+use Rattle.std.proofs.Common.{ℕ, ap, arith, slice_index, ◌∙◌}
 use Rattle.std.proofs.lemmas.Nat.{and_mask}
 use Rattle.hex.proofs.Pairs.{encode_done, encode_step}
 use Rattle.hex.specs.Hex.{lower_digits}

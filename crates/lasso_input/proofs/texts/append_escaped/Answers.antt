@@ -1,5 +1,4 @@
 use Rattle.std.proofs.Common.{ℕ, ◌≡◌, ◌-◌, ◌≤◌, List, ◌++◌, length, ap, arith, ◌∙◌}
-use Rattle.std.proofs.lemmas.Grind.{common_steps}
 use Rattle.lasso_input.proofs.LineTexts.{escaped_written}
 use Rattle.lasso_input.specs.Texts.{mark}
 use Rattle.lasso_input.proofs.texts.append_escaped.Goals as goal
