@@ -1,4 +1,7 @@
 //! A type of offsets for the tests, whose greatest offset is 9.
+ghost use Rattle.std.specs.Prelude.{map};
+ghost use Rattle.std.proofs.Common.{refl};
+
 use lasso_columns::Offset;
 
 #[derive(Clone, Copy)]
@@ -17,6 +20,10 @@ impl Offset for Narrow {
     ghost GREATEST = { 9 };
 
     ghost number = { λ offset. offset.number };
+
+    ghost numbers = { map (λ offset. offset.number) };
+
+    ghost each = { λ offsets. refl };
 
     fn into_usize(self) -> usize {
         self.number
