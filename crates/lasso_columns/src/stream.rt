@@ -32,13 +32,13 @@ pub struct Rounds {
 }
 
 impl Rounds {
-    /// Blocks of 64 to 512 KiB or up to 64 more, for this number of workers.
+    /// Blocks of 64 KiB to 2 MiB or up to 64 KiB more, for this number of workers.
     pub fn new(workers: usize) -> Self {
         Rounds {
             workers,
             alone: 262_144,
             smallest: 65_536,
-            largest: 524_288,
+            largest: 2_097_152,
         }
     }
 }
