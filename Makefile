@@ -121,8 +121,8 @@ check: crate toolchain
 	@if [ -d "cases/$(CRATE)" ]; then (cd crates/$(CRATE) && { rt run < /dev/null > /dev/null || [ -e out/$(CRATE).stamp ]; }) && cases/run $(CRATE); fi
 	@if [ -d "cases/$(CRATE)/modules" ]; then cases/modules $(CRATE); fi
 
-#: make test                         the gate: make docs; the layout of the code; proofs of all but the crates of tests, by rt ci; then cases and
-#:                                   tests of modules over the programs, and the crates of tests, which all run without proof
+#: make test                         the gate: make docs; the layout of the code; proofs of all but the tests, by rt ci; then cases and tests of
+#:                                   modules over the programs, and all other tests, which run without proof
 test: toolchain docs
 	.ci/layout
 	RT_JOBS=$${RT_JOBS-$$(.ci/jobs)} .ci/proofs
