@@ -14,7 +14,7 @@ use Rattle.lasso_parts.specs.declared.util.LassoErrorKind.TheVariants.{FailedAll
 use Rattle.lasso_single.specs.Filling.{extend}
 use Rattle.lasso_single.specs.Interner.{InternerView, made_with}
 use Rattle.lasso_single.proofs.Filled.{accepted}
-use Rattle.lasso.proofs.Calling.{list_interned}
+use Rattle.lasso_columns.proofs.Interned.{list_interned}
 use Rattle.lasso_single.proofs.Coded.{position_stays}
 use Rattle.lasso_single.specs.Coding.{spur_at}
 use Rattle.hex.specs.Hex.{IsBytes}

@@ -11,7 +11,7 @@ use Rattle.lasso_single.specs.Filling.{extend}
 use Rattle.lasso_single.specs.Intern.{InternsIn}
 use Rattle.lasso_single.specs.Interner.{InternerView}
 use Rattle.lasso_single.proofs.Filled.{accepted}
-use Rattle.lasso.proofs.Calling.{list_interned}
+use Rattle.lasso_columns.proofs.Interned.{list_interned}
 use Rattle.lasso_single.specs.Coding.{spur_at}
 
 few_with : (list : List Text) (text : Text) (o : Option ℕ) (key : ℕ) → spur_at (unwrap_or o (length list)) ≡ Some key → length list ≤ 4294967295 → length (cond (is_some o) list (list ++ text ∷ [])) ≤ 4294967295

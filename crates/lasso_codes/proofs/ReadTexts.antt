@@ -11,7 +11,7 @@ use Rattle.lasso_parts.specs.Texts.{Text, position_of}
 use Rattle.lasso_single.specs.Filling.{extend}
 use Rattle.lasso_single.specs.Interner.{InternerView, made_with}
 use Rattle.lasso_single.proofs.Filled.{accepted, extend_push}
-use Rattle.lasso.proofs.Calling.{list_interned}
+use Rattle.lasso_columns.proofs.Interned.{list_interned}
 use Rattle.lasso_single.specs.Coding.{spur_at}
 use Rattle.lasso_input.specs.Lines.{NoFeed, is_line_feed}
 use Rattle.lasso_input.specs.Texts.{text_of}

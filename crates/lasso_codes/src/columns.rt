@@ -13,8 +13,8 @@ use crate::line_table::LineTable;
 use crate::output::{write_bytes, write_line, write_number};
 use crate::streams::Output;
 use itoa::Buffer;
-use lasso::{LassoError, LassoErrorKind};
 use lasso_columns::{LineError, NULL};
+use lasso_parts::util::{LassoError, LassoErrorKind};
 use std::io::Write;
 
 /// The start of the header of a column whose entries are lines.

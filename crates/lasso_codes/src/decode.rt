@@ -16,7 +16,7 @@ use crate::lines::TextRule;
 use crate::output::{end_flushed, write_line};
 use crate::reading::{Header, next_header, read_texts};
 use crate::streams::{Input, Output};
-use lasso::MemoryLimits;
+use lasso_parts::util::MemoryLimits;
 use std::io::{Read, Write};
 
 /// Decodes the columns of the input, and writes their lines, each with a line feed. A null is written as

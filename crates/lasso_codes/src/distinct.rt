@@ -11,8 +11,9 @@ use crate::interner::new_rodeo;
 use crate::lines::{TextRule, Walk, intern_line, taken};
 use crate::output::{end_flushed, write_line};
 use crate::streams::{Input, Output};
-use lasso::{MemoryLimits, SpurRodeo};
+use lasso_columns::SpurRodeo;
 use lasso_input::{Line, Stretch};
+use lasso_parts::util::MemoryLimits;
 use std::io::{Read, Write};
 
 /// Writes each distinct line once, where it first occurs, with a line feed. The output is flushed before a

@@ -5,8 +5,8 @@ ghost use Rattle.lasso_codes.specs.Errors.{column_fault_text, column_status, sta
 ghost use Rattle.lasso_columns.specs.declared.faults.LineError.TheVariants.{Refused};
 ghost use Rattle.lasso_parts.specs.declared.util.LassoErrorKind.TheVariants.{FailedAllocation};
 
-use lasso::{LassoError, LassoErrorKind};
 use lasso_columns::LineError;
+use lasso_parts::util::{LassoError, LassoErrorKind};
 use std::io::ErrorKind;
 use std::{fmt, io};
 

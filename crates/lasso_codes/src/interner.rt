@@ -5,7 +5,9 @@ ghost use Rattle.lasso_columns.specs.declared.faults.LineError.TheVariants.{Refu
 ghost use Rattle.lasso_parts.specs.declared.util.LassoErrorKind.TheVariants.{FailedAllocation};
 
 use crate::error::RunError;
-use lasso::{Capacity, MemoryLimits, Rodeo, SpurRodeo};
+use lasso_columns::SpurRodeo;
+use lasso_parts::util::{Capacity, MemoryLimits};
+use lasso_single::rodeo::Rodeo;
 use std::alloc::Global;
 
 /// A new interner for lines.

@@ -8,9 +8,9 @@ ghost use Rattle.lasso_input.specs.Texts.{line_of};
 ghost use Rattle.lasso_parts.specs.declared.util.LassoErrorKind.TheVariants.{FailedAllocation};
 
 use crate::error::RunError;
-use lasso::SpurRodeo;
-use lasso::index::Texts;
+use lasso_columns::SpurRodeo;
 use lasso_input::{is_marked, line_of};
+use lasso_parts::index::Texts;
 use std::alloc::Global;
 use std::borrow::CowSlice;
 use std::marker::Model;

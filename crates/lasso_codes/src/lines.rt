@@ -7,10 +7,12 @@ ghost use Rattle.lasso_single.specs.Coding.{spur_at};
 ghost use Rattle.lasso_input.specs.Texts.{is_own_text, text_of};
 ghost use Rattle.lasso_codes.specs.Limits.{is_let_in, IsLetIn, IsLineFault, IsNotLetIn, LacksMemory};
 
-use lasso::{LassoError, LassoErrorKind, Rodeo, Spur};
 use lasso_columns::LineError;
 use lasso_input::{Line, Stretch, escape_in, own_text};
+use lasso_parts::keys::Spur;
+use lasso_parts::util::{LassoError, LassoErrorKind};
 use lasso_single::batch::{Batch, intern_next};
+use lasso_single::rodeo::Rodeo;
 use std::alloc::{Allocator, Global};
 use std::hash::BuildHasher;
 

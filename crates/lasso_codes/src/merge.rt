@@ -21,8 +21,8 @@ use crate::lines::TextRule;
 use crate::output::end_flushed;
 use crate::reading::{Header, next_header, read_texts};
 use crate::streams::{Input, Output};
-use lasso::{MemoryLimits, SpurRodeo};
-use lasso_columns::{NULL, merge as merge_texts};
+use lasso_columns::{NULL, SpurRodeo, merge as merge_texts};
+use lasso_parts::util::MemoryLimits;
 use std::io::{Read, Write};
 
 /// Reads the columns of the input, and then writes one column with one dictionary, which has the lines of

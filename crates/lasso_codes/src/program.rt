@@ -27,7 +27,7 @@ use crate::lines::TextRule;
 use crate::merge::merge;
 use crate::output::write_bytes;
 use crate::streams::{Input, Output};
-use lasso::MemoryLimits;
+use lasso_parts::util::MemoryLimits;
 use std::io::{Read, Write};
 use std::thread::Threads;
 
@@ -71,10 +71,15 @@ pub fn run<'a, H: AllocGlobal + Threads + Sync, R: Read + Drop, W: Write + Drop>
     ensures request { result.request ≡ request.now }
     ensures report { (verb : Verb) (settings : Settings) (bytes : List ℕ) → request.now.command ≡ Run verb settings → input.old.left ≡ Some bytes →
         Writes output.old.written output.new.written (λ part. VerbEnd verb settings (word_of request.now.null) bytes input.new.left part result.ended) }
+    ensures help { request.now.command ≡ Help → input.new ≡ input.old }
+    ensures verb_help { (verb : Verb) → request.now.command ≡ VerbHelp verb → input.new ≡ input.old }
+    ensures version { request.now.command ≡ Version → input.new ≡ input.old }
     ensures flushed { ¬ (IsWriteEnd result.ended) → output.new.pending ≡ [] }
     ensures reads { ¬ (result.ended ≡ Err RunError.WriteFailed) → input.new.failures ≡ input.old.failures + failed_reads result.ended }
     ensures writes { output.new.failures ≡ output.old.failures + failed_writes result.ended }
     ensures gone { ¬ (result.ended ≡ Err RunError.WriteFailed) → output.new.gone ≡ output.old.gone + gone_readers result.ended }
+    ensures write_failed { result.ended ≡ Err RunError.WriteFailed → FailsWriting input.old input.new output.old output.new (λ error. (bytes : List ℕ) → input.old.left ≡ Some bytes →
+        Writes output.old.written output.new.written (λ part. RequestEnd request.now.command (word_of request.now.null) bytes input.new.left part (Err error))) }
 {
     let ended = run_request(rt, request, input, output);
     Ran {

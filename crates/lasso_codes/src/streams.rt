@@ -22,8 +22,7 @@ ghost use Rattle.lasso_parts.specs.declared.util.LassoErrorKind.TheVariants.{Fai
 
 use crate::error::RunError;
 use crate::lines::TextRule;
-use lasso::SpurRodeo;
-use lasso_columns::{LineTexts, Rounds, StreamError, encode_stream_by};
+use lasso_columns::{LineTexts, Rounds, SpurRodeo, StreamError, encode_stream_by};
 use lasso_input::failures::Failures;
 use std::io;
 use std::io::{BufRead, BufReader, BufWriter, ErrorKind, Read, Write};

@@ -17,7 +17,7 @@ use Rattle.lasso_parts.specs.Texts.{Text, position_of, key_of, IsDistinct}
 use Rattle.lasso_single.specs.Filling.{extend}
 use Rattle.lasso_single.specs.Interner.{InternerView}
 use Rattle.lasso_single.proofs.Filled.{accepted}
-use Rattle.lasso.specs.Interning.{with_last}
+use Rattle.lasso_columns.proofs.Interned.{with_last}
 use Rattle.lasso_single.proofs.Coded.{position_stays, map_some_at, map_some_length}
 use Rattle.lasso_single.proofs.Encoded.{position_of_key}
 use Rattle.lasso_columns.proofs.PartLists.{list_extended}
@@ -25,7 +25,7 @@ use Rattle.lasso_single.specs.Codes.{AreCodes}
 use Rattle.lasso_single.specs.Coding.{spur_at}
 use Rattle.lasso_columns.specs.Parts.{new_texts}
 use Rattle.lasso_columns.specs.declared.counts.error.CountError.{CountError}
-use Rattle.lasso_columns.specs.Counts.{AreCounts, count_of, count_at, counted, raised}
+use Rattle.lasso_columns.specs.Counts.{AreCounts, count_of, count_at, counted, raised, raised_by}
 use Rattle.lasso_columns.specs.Adding.{AddsAmounts, AddsCounts, counted_of}
 use Rattle.lasso_columns.proofs.Rest.{Grown}
 use Rattle.lasso_columns.proofs.Counted.{tells, tell_new, tell_old, position_absent, same_text, inside, last_one, counted_lengths, counted_total, place_of}
@@ -236,6 +236,19 @@ sum_by_test false now code inside = omega arith
 
 pub raised_sum : (now : List ℕ) (code : ℕ) → sum (raised now code) ≤ sum now + 1
 raised_sum now code = sum_by_test (nat_lt code (length now)) now code (λ e. below code (length now) e)
+
+raised_push : (counts codes : List ℕ) (code : ℕ) → raised_by counts (codes ++ code ∷ []) ≡ raised (raised_by counts codes) code
+raised_push counts [] code = refl
+raised_push counts (first ∷ codes) code = raised_push (raised counts first) codes code
+
+-- the counts by the first i codes and one more
+pub raised_more : (old now new codes : List ℕ) (i code : ℕ) → raised_by old (take i codes) ≡ now → i < length codes → code ≡ get_or codes i 0 → new ≡ raised now code → raised_by old (take (i + 1) codes) ≡ new
+raised_more old now new codes i code so_far small is grown =
+    ap (λ cs. raised_by old cs) (take_more codes i 0 small) ∙ raised_push old (take i codes) (get_or codes i 0) ∙ ap (λ n. raised (raised_by old (take i codes)) n) (sym is) ∙ ap (λ cs. raised cs code) so_far ∙ sym grown
+
+-- the counts by all codes
+pub raised_all : (old new codes : List ℕ) (i : ℕ) → raised_by old (take i codes) ≡ new → length codes ≤ i → new ≡ raised_by old codes
+raised_all old new codes i so_far past = sym so_far ∙ ap (λ cs. raised_by old cs) (take_all i codes past)
 
 -- all codes were counted
 pub codes_all : (list texts : List Text) (codes old new : List ℕ) (i : ℕ) → AreCodes list texts codes → length codes ≤ i → AddsCounts (take i texts) list old list new → AddsCounts texts list old list new

@@ -18,8 +18,8 @@ use Rattle.lasso_parts.proofs.TextLemmas.{position_here, position_last, distinct
 use Rattle.lasso_parts.specs.Texts.{Text, position_of, IsDistinct}
 use Rattle.lasso_single.specs.Intern.{InternsIn, interned_position}
 use Rattle.lasso_single.specs.Interner.{InternerView}
-use Rattle.lasso.specs.Interning.{with_last}
-use Rattle.lasso.proofs.Calling.{list_interned}
+use Rattle.lasso_columns.proofs.Interned.{with_last}
+use Rattle.lasso_columns.proofs.Interned.{list_interned}
 use Rattle.lasso_single.proofs.Coded.{position_stays}
 use Rattle.lasso_single.proofs.Encoded.{position_of_key}
 use Rattle.lasso_single.specs.Coding.{spur_at}

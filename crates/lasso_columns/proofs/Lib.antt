@@ -1,3 +1,4 @@
+pub mod Interned
 pub mod RowLists
 pub mod Beside
 pub mod EncodedRows

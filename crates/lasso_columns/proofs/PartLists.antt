@@ -17,8 +17,8 @@ use Rattle.lasso_single.specs.Filling.{extend}
 use Rattle.lasso_single.specs.Intern.{InternsIn, interned_position}
 use Rattle.lasso_single.specs.Interner.{InternerView}
 use Rattle.lasso_single.proofs.Filled.{accepted}
-use Rattle.lasso.proofs.Calling.{list_interned}
-use Rattle.lasso.proofs.Interned.{position_with_last}
+use Rattle.lasso_columns.proofs.Interned.{list_interned}
+use Rattle.lasso_columns.proofs.Interned.{position_with_last}
 use Rattle.lasso_single.proofs.Coded.{position_stays, map_some_at, map_some_length, map_some_both, codes_longer}
 use Rattle.lasso_single.specs.Codes.{AreCodes, AddsCodes}
 use Rattle.lasso_single.specs.Coding.{spur_at, encoded_texts}

@@ -1,16 +1,17 @@
 -- Blocks that are put into an interner one after another.
-use Rattle.std.proofs.Common.{ℕ, suc, ◌≡◌, ◌+◌, ◌-◌, ◌<◌, ◌≤◌, List, [], ◌∷◌, ◌++◌, take, drop, length, Option, Some, None, IfSome, refl, sym, ap, subst, ◌∙◌, arith, get_or, length-append}
-use Rattle.std.specs.Prelude.{Vec, slice_index_or, Bool}
+use Rattle.std.proofs.Common.{ℕ, suc, ◌≡◌, ◌+◌, ◌-◌, ◌<◌, ◌≤◌, List, [], ◌∷◌, ◌++◌, take, drop, length, Option, Some, None, IfSome, refl, sym, ap, subst, ◌∙◌, arith, get_or, length-append, length-take, ◌⊎◌, inl, inr}
+use Rattle.std.specs.Prelude.{Vec, slice_get, slice_index_or, Bool}
 use Rattle.std.proofs.Math.Seq.{drop-cons}
-use Rattle.std.proofs.lemmas.List.{take-append-le, take_all}
-use Rattle.std.proofs.lemmas.Option.{slice_get_within, get_or_from_slice_get}
+use Rattle.std.proofs.lemmas.List.{get_or-take, take-append-le, take_all}
+use Rattle.std.proofs.lemmas.Option.{slice_get_within, slice_get_cases, slice_get-get_or, get_or_from_slice_get}
+use Rattle.lasso_parts.proofs.IndexLaws.{slice_get-append_left, slice_get_push}
 use Rattle.lasso_parts.specs.Texts.{Text}
 use Rattle.lasso_single.specs.Interner.{InternerView}
 use Rattle.lasso_input.specs.Lines.{lines_of}
 use Rattle.lasso_columns.specs.Blocks.{IsBlock, IsBlockFor, StopsInRound, numbered}
 use Rattle.lasso_columns.specs.Parts.{new_texts}
 use Rattle.lasso_columns.specs.Rows.{texts_of, EncodesRows, StopsAtRow, IsRowFault}
-use Rattle.lasso_columns.specs.Streams.{AreBlocksFor, lines_in}
+use Rattle.lasso_columns.specs.Streams.{AddsLast, AreBlocksFor, IsLastFor, lines_in}
 use Rattle.lasso_columns.specs.declared.blocks.Block.{Block}
 use Rattle.lasso_columns.specs.declared.faults.LineError.{LineError}
 use Rattle.lasso_columns.specs.declared.faults.LineError.TheVariants.{Refused, NotText}
@@ -62,3 +63,43 @@ made_for {A} null list blocks made each i block bytes at at' =
     subst (λ (b : Vec ℕ A). IsBlock null list (lines_of b.items) block.added block.entries.items block.is_complete) same told.0 in
     let whole : list ≡ take block.base list = sym (take_all block.base list (omega (arith, told.1))) in
     (omega (arith, told.1), subst (λ (ts : List Text). IsBlock null ts (lines_of bytes.items) block.added block.entries.items block.is_complete) whole block_is)
+
+slice_get_taken : {A : Type 0} (xs : List A) (n i : ℕ) (x : A) → i < n → slice_get xs i ≡ Some x → slice_get (take n xs) i ≡ Some x
+slice_get_taken xs n i x small at =
+    let inside : i < length (take n xs) = omega (arith, small, slice_get_within xs i x at, length-take n xs) in
+    slice_get-get_or (take n xs) i x inside ∙ ap (λ y. Some y) (get_or-take n xs i x small ∙ get_or_from_slice_get xs i x x at)
+
+-- what was made of the first blocks alone
+pub first_for : {A : Type 0} (null : Option Text) (list : List Text) (blocks : List (Vec ℕ A)) (n : ℕ) (made : List (Option Block)) → length made ≤ n → AreBlocksFor null list (take n blocks) made → AreBlocksFor null list blocks made
+first_for {A} null list blocks n made long are i block bytes at at' =
+    are i block bytes at (slice_get_taken blocks n i bytes (omega (arith, long, slice_get_within made i (Some block) at)) at')
+
+-- and what was made of the last
+module _ {A : Type 0} (null : Option Text) (list : List Text) (blocks : List (Vec ℕ A)) (made : List (Option Block)) (last : Option Block) where
+  last_at : (i : ℕ) (block : Block) (bytes : Vec ℕ A) → AreBlocksFor null list blocks made → IsLastFor null list blocks last → length made + 1 ≡ length blocks → slice_get (made ++ last ∷ []) i ≡ Some (Some block) → slice_get blocks i ≡ Some bytes
+      → (((x : Option Block) × (i < length made) × (slice_get made i ≡ Some x) × (get_or made i x ≡ x)) ⊎ ((length made ≤ i) × (slice_get made i ≡ None))) → IsBlockFor null list (lines_of bytes.items) block.base block.added block.entries.items block.is_complete
+  last_at i block bytes are is count at at' (inl here) = are i block bytes (sym (slice_get-append_left made (last ∷ []) i here.1) ∙ at) at'
+  last_at i block bytes are is count at at' (inr past) =
+      let inside = slice_get_within (made ++ last ∷ []) i (Some block) at in
+      let end : i ≡ length made = omega (arith, past.0, inside, length-append made (last ∷ [])) in
+      let put : Some last ≡ Some (Some block) = sym (slice_get_push made last) ∙ ap (slice_get (made ++ last ∷ [])) (sym end) ∙ at in
+      let same : last ≡ Some block = cc in
+      let told = subst (λ (o : Option Block). IsLastFor null list blocks o) same is in
+      told bytes (ap (slice_get blocks) (omega (arith, end, count)) ∙ at')
+
+  pub last_for : (all : List (Option Block)) → AreBlocksFor null list blocks made → IsLastFor null list blocks last → AddsLast blocks made last all → AreBlocksFor null list blocks all
+  last_for all are is (inl same) = subst (AreBlocksFor null list blocks) (sym same) are
+  last_for all are is (inr added) =
+      subst (AreBlocksFor null list blocks) (sym added.1) (λ i block bytes at at'. last_at i block bytes are is added.0 at at' (slice_get_cases made i).1)
+
+-- the last block was encoded beside the list
+pub last_made : {A : Type 0} (null : Option Text) (list : List Text) (blocks : List (Vec ℕ A)) (last : Vec ℕ A) (made : Option Block) → slice_get blocks (length blocks - 1) ≡ Some last
+    → IfSome made (λ block. IsBlock null list (lines_of last.items) block.added block.entries.items block.is_complete) → IfSome made (λ block. block.base ≡ length list) → IsLastFor null list blocks made
+last_made null list blocks last None at is base = tt
+last_made {A} null list blocks last (Some block) at is base = λ bytes at'.
+    let both : Some last ≡ Some bytes = sym at ∙ at' in
+    let same : last ≡ bytes = cc in
+    let block_is : IsBlock null list (lines_of bytes.items) block.added block.entries.items block.is_complete =
+    subst (λ (b : Vec ℕ A). IsBlock null list (lines_of b.items) block.added block.entries.items block.is_complete) same is in
+    let whole : list ≡ take block.base list = sym (take_all block.base list (omega (arith, base))) in
+    (omega (arith, base), subst (λ (ts : List Text). IsBlock null ts (lines_of bytes.items) block.added block.entries.items block.is_complete) whole block_is)

@@ -43,6 +43,11 @@ counted counts (Some n) = slice_set counts n (slice_index counts n + 1)
 abbrev pub raised : List ℕ → ℕ → List ℕ
 raised counts n = if nat_lt n (length counts) then slice_set counts n (slice_index counts n + 1) else counts
 
+-- the counts with one more for each of these positions; one that has no count is passed over
+abbrev pub raised_by : List ℕ → List ℕ → List ℕ
+raised_by counts [] = counts
+raised_by counts (n ∷ ns) = raised_by (raised counts n) ns
+
 -- a ranked text in contracts: its count and its bytes
 abbrev pub pair_of : Reverse ℕ × Bor Text → ℕ × Text
 pair_of ranked = (ranked.0.0, ranked.1.now)

@@ -1,5 +1,5 @@
 -- Blocks of a stream, and how encoding its lines ends.
-use Rattle.std.specs.Prelude.{ℕ, ◌≡◌, All, Bool, true, false, List, [], ◌∷◌, ◌++◌, flat_map, Option, Some, Result, Ok, Err, Vec, slice_get, ◌⊎◌}
+use Rattle.std.specs.Prelude.{ℕ, ◌≡◌, ◌+◌, ◌-◌, length, All, Bool, true, false, List, [], ◌∷◌, ◌++◌, flat_map, Option, Some, Result, Ok, Err, Vec, slice_get, IfSome, ◌⊎◌}
 use Rattle.hex.specs.Hex.{IsBytes}
 use Rattle.lasso_parts.specs.Texts.{Text}
 use Rattle.lasso_single.specs.Interner.{InternerView}
@@ -52,6 +52,15 @@ abbrev pub AreBlocksFor : {A : Type 0} → Option Text → List Text → List (V
 AreBlocksFor {A} null list blocks made =
     (i : ℕ) (block : Block) (bytes : Vec ℕ A) → slice_get made i ≡ Some (Some block) → slice_get blocks i ≡ Some bytes
     → IsBlockFor null list (lines_of bytes.items) block.base block.added block.entries.items block.is_complete
+
+-- what was made of the last block beside the list
+abbrev pub IsLastFor : {A : Type 0} → Option Text → List Text → List (Vec ℕ A) → Option Block → Type 0
+IsLastFor {A} null list blocks last =
+    IfSome last (λ block. (bytes : Vec ℕ A) → slice_get blocks (length blocks - 1) ≡ Some bytes → IsBlockFor null list (lines_of bytes.items) block.base block.added block.entries.items block.is_complete)
+
+-- what was made of the last block is after what was made of all others, or is left out
+abbrev pub AddsLast : {A : Type 0} → List (Vec ℕ A) → List (Option Block) → Option Block → List (Option Block) → Type 0
+AddsLast blocks made last all = (all ≡ made) ⊎ ((length made + 1 ≡ length blocks) × (all ≡ made ++ last ∷ []))
 
 -- ---- lines that get texts
 

@@ -4,11 +4,14 @@ ghost use Rattle.lasso_columns.specs.Blocks.{IsAddedAt, IsBlock, IsCodedBeside, 
 ghost use Rattle.lasso_columns.specs.Rows.{is_null, word_of};
 ghost use Rattle.lasso_input.specs.Lines.{lines_of};
 
+use crate::interners::{SpurRodeo, SpurRodeoReader};
 use crate::rows::{NULL, is_null};
-use lasso::{LassoResult, Rodeo, Spur, SpurRodeo, SpurRodeoReader};
 use lasso_input::Stretch;
+use lasso_parts::keys::Spur;
+use lasso_parts::util::LassoResult;
 use lasso_single::batch::{Batch, get_next};
 use lasso_single::coding::intern_code;
+use lasso_single::rodeo::Rodeo;
 use std::alloc::{AllocError, Allocator, Global};
 use std::hash::BuildHasher;
 use std::thread::{Threads, map_indices};

@@ -4,8 +4,9 @@ ghost use Rattle.lasso_single.specs.Codes.{AddsTexts};
 ghost use Rattle.lasso_columns.specs.Faults.{IsFaultAt};
 
 use crate::faults::DecodeError;
-use lasso::index::Texts;
-use lasso::{RodeoReader, Spur};
+use lasso_parts::index::Texts;
+use lasso_parts::keys::Spur;
+use lasso_single::reader::RodeoReader;
 use std::alloc::Allocator;
 use std::hash::BuildHasher;
 

@@ -9,10 +9,11 @@ ghost use Rattle.lasso_columns.specs.Faults.{IsFaultOf, IsNextFault, LineMayLack
 ghost use Rattle.lasso_input.specs.Lines.{lines_of};
 
 use crate::faults::LineError;
-use lasso::{Rodeo, Spur};
 use lasso_input::{Line, Stretch};
+use lasso_parts::keys::Spur;
 use lasso_single::batch::Batch;
 use lasso_single::coding::encode_next;
+use lasso_single::rodeo::Rodeo;
 use std::alloc::Allocator;
 use std::hash::BuildHasher;
 

@@ -3,7 +3,7 @@ ghost use Rattle.std.specs.Prelude.{◌≡◌, Some};
 ghost use Rattle.lasso_columns.specs.Faults.{line_error_text, decode_error_text, write_error_text, read_error_text};
 ghost use Rattle.lasso_columns.specs.declared.faults.WriteError.TheVariants.{NoMemory};
 
-use lasso::{LassoError, LassoErrorKind};
+use lasso_parts::util::{LassoError, LassoErrorKind};
 use std::alloc::{AllocError, AllocFailed};
 use std::error::Error;
 use std::fmt;

@@ -5,10 +5,13 @@ ghost use Rattle.lasso_single.specs.Codes.{AreCodes, StandFor};
 ghost use Rattle.lasso_single.specs.Coding.{spur_at, IsRefused};
 ghost use Rattle.lasso_columns.specs.Merging.{MayLackMemoryWithRoom, MayLackMemoryMerging};
 
-use lasso::index::Texts;
-use lasso::{LassoResult, Rodeo, RodeoReader, Spur};
+use lasso_parts::index::Texts;
+use lasso_parts::keys::Spur;
+use lasso_parts::util::LassoResult;
 use lasso_single::batch::{Batch, TOGETHER, look_ahead};
 use lasso_single::coding::encode_next;
+use lasso_single::reader::RodeoReader;
+use lasso_single::rodeo::Rodeo;
 use std::alloc::{Allocator, Global};
 use std::hash::BuildHasher;
 

@@ -6,9 +6,12 @@ ghost use Rattle.lasso_single.specs.Codes.{AddsCodes};
 ghost use Rattle.lasso_single.specs.Coding.{spur_at, encoded_texts, IsNextRefused, MayLackMemoryNext};
 ghost use Rattle.lasso_columns.specs.Parts.{IsEncoded, AddsRewritten};
 
+use crate::interners::SpurRodeoReader;
 use crate::merging::encode_list;
-use lasso::{LassoResult, Rodeo, Spur, SpurRodeoReader};
+use lasso_parts::keys::Spur;
+use lasso_parts::util::LassoResult;
 use lasso_single::coding::encode;
+use lasso_single::rodeo::Rodeo;
 use std::alloc::{Allocator, Global};
 use std::hash::BuildHasher;
 use std::thread::{Threads, for_each_mut, map_chunks};

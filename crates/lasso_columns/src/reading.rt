@@ -10,8 +10,10 @@ ghost use Rattle.lasso_columns.specs.Layout.{layout_fault, text_fault};
 
 use crate::faults::ReadError;
 use crate::layout::{check_start, text_between};
-use lasso::{Capacity, Key, LassoErrorKind, MemoryLimits, Rodeo};
+use lasso_parts::keys::Key;
 use lasso_parts::offsets::Offset;
+use lasso_parts::util::{Capacity, LassoErrorKind, MemoryLimits};
+use lasso_single::rodeo::Rodeo;
 use std::alloc::Allocator;
 use std::hash::BuildHasher;
 

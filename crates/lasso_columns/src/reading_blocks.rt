@@ -11,11 +11,34 @@ use std::io::{BufRead, ErrorKind};
 // The bytes of a read at most.
 const CHUNK: usize = 65_536;
 
+// For at most this number of bytes room is reserved before a block is read.
+const MOST_RESERVED: usize = 4_194_304;
+
 // Blocks of the input, and whether more may follow, or why a read failed after them.
 #[derive(Drop)]
 pub(crate) struct Blocks {
     pub blocks: Vec<Vec<u8>>,
     pub more: io::Result<bool>,
+}
+
+// How many blocks are read, and how many bytes each has at least.
+#[derive(Clone, Copy)]
+pub(crate) struct Sizes {
+    pub count: usize,
+    // of all blocks but the last
+    pub size: usize,
+    pub last: usize,
+}
+
+impl Sizes {
+    // The bytes of the block at the index, at least 1.
+    fn at(self, index: usize) -> usize {
+        if index < self.count.saturating_sub(1) {
+            self.size.max(1)
+        } else {
+            self.last.max(1)
+        }
+    }
 }
 
 // Room for a read of at most this number of bytes.
@@ -27,20 +50,20 @@ pub(crate) fn new_chunk(alloc: Global, size: usize) -> io::Result<Vec<u8>>
     Ok(chunk)
 }
 
-// Reads up to `count` blocks of at least `size` bytes each, up to the end of a line. A block has at least one
-// byte, unless the input ends.
+// Reads up to `sizes.count` blocks of at least these sizes, each up to the end of a line. A block has at least one
+// byte, unless the input ends. `spare` has earlier blocks, whose memory is used again.
 pub(crate) fn read_blocks<I: BufRead>(
     alloc: Global,
     input: &mut I,
     chunk: &mut [u8],
-    count: usize,
-    size: usize,
+    spare: &mut Vec<Vec<u8>>,
+    sizes: Sizes,
 ) -> Blocks
     requires { 0 < length chunk.old }
     ensures { ReadsBlocks (I.remaining input.old) (I.remaining input.new) result.blocks.items result.more }
 {
     let mut blocks = Vec::new(alloc);
-    for _ in 0..count {
+    for index in 0..sizes.count {
         // Room for the block is reserved before it is read.
         if blocks.reserve(1).is_err() {
             return Blocks {
@@ -48,8 +71,8 @@ pub(crate) fn read_blocks<I: BufRead>(
                 more: Err(io::Error::from(ErrorKind::OutOfMemory)),
             };
         }
-        let mut block = Vec::new(alloc);
-        let more = read_block(input, chunk, &mut block, size.max(1));
+        let mut block = empty_block(alloc, spare);
+        let more = read_block(input, chunk, &mut block, sizes.at(index));
         blocks.push_reserved(block);
         let Ok(true) = more else {
             return Blocks { blocks, more };
@@ -59,6 +82,17 @@ pub(crate) fn read_blocks<I: BufRead>(
         blocks,
         more: Ok(true),
     }
+}
+
+// A block without bytes, in the memory of an earlier one, if there is one.
+fn empty_block(alloc: Global, spare: &mut Vec<Vec<u8>>) -> Vec<u8>
+    ensures { result.items ≡ [] }
+{
+    let Some(mut block) = spare.pop() else {
+        return Vec::new(alloc);
+    };
+    block.clear();
+    block
 }
 
 // Reads a block of at least `size` bytes, up to the end of a line. Returns whether more may follow. If a read
@@ -96,6 +130,8 @@ fn fill<I: BufRead>(
     ensures taken { Consumes (I.remaining input.old) (I.remaining input.new) block.new.items }
     ensures end { IfOk result (λ more. more ≡ false → IsAtEnd (I.remaining input.new)) }
 {
+    // Without this room each read asks for its own.
+    let _ = block.reserve(size.saturating_add(chunk.len()).min(MOST_RESERVED));
     for _ in 0..u64::MAX {
         if block.len() >= size {
             return Ok(true);

@@ -9,7 +9,9 @@ use crate::blocks::Block;
 use crate::faults::LineError;
 use crate::merging::encode_list;
 use crate::rows::{NULL, encode_rows};
-use lasso::{LassoResult, Rodeo, Spur};
+use lasso_parts::keys::Spur;
+use lasso_parts::util::LassoResult;
+use lasso_single::rodeo::Rodeo;
 use std::alloc::{Allocator, Global};
 use std::hash::BuildHasher;
 

@@ -5,10 +5,12 @@ ghost use Rattle.lasso_columns.specs.Rows.{is_null, word_of, EncodesRows, IsRefu
 ghost use Rattle.lasso_input.specs.Lines.{lines_of};
 
 use crate::faults::LineError;
-use lasso::{LassoResult, Rodeo, Spur};
 use lasso_input::{Line, Stretch};
+use lasso_parts::keys::Spur;
+use lasso_parts::util::LassoResult;
 use lasso_single::batch::Batch;
 use lasso_single::coding::encode_next;
+use lasso_single::rodeo::Rodeo;
 use std::alloc::Allocator;
 use std::hash::BuildHasher;
 

@@ -8,8 +8,10 @@ ghost use Rattle.lasso_single.specs.Codes.{AreCodes, AddsCodes};
 ghost use Rattle.lasso_single.specs.Coding.{spur_at};
 ghost use Rattle.lasso_columns.specs.Sharing.{AddsSharedCodes, IsPartOf, IsRefusalIn};
 
-use lasso::log::{Pass, Snapshot};
-use lasso::{LassoError, LassoResult, Spur, ThreadedRodeo};
+use lasso_log::log::{Pass, Snapshot};
+use lasso_parts::keys::Spur;
+use lasso_parts::util::{LassoError, LassoResult};
+use lasso_shared::threaded::ThreadedRodeo;
 use std::hash::BuildHasher;
 use std::sync::Wait;
 use std::thread::{Threads, map_chunks};

@@ -1,16 +1,16 @@
 //! Encodes the lines of a stream by rounds over blocks of it.
 ghost use Rattle.std.specs.Prelude.{◌≡◌, ◌<◌, ℕ, List, [], Some, Ok, true, OnOk, IfErr, length};
 ghost use Rattle.lasso_columns.specs.Rows.{word_of, EncodesRows};
-ghost use Rattle.lasso_columns.specs.Streams.{AreBlocksFor, AreBytesBy, EndsRound, ReadsTexts, StopsInStream, StopsInStreamBy, lines_in};
+ghost use Rattle.lasso_columns.specs.Streams.{AddsLast, AreBlocksFor, AreBytesBy, EndsRound, IsLastFor, ReadsTexts, StopsInStream, StopsInStreamBy, lines_in};
 ghost use Rattle.lasso_columns.specs.Texts.{texts_by};
 ghost use Rattle.lasso_input.specs.Lines.{lines_of};
 
-use crate::blocks::{Block, encode_blocks};
+use crate::blocks::{Block, encode_block, encode_blocks};
 use crate::faults::LineError;
+use crate::interners::SpurRodeo;
 use crate::line_texts::{LineTexts, with_texts};
-use crate::reading_blocks::{Blocks, new_chunk, read_blocks};
+use crate::reading_blocks::{Blocks, Sizes, new_chunk, read_blocks};
 use crate::rounds::put_blocks;
-use lasso::SpurRodeo;
 use std::alloc::Global;
 use std::error::Error;
 use std::io::{BufRead, ErrorKind};
@@ -18,10 +18,12 @@ use std::thread::{Threads, join_mut};
 use std::{fmt, io};
 
 /// How a stream is split into blocks for several threads. The sizes are in bytes; 0 counts as 1. A block has its
-/// size or up to 64 KiB more, and goes on to the end of a line.
+/// size or up to 64 KiB more, and goes on to the end of a line. The last block of a round is smaller by a sixth
+/// for each worker.
 #[derive(Clone, Copy, Debug, PartialEq, Eq)]
 pub struct Rounds {
-    /// How many threads encode in a round, each a block. With 0 or 1 the caller's thread encodes all.
+    /// How many threads encode in a round, each a block; the caller's thread is one of them. With 0 or 1 it
+    /// encodes all.
     pub workers: usize,
     /// The bytes of a block that the caller's thread encodes.
     pub alone: usize,
@@ -67,9 +69,10 @@ impl Error for StreamError {}
 /// entries, the list and the error are the same, whatever their number.
 ///
 /// The caller's thread encodes the first block of the input. Then rounds follow: each worker encodes a block
-/// beside the interner, with a small interner for the texts that it lacks, while this thread reads the next
-/// blocks. This thread then interns those texts in the order of the blocks, and appends the entries. It encodes
-/// the blocks after a round or a block with mostly new texts, and a block whose worker ran out of memory.
+/// beside the interner, with a small interner for the texts that it lacks. This thread is one of them: it reads
+/// the next blocks first, and its own block is smaller. It then interns those texts in the order of the blocks,
+/// and appends the entries. It encodes the blocks after a round or a block with mostly new texts, and a block
+/// whose worker ran out of memory.
 ///
 /// After success nothing is left in the input. It stops at the first line that is refused or is not UTF-8
 /// (`StreamError::Line`, with the line's number from the begin of the call, counted from 1), or at a read that
@@ -137,9 +140,13 @@ pub fn encode_stream_by<R: AllocGlobal + Threads + Sync, I: BufRead>(
         Ok(chunk) => chunk,
         Err(error) => return Err(StreamError::Read(error)),
     };
-    let mut now = read_text_blocks(rt.alloc(), input, &mut chunk, 1, rounds.alone, by);
+    let mut spare = Vec::new(rt.alloc());
+    let first = plan.next();
+    let mut now = read_text_blocks(rt.alloc(), input, &mut chunk, &mut spare, first, by);
     for _ in 0..u64::MAX {
-        let (made, next) = encode_and_read(rt, input, &mut chunk, rodeo, &now, null, plan, by);
+        let (made, next) = encode_and_read(
+            rt, input, &mut chunk, &mut spare, rodeo, &now, null, plan, by,
+        );
         let (texts, lines) = (rodeo.len(), entries.len());
         let outcome = put_blocks(rt.alloc(), rodeo, &now.blocks, &made, null, entries, start);
         if let Err(error) = outcome {
@@ -154,6 +161,7 @@ pub fn encode_stream_by<R: AllocGlobal + Threads + Sync, I: BufRead>(
         }
         let new_texts = rodeo.len().saturating_sub(texts);
         plan = plan.after(new_texts, entries.len().saturating_sub(lines));
+        spare = now.blocks;
         now = next;
     }
     let last = put_last(rt.alloc(), rodeo, &now, null, entries, start);
@@ -213,21 +221,41 @@ impl Plan {
         }
     }
 
-    // How many blocks are read next, and their bytes.
-    fn next(self) -> (usize, usize) {
+    // The sizes of the blocks that are read next. The thread that encodes the last one of a round also reads those
+    // of the next round. Reading a block takes about a sixth of the time of encoding it.
+    fn next(self) -> Sizes {
         if self.is_round {
-            (self.rounds.workers, self.size)
+            Sizes {
+                count: self.rounds.workers,
+                size: self.size,
+                last: self
+                    .size
+                    .saturating_sub((self.size / 6).saturating_mul(self.rounds.workers)),
+            }
         } else {
-            (1, self.rounds.alone)
+            Sizes {
+                count: 1,
+                size: self.rounds.alone,
+                last: self.rounds.alone,
+            }
         }
     }
 }
 
-// Encodes the blocks by threads, if the plan is a round. Reads the next blocks meanwhile, if more may follow.
+// What this thread does in a round: the next blocks that it read, and what it made of the last block.
+#[derive(Drop)]
+struct Turn {
+    next: Blocks,
+    last: Option<Block>,
+}
+
+// Encodes the blocks, if they are a round of several: the last by this thread, and each other by a thread of its
+// own. Reads the next blocks meanwhile, if more may follow.
 fn encode_and_read<R: AllocGlobal + Threads + Sync, I: BufRead>(
     rt: &R,
     input: &mut I,
     chunk: &mut [u8],
+    spare: &mut Vec<Vec<u8>>,
     rodeo: &SpurRodeo,
     now: &Blocks,
     null: Option<&[u8]>,
@@ -239,25 +267,32 @@ fn encode_and_read<R: AllocGlobal + Threads + Sync, I: BufRead>(
     ensures next { now.now.more ≡ Ok true → ReadsTexts by (I.remaining input.old) (I.remaining input.new) result.1.blocks.items result.1.more }
     ensures kept { ¬ (now.now.more ≡ Ok true) → I.remaining input.new ≡ I.remaining input.old }
 {
-    if !plan.is_round {
+    if !plan.is_round || now.blocks.len() < 2 {
         return (
             Vec::new(rt.alloc()),
-            read_next(rt.alloc(), input, chunk, now, plan, by),
+            read_next(rt.alloc(), input, chunk, spare, now, plan, by),
         );
     }
     let mut work = || -> Vec<Option<Block>>
         ensures { AreBlocksFor (word_of null.entry) rodeo.entry.now.texts now.entry.now.blocks.items result.items }
-    { encode_round(rt, rodeo, now, null) };
-    let mut read = || -> Blocks
+    { encode_others(rt, rodeo, now, null) };
+    let mut read = || -> Turn
         requires { 0 < length chunk.now }
-        ensures next { now.entry.now.more ≡ Ok true → ReadsTexts by (I.remaining input.entry.now) (I.remaining input.exit.now) result.blocks.items result.more }
+        ensures next { now.entry.now.more ≡ Ok true → ReadsTexts by (I.remaining input.entry.now) (I.remaining input.exit.now) result.next.blocks.items result.next.more }
         ensures kept { ¬ (now.entry.now.more ≡ Ok true) → I.remaining input.exit.now ≡ I.remaining input.entry.now }
-    { read_next(rt.alloc(), input, chunk, now, plan, by) };
-    join_mut(rt, &mut work, &mut read)
+        ensures last { IsLastFor (word_of null.entry) rodeo.entry.now.texts now.entry.now.blocks.items result.last }
+    {
+        let next = read_next(rt.alloc(), input, chunk, spare, now, plan, by);
+        let last = encode_last(rt.alloc(), rodeo, now, null);
+        Turn { next, last }
+    };
+    let (made, turn) = join_mut(rt, &mut work, &mut read);
+    let Turn { next, last } = turn;
+    (all_made(rodeo, now, null, made, last), next)
 }
 
-// Encodes the blocks by threads. Returns none of them if memory runs out.
-fn encode_round<R: AllocGlobal + Threads + Sync>(
+// Encodes all blocks but the last by threads. Returns none of them if memory runs out.
+fn encode_others<R: AllocGlobal + Threads + Sync>(
     rt: &R,
     rodeo: &SpurRodeo,
     now: &Blocks,
@@ -265,10 +300,54 @@ fn encode_round<R: AllocGlobal + Threads + Sync>(
 ) -> Vec<Option<Block>>
     ensures { AreBlocksFor (word_of null.entry) rodeo.now.texts now.now.blocks.items result.items }
 {
-    match encode_blocks(rt, rodeo, &now.blocks, null) {
+    let others = now.blocks.len().saturating_sub(1);
+    match encode_blocks(rt, rodeo, &now.blocks[..others], null) {
         Ok(made) => made,
         Err(_) => Vec::new(rt.alloc()),
     }
+}
+
+// Encodes the last block. Returns `None` if there is none, or if memory or codes run out.
+fn encode_last(alloc: Global, rodeo: &SpurRodeo, now: &Blocks, null: Option<&[u8]>) -> Option<Block>
+    ensures { IsLastFor (word_of null.entry) rodeo.now.texts now.now.blocks.items result }
+{
+    if now.blocks.is_empty() {
+        return None;
+    }
+    encode_block(alloc, rodeo, &now.blocks[now.blocks.len() - 1], null)
+}
+
+// What was made of the blocks beside the interner: `made` of all but the last, and `last`. The contract speaks of
+// the interner and the null.
+fn all_made(
+    rodeo: &SpurRodeo,
+    now: &Blocks,
+    null: Option<&[u8]>,
+    made: Vec<Option<Block>>,
+    last: Option<Block>,
+) -> Vec<Option<Block>>
+    requires made { AreBlocksFor (word_of null) rodeo.now.texts now.now.blocks.items made.items }
+    requires last { IsLastFor (word_of null) rodeo.now.texts now.now.blocks.items last }
+    ensures { AreBlocksFor (word_of null.entry) rodeo.now.texts now.now.blocks.items result.items }
+{
+    let _ = rodeo;
+    let _ = null;
+    with_last(made, last, now)
+}
+
+// What was made of all blocks but the last, and of the last. Without memory for that, or if the others were not
+// encoded, this thread does it again.
+fn with_last(mut made: Vec<Option<Block>>, last: Option<Block>, now: &Blocks) -> Vec<Option<Block>>
+    ensures { AddsLast now.now.blocks.items made.items last result.items }
+{
+    if made.len() + 1 != now.blocks.len() {
+        return made;
+    }
+    if made.reserve(1).is_err() {
+        return made;
+    }
+    made.push_reserved(last);
+    made
 }
 
 // Reads the blocks after these, if more may follow.
@@ -276,6 +355,7 @@ fn read_next<I: BufRead>(
     alloc: Global,
     input: &mut I,
     chunk: &mut [u8],
+    spare: &mut Vec<Vec<u8>>,
     now: &Blocks,
     plan: Plan,
     by: LineTexts,
@@ -285,8 +365,7 @@ fn read_next<I: BufRead>(
     ensures kept { ¬ (now.now.more ≡ Ok true) → I.remaining input.new ≡ I.remaining input.old }
 {
     if let Ok(true) = now.more {
-        let (count, size) = plan.next();
-        return read_text_blocks(alloc, input, chunk, count, size, by);
+        return read_text_blocks(alloc, input, chunk, spare, plan.next(), by);
     }
     Blocks {
         blocks: Vec::new(alloc),
@@ -299,13 +378,13 @@ fn read_text_blocks<I: BufRead>(
     alloc: Global,
     input: &mut I,
     chunk: &mut [u8],
-    count: usize,
-    size: usize,
+    spare: &mut Vec<Vec<u8>>,
+    sizes: Sizes,
     by: LineTexts,
 ) -> Blocks
     requires { 0 < length chunk.old }
     ensures { ReadsTexts by (I.remaining input.old) (I.remaining input.new) result.blocks.items result.more }
 {
-    let read = read_blocks(alloc, input, chunk, count, size);
+    let read = read_blocks(alloc, input, chunk, spare, sizes);
     with_texts(alloc, read, by)
 }

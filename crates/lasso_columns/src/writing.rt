@@ -6,9 +6,12 @@ ghost use Rattle.lasso_parts.specs.Layout.{offsets_from};
 
 use crate::faults::WriteError;
 use crate::layout::Layout;
-use lasso::index::Texts;
-use lasso::{Key, Rodeo, RodeoReader, RodeoResolver};
+use lasso_parts::index::Texts;
+use lasso_parts::keys::Key;
 use lasso_parts::offsets::Offset;
+use lasso_single::reader::RodeoReader;
+use lasso_single::resolver::RodeoResolver;
+use lasso_single::rodeo::Rodeo;
 use std::alloc::{Allocator, Global};
 use std::hash::BuildHasher;
 

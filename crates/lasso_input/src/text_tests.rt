@@ -1,5 +1,5 @@
 //! Texts of lines of any bytes, with texts worked by hand.
-use crate::{Line, line_of, text_of};
+use crate::{Line, MARK, line_of, text_of};
 use std::alloc::Global;
 use std::process::Abort;
 use std::test::Fail;
@@ -121,6 +121,41 @@ fn texts_have_their_lines(rt: HostRuntime) -> Result<(), Fail> {
     for (text, line) in &TEXTS {
         let holds = is_line(rt.alloc(), text, line)?;
         is_so(&rt, holds, "a text and its line");
+    }
+    Ok(())
+}
+
+#[test]
+fn all_bytes_in_one_line(rt: HostRuntime) -> Result<(), Fail> {
+    let mut line = Vec::new(rt.alloc());
+    for byte in 0..=255u8 {
+        line.push(byte)?;
+    }
+    let holds = has_its_text(rt.alloc(), &line, false)?;
+    is_so(&rt, holds, "a line of all bytes");
+    Ok(())
+}
+
+// The mark, and digits with a letter that is none among them.
+fn with_wrong_digit(alloc: Global, before: usize, after: usize) -> Result<String, Fail> {
+    let mut text = String::new(alloc);
+    text.push(MARK)?;
+    for _ in 0..before {
+        text.push('0')?;
+    }
+    text.push('g')?;
+    for _ in 0..after {
+        text.push('0')?;
+    }
+    Ok(text)
+}
+
+#[test]
+fn a_wrong_digit_at_each_place(rt: HostRuntime) -> Result<(), Fail> {
+    for before in 0..100usize {
+        let text = with_wrong_digit(rt.alloc(), before, 99 - before)?;
+        let holds = is_line(rt.alloc(), &text, text.as_bytes())?;
+        is_so(&rt, holds, "a text with a letter that is no digit");
     }
     Ok(())
 }

@@ -7,7 +7,7 @@ ghost use Rattle.std.specs.Cow.{cow_slice_items, cow_str_bytes, IsBorrowedSlice,
 ghost use Rattle.std.specs.String.{string_bytes};
 ghost use Rattle.lasso_input.specs.Texts.{escaped, is_marked, is_own_text, line_of, text_of};
 
-use crate::digits::put_digits;
+use crate::digits::{put_digits, read_digits};
 use crate::line::Line;
 use hex::FromHexError;
 use std::alloc::{AllocError, Allocator};
@@ -77,7 +77,7 @@ pub fn line_of<A: Allocator>(alloc: A, text: &str) -> Result<CowSlice<'_, u8, A>
     if !is_marked(bytes) {
         return Ok(CowSlice::Borrowed(bytes));
     }
-    match hex::decode(alloc, &bytes[MARK_BYTES.len()..]) {
+    match read_digits(alloc, &bytes[MARK_BYTES.len()..]) {
         Ok(line) => Ok(CowSlice::Owned(line)),
         Err(error) => match error {
             FromHexError::OutOfMemory => Err(AllocError),

@@ -8,8 +8,10 @@ ghost use Rattle.lasso_columns.specs.Counts.{AreCounts, counted, added};
 ghost use Rattle.lasso_columns.specs.Adding.{AddsCounts, CountsText, KeepsRoom, RefusesNew, counted_of};
 
 use crate::counts::error::CountError;
-use lasso::{Key, LassoResult, Rodeo, Spur};
+use lasso_parts::keys::{Key, Spur};
+use lasso_parts::util::LassoResult;
 use lasso_single::batch::{Batch, intern_next, look_ahead};
+use lasso_single::rodeo::Rodeo;
 use std::alloc::Allocator;
 use std::hash::BuildHasher;
 

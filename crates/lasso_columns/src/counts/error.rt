@@ -2,7 +2,7 @@
 ghost use Rattle.std.specs.Prelude.{◌≡◌, ◌+◌, ◌^◌, ◌<◌, Some};
 ghost use Rattle.lasso_columns.specs.Adding.{count_error_text};
 
-use lasso::LassoError;
+use lasso_parts::util::LassoError;
 use std::fmt;
 
 /// A text was refused.

@@ -11,8 +11,10 @@ ghost use Rattle.lasso_columns.specs.Adding.{AddsAmounts, AddsCounts, RefusesNew
 
 use crate::counts::counting::count_texts;
 use crate::counts::error::CountError;
+use crate::interners::SpurRodeoReader;
 use crate::merge;
-use lasso::{Key, Rodeo, Spur, SpurRodeoReader};
+use lasso_parts::keys::{Key, Spur};
+use lasso_single::rodeo::Rodeo;
 use std::alloc::{Allocator, Global};
 use std::hash::BuildHasher;
 use std::thread::{Threads, map_chunks};

@@ -3,8 +3,9 @@ ghost use Rattle.std.specs.Prelude.{◌≡◌, List, IfOk, IsPermutation, IsSort
 ghost use Rattle.lasso_parts.specs.Texts.{Text};
 ghost use Rattle.lasso_columns.specs.Counts.{AreCounts, counted_texts, ranked_cmp, pair_of};
 
-use lasso::index::Texts;
-use lasso::{Rodeo, Spur};
+use lasso_parts::index::Texts;
+use lasso_parts::keys::Spur;
+use lasso_single::rodeo::Rodeo;
 use std::alloc::{AllocError, Allocator, Global};
 use std::cmp::Reverse;
 use std::hash::BuildHasher;

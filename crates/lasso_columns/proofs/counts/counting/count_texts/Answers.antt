@@ -4,7 +4,7 @@ use Rattle.lasso_parts.specs.Texts.{Text}
 use Rattle.lasso_single.specs.Filling.{extend}
 use Rattle.lasso_single.specs.Interner.{InternerView}
 use Rattle.lasso_single.proofs.Filled.{accepted, extend_push}
-use Rattle.lasso.proofs.Calling.{list_interned}
+use Rattle.lasso_columns.proofs.Interned.{list_interned}
 use Rattle.lasso_single.proofs.Encoded.{texts_more}
 use Rattle.lasso_single.specs.Coding.{spur_at}
 use Rattle.lasso_columns.specs.Adding.{AddsCounts}
