@@ -3,7 +3,7 @@
 -- The meaning of a value of an interface is a list of texts, or none: an interner for one thread and a frozen
 -- form have their own list, a reference and a box have that of what they hold, and an interner that other
 -- threads fill has none.
-use Rattle.std.specs.Prelude.{ℕ, ◌≡◌, ◌↔◌, ◌⊎◌, List, [], ◌∷◌, ◌++◌, length, Option, Some, None, is_some, if◌then◌else◌, Result, MatchResult, IfErr}
+use Rattle.std.specs.Prelude.{ℕ, ◌≡◌, ◌↔◌, ◌⊎◌, List, [], ◌∷◌, ◌++◌, length, Option, Some, None, is_some, if◌then◌else◌, Result, MatchResult, IfErr, IfSome, IsOkAnd}
 use Rattle.lasso_parts.specs.Texts.{Text, position_of}
 use Rattle.lasso_parts.specs.declared.util.LassoError.{LassoError}
 use Rattle.lasso_parts.specs.declared.util.LassoErrorKind.TheVariants.{KeySpaceExhaustion, FailedAllocation}
@@ -28,3 +28,7 @@ abbrev pub InternsStaticAmong : {K : Type 0} → (ℕ → Option K) → List Tex
 InternsStaticAmong key_at texts text reply after =
     InternsAmong key_at texts text reply after
     × IfErr reply (λ error. (error ≡ KeySpaceExhaustion) ⊎ (error ≡ FailedAllocation))
+
+-- a value with a list of its own is frozen, to a form with the same list; `meaning_of` is the form's meaning
+abbrev pub FreezesTo : {R E : Type 0} → (meaning : Option (List Text)) → (meaning_of : R → Option (List Text)) → Result R E → Type 0
+FreezesTo meaning meaning_of result = IfSome meaning (λ texts. IsOkAnd result (λ frozen. meaning_of frozen ≡ Some texts))

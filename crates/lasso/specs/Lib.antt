@@ -40,9 +40,12 @@ pub use Rattle.lasso_log.specs.Replies
 pub use Rattle.lasso_log.specs.Views
 pub use Rattle.lasso_shared.specs.Batches
 pub use Rattle.lasso_shared.specs.CallerLaws
+pub use Rattle.lasso_shared.specs.Comparing
 pub use Rattle.lasso_shared.specs.Filling as SharedFilling
 pub use Rattle.lasso_shared.specs.Json as SharedJson
 pub use Rattle.lasso_shared.specs.Machine
 pub use Rattle.lasso_shared.specs.MachineCalls
+pub use Rattle.lasso_shared.specs.OpenedTexts
+pub use Rattle.lasso_shared.specs.PassCalls
 pub use Rattle.lasso_shared.specs.Runs
 pub use Rattle.lasso_shared.specs.Walks

@@ -4,10 +4,10 @@
 //! frozen one have, one that other threads fill meanwhile has none. Each call says what it does to the list
 //! if there is one. Calls for which an interner for many threads may have to wait take a handle for it;
 //! the others never wait.
-ghost use Rattle.std.specs.Prelude.{◌≡◌, ◌<◌, ◌↔◌, Option, Some, List, length, is_some, IfSome, IfErr, IsOkAnd, IsTrue, slice_get, option_map};
+ghost use Rattle.std.specs.Prelude.{◌≡◌, ◌<◌, ◌↔◌, Option, List, length, is_some, IfSome, IfErr, IsTrue, slice_get, option_map};
 ghost use Rattle.lasso_parts.specs.Texts.{Text, position_of, key_of};
 ghost use Rattle.lasso_parts.specs.declared.util.LassoErrorKind.TheVariants.{FailedAllocation};
-ghost use Rattle.lasso.specs.Interning.{InternsAmong, InternsStaticAmong};
+ghost use Rattle.lasso.specs.Interning.{FreezesTo, InternsAmong, InternsStaticAmong};
 
 mod boxed;
 mod exclusive;
@@ -111,12 +111,12 @@ pub trait IntoReader<K: Key>: Interner<K> + Sized {
     /// The same texts under the same keys, frozen. A value with its own list is never refused. For
     /// another the only error is `FailedAllocation`, and it is gone then.
     fn into_reader<R: Wait>(self, rt: &R) -> LassoResult<Self::Reader>
-        ensures frozen { IfSome (Self.meaning self) (λ texts. IsOkAnd result (λ reader. ⟦<Self::Reader as Resolver<K>>⟧.meaning reader ≡ Some texts)) }
+        ensures frozen { FreezesTo (Self.meaning self) ⟦<Self::Reader as Resolver<K>>⟧.meaning result }
         ensures refused { IfErr result (λ error. error ≡ FailedAllocation) };
 
     /// The frozen form of what the box holds: the same as `into_reader` of it. The box's memory is freed.
     fn into_reader_boxed<R: Wait>(of: Box<Self>, rt: &R) -> LassoResult<Self::Reader>
-        ensures frozen { IfSome (Self.meaning of.value) (λ texts. IsOkAnd result (λ reader. ⟦<Self::Reader as Resolver<K>>⟧.meaning reader ≡ Some texts)) }
+        ensures frozen { FreezesTo (Self.meaning of.value) ⟦<Self::Reader as Resolver<K>>⟧.meaning result }
         ensures refused { IfErr result (λ error. error ≡ FailedAllocation) };
 }
 
@@ -128,12 +128,12 @@ pub trait IntoResolver<K: Key>: Reader<K> + Sized {
     /// The same texts under the same keys, frozen, and no keys are found any more. A value with a list of its
     /// own is never refused. For another the only error is `FailedAllocation`, and it is gone then.
     fn into_resolver<R: Wait>(self, rt: &R) -> LassoResult<Self::Resolver>
-        ensures frozen { IfSome (Self.meaning self) (λ texts. IsOkAnd result (λ resolver. ⟦<Self::Resolver as Resolver<K>>⟧.meaning resolver ≡ Some texts)) }
+        ensures frozen { FreezesTo (Self.meaning self) ⟦<Self::Resolver as Resolver<K>>⟧.meaning result }
         ensures refused { IfErr result (λ error. error ≡ FailedAllocation) };
 
     /// The frozen form of what the box holds: the same as `into_resolver` of it. The box's memory is freed.
     fn into_resolver_boxed<R: Wait>(of: Box<Self>, rt: &R) -> LassoResult<Self::Resolver>
-        ensures frozen { IfSome (Self.meaning of.value) (λ texts. IsOkAnd result (λ resolver. ⟦<Self::Resolver as Resolver<K>>⟧.meaning resolver ≡ Some texts)) }
+        ensures frozen { FreezesTo (Self.meaning of.value) ⟦<Self::Resolver as Resolver<K>>⟧.meaning result }
         ensures refused { IfErr result (λ error. error ≡ FailedAllocation) };
 }
 

@@ -12,3 +12,7 @@ pub mod Filling
 pub mod Batches
 pub mod Walks
 pub mod Locked
+pub mod PassCalls
+pub mod Comparing
+pub mod LookUps
+pub mod OpenedTexts

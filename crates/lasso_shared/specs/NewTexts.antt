@@ -1,6 +1,11 @@
 -- A text to intern, and how it is kept.
+use Rattle.std.specs.Prelude.{List}
 use Rattle.lasso_parts.specs.Texts.{Text}
-use Rattle.lasso_log.specs.Replies.{Keeping}
+use Rattle.lasso_log.specs.Calls.{Stores}
+use Rattle.lasso_log.specs.History.{Event}
+use Rattle.lasso_log.specs.Notes.{Since}
+use Rattle.lasso_log.specs.Replies.{Keeping, Question, Intern}
+use Rattle.lasso_log.specs.Views.{PassView}
 use Rattle.lasso_shared.specs.declared.shards.new_text.NewText.{NewText}
 use Rattle.lasso_shared.specs.declared.shards.new_text.NewText.TheVariants.{Static, Copied}
 
@@ -13,3 +18,11 @@ keeping_of (Copied text) = Keeping.Copied
 abbrev pub text_of : NewText → Text
 text_of (Static text) = text.now
 text_of (Copied text) = text.now
+
+-- the question that interns the text
+abbrev pub intern_of : NewText → Question
+intern_of text = Intern (keeping_of text) (text_of text)
+
+-- the events of the pass from `before` to `after` are those that store the text's bytes
+abbrev pub StoresText : NewText → (before after : PassView) → Type 0
+StoresText text before after = (own : List Event) × Stores (keeping_of text) (text_of text) own × Since before.number before.notes after.notes own

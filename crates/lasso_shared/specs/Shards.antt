@@ -51,6 +51,10 @@ pub record IsShard (hash_of : Text → ℕ) (number : ℕ) (of : InternerId) (kn
 abbrev pub Counts : (Text → ℕ) → List Text → List ℕ → Type 0
 Counts hash_of texts counts = (i : ℕ) → i < 16 → slice_index_or counts i 0 ≡ count_in hash_of i texts
 
+-- they are, and there are 16 of them
+abbrev pub CountsAll : (Text → ℕ) → List Text → List ℕ → Type 0
+CountsAll hash_of texts counts = (length counts ≡ 16) × Counts hash_of texts counts
+
 -- what the spine's lock keeps: the shards' numbers are those of the list that the spine has seen
 pub record IsTally (hash_of : Text → ℕ) (of : InternerId) (spine : SpineView) (counts : List ℕ) : Type 0 where
   pub mine : spine.of ≡ of

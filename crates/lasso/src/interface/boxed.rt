@@ -1,6 +1,7 @@
 //! The interfaces of a box: those of what it holds, with its meaning.
-ghost use Rattle.std.specs.Prelude.{◌≡◌, Some, IfSome, IfErr, IsOkAnd};
+ghost use Rattle.std.specs.Prelude.{◌≡◌, IfErr};
 ghost use Rattle.lasso_parts.specs.declared.util.LassoErrorKind.TheVariants.{FailedAllocation};
+ghost use Rattle.lasso.specs.Interning.{FreezesTo};
 
 use super::{Interner, IntoReader, IntoResolver, Reader, Resolver};
 use lasso_parts::keys::Key;
@@ -51,7 +52,7 @@ impl<K: Key, I: IntoReader<K>> IntoReader<K> for Box<I> {
     }
 
     fn into_reader_boxed<R: Wait>(of: Box<Box<I>>, rt: &R) -> LassoResult<I::Reader>
-        ensures frozen { IfSome (I.meaning of.value.value) (λ texts. IsOkAnd result (λ reader. ⟦<I::Reader as Resolver<K>>⟧.meaning reader ≡ Some texts)) }
+        ensures frozen { FreezesTo (I.meaning of.value.value) ⟦<I::Reader as Resolver<K>>⟧.meaning result }
         ensures refused { IfErr result (λ error. error ≡ FailedAllocation) }
     {
         I::into_reader_boxed(Box::into_inner(of), rt)
@@ -66,7 +67,7 @@ impl<K: Key, I: IntoResolver<K>> IntoResolver<K> for Box<I> {
     }
 
     fn into_resolver_boxed<R: Wait>(of: Box<Box<I>>, rt: &R) -> LassoResult<I::Resolver>
-        ensures frozen { IfSome (I.meaning of.value.value) (λ texts. IsOkAnd result (λ resolver. ⟦<I::Resolver as Resolver<K>>⟧.meaning resolver ≡ Some texts)) }
+        ensures frozen { FreezesTo (I.meaning of.value.value) ⟦<I::Resolver as Resolver<K>>⟧.meaning result }
         ensures refused { IfErr result (λ error. error ≡ FailedAllocation) }
     {
         I::into_resolver_boxed(Box::into_inner(of), rt)

@@ -4,7 +4,8 @@
 ghost use Rattle.std.specs.Prelude.{◌≡◌, None, IfErr, option_map};
 ghost use Rattle.lasso_parts.specs.declared.util.LassoErrorKind.TheVariants.{FailedAllocation};
 ghost use Rattle.lasso_log.specs.History.{IsOpening};
-ghost use Rattle.lasso_log.specs.Replies.{Copied, Static, Intern, Get, Contains, ContainsKey, Resolve, Len, IsEmpty, Freeze, Interned, Found, Flag, Resolved, Number, Listed};
+ghost use Rattle.lasso_log.specs.Replies.{Copied, Static, Intern, Get, Contains, ContainsKey, Resolve, Len};
+ghost use Rattle.lasso_log.specs.Replies.{IsEmpty, Freeze, Interned, Found, Flag, Resolved, Number, Listed};
 ghost use Rattle.lasso_log.specs.Calls.{IsPlainCall};
 
 use super::{Interner, IntoReader, IntoReaderAndResolver, IntoResolver, Reader, Resolver};

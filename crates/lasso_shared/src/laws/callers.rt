@@ -1,7 +1,8 @@
 //! What callers of a shared interner can rely on, over calls and legal histories alone. Who has called one of these functions
 //! can use its contract, whatever passes and threads made the calls.
 
-ghost use Rattle.lasso_shared.specs.CallerLaws.{CallsTellKeys, SeenTextsKeepKeys, AnsweredKeysResolve, ResolvedTextsStay, KeysAreEqualWhereTextsAre, PassesShare};
+ghost use Rattle.lasso_shared.specs.CallerLaws.{CallsTellKeys, SeenTextsKeepKeys, AnsweredKeysResolve};
+ghost use Rattle.lasso_shared.specs.CallerLaws.{ResolvedTextsStay, KeysAreEqualWhereTextsAre, PassesShare};
 
 use lasso_parts::keys::Key;
 

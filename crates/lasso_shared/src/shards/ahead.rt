@@ -10,8 +10,8 @@ ghost use Rattle.std.specs.Prelude.{◌≡◌, [], Some, IfSome};
 ghost use Rattle.lasso_parts.specs.Texts.{key_of};
 ghost use Rattle.lasso_log.specs.Notes.{Since};
 ghost use Rattle.lasso_log.specs.Replies.{Copied, Intern, Interned, Get, Found};
-ghost use Rattle.lasso_log.specs.Calls.{IsCall};
-ghost use Rattle.lasso_log.specs.Views.{PassView, InternerId, SnapshotView, IsSamePass, list_of, seen};
+ghost use Rattle.lasso_log.specs.Views.{PassView, InternerId, SnapshotView, IsSamePass, list_of};
+ghost use Rattle.lasso_shared.specs.PassCalls.{IsPassCall};
 
 use crate::shards::Shards;
 use crate::shards::guesses::{Guess, Guesses, TOGETHER};
@@ -155,7 +155,7 @@ impl<K: Key, S: BuildHasher + Drop> Shards<K, S> {
         requires of { (pass.old.of ≡ self.now.log) × (ahead.old.list.of ≡ self.now.log) }
         ensures of { ahead.new.list.of ≡ self.now.log }
         ensures same { IsSamePass pass.new pass.old }
-        ensures call { IsCall K.key_at self.now.log.opening (seen pass.old) (seen pass.new) pass.old.number (Intern Copied text.now) (Interned result) }
+        ensures call { IsPassCall K.key_at self.now.log pass.old pass.new (Intern Copied text.now) (Interned result) }
     {
         if ahead.guesses.leaves_out_next() {
             return self.intern_copied(rt, pass, text);
@@ -187,7 +187,7 @@ impl<K: Key, S: BuildHasher + Drop> Shards<K, S> {
         requires of { (pass.old.of ≡ self.now.log) × (ahead.old.list.of ≡ self.now.log) }
         ensures of { ahead.new.list.of ≡ self.now.log }
         ensures same { IsSamePass pass.new pass.old }
-        ensures call { IsCall K.key_at self.now.log.opening (seen pass.old) (seen pass.new) pass.old.number (Get text.now) (Found result) }
+        ensures call { IsPassCall K.key_at self.now.log pass.old pass.new (Get text.now) (Found result) }
     {
         if ahead.guesses.leaves_out_next() {
             return self.get(rt, pass, text);

@@ -1,9 +1,11 @@
 //! Interning and looking up the texts of a list, one after another, with a look ahead at many of them at a time.
-ghost use Rattle.std.specs.Prelude.{◌≡◌, ◌+◌, ◌<◌, ◌⊎◌, length, map, OnOk, OnErr, IfErr, vec_len};
+//!
+//! If hints find most texts when the list comes, each is taken as a single call takes it.
+ghost use Rattle.std.specs.Prelude.{◌≡◌, ◌+◌, ◌<◌, ◌≤◌, ◌⊎◌, length, map, OnOk, OnErr, IfErr, vec_len};
 ghost use Rattle.std.specs.Vec.{vec_capacity};
 ghost use Rattle.lasso_parts.specs.declared.util.LassoErrorKind.TheVariants.{FailedAllocation};
-ghost use Rattle.lasso_log.specs.Views.{PassView, InternerId, IsSamePass, seen};
-ghost use Rattle.lasso_shared.specs.Batches.{AddsInterned, AddsGot, StopsAtText};
+ghost use Rattle.lasso_log.specs.Views.{PassView, InternerId, IsSamePass};
+ghost use Rattle.lasso_shared.specs.PassCalls.{PassInterns, PassGets, PassStopsAt};
 
 use crate::shards::Shards;
 use lasso_log::log::Pass;
@@ -25,12 +27,15 @@ impl<K: Key, S: BuildHasher + Drop> Shards<K, S> {
     ) -> LassoResult<()>
         requires { pass.old.of ≡ self.now.log }
         ensures same { IsSamePass pass.new pass.old }
-        ensures interned { OnOk result (AddsInterned K.key_at self.now.log.opening (seen pass.old) (seen pass.new) pass.old.number (map (λ t. t.now) texts.now) keys.old.items keys.new.items) }
+        ensures interned { OnOk result (PassInterns K.key_at self.now.log pass.old pass.new (map (λ t. t.now) texts.now) keys.old.items keys.new.items) }
         ensures refused { IfErr result (λ error.
             ((error ≡ FailedAllocation) × (pass.new ≡ pass.old) × (keys.new.items ≡ keys.old.items) × (vec_capacity keys.old < vec_len keys.old + length texts.now))
-            ⊎ StopsAtText K.key_at self.now.log.opening (seen pass.old) (seen pass.new) pass.old.number (map (λ t. t.now) texts.now) keys.old.items keys.new.items error) }
+            ⊎ PassStopsAt K.key_at self.now.log pass.old pass.new (map (λ t. t.now) texts.now) keys.old.items keys.new.items error) }
     {
         keys.reserve(texts.len())?;
+        if pass.hints_serve() {
+            return self.intern_each(rt, pass, texts, keys);
+        }
         let mut ahead = self.nothing_ahead();
         for i in 0..texts.len() {
             self.look_ahead(rt, pass, &texts[i..], &mut ahead);
@@ -51,11 +56,15 @@ impl<K: Key, S: BuildHasher + Drop> Shards<K, S> {
     ) -> LassoResult<()>
         requires { pass.old.of ≡ self.now.log }
         ensures same { IsSamePass pass.new pass.old }
-        ensures found { OnOk result (AddsGot K.key_at self.now.log.opening (seen pass.old) (seen pass.new) pass.old.number (map (λ t. t.now) texts.now) keys.old.items keys.new.items) }
+        ensures found { OnOk result (PassGets K.key_at self.now.log pass.old pass.new (map (λ t. t.now) texts.now) keys.old.items keys.new.items) }
         ensures unchanged { OnErr result ((pass.new ≡ pass.old) × (keys.new.items ≡ keys.old.items)) }
         ensures refused { IfErr result (λ error. (error ≡ FailedAllocation) × (vec_capacity keys.old < vec_len keys.old + length texts.now)) }
     {
         keys.reserve(texts.len())?;
+        if pass.hints_serve() {
+            self.get_each(rt, pass, texts, keys);
+            return Ok(());
+        }
         let mut ahead = self.nothing_ahead();
         for i in 0..texts.len() {
             self.look_ahead(rt, pass, &texts[i..], &mut ahead);
@@ -63,5 +72,46 @@ impl<K: Key, S: BuildHasher + Drop> Shards<K, S> {
             keys.push_reserved(found);
         }
         Ok(())
+    }
+
+    // Interns the texts in order with no look ahead. There is room for their keys. It stops at the first text
+    // that is refused.
+    fn intern_each<R: Wait, B: Allocator>(
+        &self,
+        rt: &R,
+        pass: &mut Pass<K>,
+        texts: &[&str],
+        keys: &mut Vec<K, B>,
+    ) -> LassoResult<()>
+        requires of { pass.old.of ≡ self.now.log }
+        requires room { vec_len keys.old + length texts.now ≤ vec_capacity keys.old }
+        ensures same { IsSamePass pass.new pass.old }
+        ensures interned { OnOk result (PassInterns K.key_at self.now.log pass.old pass.new (map (λ t. t.now) texts.now) keys.old.items keys.new.items) }
+        ensures refused { IfErr result (λ error. PassStopsAt K.key_at self.now.log pass.old pass.new (map (λ t. t.now) texts.now) keys.old.items keys.new.items error) }
+    {
+        for i in 0..texts.len() {
+            let key = self.intern_copied(rt, pass, texts[i])?;
+            keys.push_reserved(key);
+        }
+        Ok(())
+    }
+
+    // Looks up the texts in order with no look ahead. There is room for what is found.
+    fn get_each<R: Wait, B: Allocator>(
+        &self,
+        rt: &R,
+        pass: &mut Pass<K>,
+        texts: &[&str],
+        keys: &mut Vec<Option<K>, B>,
+    )
+        requires of { pass.old.of ≡ self.now.log }
+        requires room { vec_len keys.old + length texts.now ≤ vec_capacity keys.old }
+        ensures same { IsSamePass pass.new pass.old }
+        ensures found { PassGets K.key_at self.now.log pass.old pass.new (map (λ t. t.now) texts.now) keys.old.items keys.new.items }
+    {
+        for i in 0..texts.len() {
+            let found = self.get(rt, pass, texts[i]);
+            keys.push_reserved(found);
+        }
     }
 }

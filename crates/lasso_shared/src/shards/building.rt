@@ -7,7 +7,8 @@ ghost use Rattle.lasso_parts.specs.Hashing.{hash_by};
 ghost use Rattle.lasso_parts.specs.Texts.{IsDistinct, Fits};
 ghost use Rattle.lasso_parts.specs.declared.util.LassoErrorKind.TheVariants.{FailedAllocation};
 ghost use Rattle.lasso_log.specs.Views.{list_of};
-ghost use Rattle.lasso_shared.specs.Shards.{Counts, IsShard};
+ghost use Rattle.lasso_shared.specs.Locked.{IsLocked};
+ghost use Rattle.lasso_shared.specs.Shards.{CountsAll};
 
 use crate::shards::shard::{BoxedShard, Shard};
 use crate::shards::tag::{SHARDS, ShardTag, number_of};
@@ -35,7 +36,7 @@ impl<K: Key, S: BuildHasher + Drop> ShardTag<K, S> {
         ensures same { (self.new.log ≡ self.old.log) × (self.new.hasher ≡ self.old.hasher) }
         ensures all { IfOk result (λ made. length made.locks.items ≡ 16) }
         ensures tags { IfOk result (λ made. (i : ℕ) → i < 16 → slice_get made.locks.items i ≡ Some (record self.old { number = i })) }
-        ensures counts { IfOk result (λ made. (length made.counts ≡ 16) × Counts (hash_by S.BuildHasher S.Hasher.Hasher self.old.hasher) (list_of self.old.log []) made.counts) }
+        ensures counts { IfOk result (λ made. CountsAll (hash_by S.BuildHasher S.Hasher.Hasher self.old.hasher) (list_of self.old.log []) made.counts) }
         ensures refused { IfErr result (λ error. error ≡ FailedAllocation) }
     {
         let hashes = self.hashes(alloc, len)?;
@@ -69,7 +70,7 @@ impl<K: Key, S: BuildHasher + Drop> ShardTag<K, S> {
         requires hashes { hashes.now ≡ map (hash_by S.BuildHasher S.Hasher.Hasher self.now.hasher) (list_of self.now.log []) }
         requires distinct { IsDistinct (list_of self.now.log []) }
         requires fits { Fits K.key_at (length (list_of self.now.log [])) }
-        ensures shard { IfOk result (λ s. IsShard (hash_by S.BuildHasher S.Hasher.Hasher self.now.hasher) self.now.number self.now.log s.known s.index s.count) }
+        ensures shard { IfOk result (λ s. IsLocked (hash_by S.BuildHasher S.Hasher.Hasher self.now.hasher) self.now.number self.now.log s) }
         ensures known { IfOk result (λ s. s.known.notes ≡ []) }
         ensures refused { IfErr result (λ error. error ≡ FailedAllocation) }
     {

@@ -4,8 +4,8 @@ ghost use mathlib.Core.List.{IsPrefix};
 ghost use Rattle.lasso_parts.specs.Hashing.{hash_by};
 ghost use Rattle.lasso_log.specs.Notes.{Since};
 ghost use Rattle.lasso_log.specs.Views.{PassView, InternerId, SnapshotView, IsSamePass, list_of};
-ghost use Rattle.lasso_shared.specs.Locked.{IsLocked};
-ghost use Rattle.lasso_shared.specs.Shards.{IsTally, IsWholeShard};
+ghost use Rattle.lasso_shared.specs.Locked.{IsLocked, IsWholeFor};
+ghost use Rattle.lasso_shared.specs.Shards.{IsTally};
 
 use crate::shards::Shards;
 use crate::shards::shard::{BoxedTally, Shard, Tally};
@@ -31,7 +31,7 @@ impl<K: Key, S: BuildHasher + Drop> Shards<K, S> {
         ensures same { IsSamePass pass.new pass.old }
         ensures since { Since pass.old.number pass.old.notes pass.new.notes [] }
         ensures begins { IsPrefix shard.now.known.notes pass.new.notes }
-        ensures whole { result ≡ true → IsWholeShard (hash_by S.BuildHasher S.Hasher.Hasher self.now.hasher) number self.now.log shard.now.known.notes pass.new.notes }
+        ensures whole { result ≡ true → IsWholeFor (hash_by S.BuildHasher S.Hasher.Hasher self.now.hasher) number self.now.log shard.now pass.new }
         ensures list { result ≡ true → list_of self.now.log pass.new.notes ≡ list_of self.now.log tally.now.spine.notes }
     {
         if self.log.len(pass) != tally.spine.len() {
@@ -55,7 +55,7 @@ impl<K: Key, S: BuildHasher + Drop> Shards<K, S> {
         requires begins { IsPrefix shard.now.known.notes pass.old.notes }
         ensures same { IsSamePass pass.new pass.old }
         ensures since { Since pass.old.number pass.old.notes pass.new.notes [] }
-        ensures whole { IsWholeShard (hash_by S.BuildHasher S.Hasher.Hasher self.now.hasher) number self.now.log shard.now.known.notes pass.new.notes }
+        ensures whole { IsWholeFor (hash_by S.BuildHasher S.Hasher.Hasher self.now.hasher) number self.now.log shard.now pass.new }
         ensures spine { result.0 ≡ self.now.spine }
         ensures tally { IsTally (hash_by S.BuildHasher S.Hasher.Hasher self.now.hasher) self.now.log result.1.tally.value.spine result.1.tally.value.counts }
         ensures list { list_of self.now.log pass.new.notes ≡ list_of self.now.log result.1.tally.value.spine.notes }
@@ -85,7 +85,7 @@ impl<K: Key, S: BuildHasher + Drop> Shards<K, S> {
         requires begins { IsPrefix shard.now.known.notes pass.old.notes }
         ensures same { IsSamePass pass.new pass.old }
         ensures since { Since pass.old.number pass.old.notes pass.new.notes [] }
-        ensures whole { IsWholeShard (hash_by S.BuildHasher S.Hasher.Hasher self.now.hasher) number self.now.log shard.now.known.notes pass.new.notes }
+        ensures whole { IsWholeFor (hash_by S.BuildHasher S.Hasher.Hasher self.now.hasher) number self.now.log shard.now pass.new }
     {
         let (guard, held) = self.lock_current(rt, shard, pass, number);
         guard.unlock(rt, held);

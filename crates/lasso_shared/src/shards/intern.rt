@@ -7,10 +7,11 @@
 ghost use Rattle.std.specs.Prelude.{◌≡◌};
 ghost use Rattle.lasso_parts.specs.Hashing.{hash_by};
 ghost use Rattle.lasso_log.specs.Replies.{Copied, Static, Intern, Interned};
-ghost use Rattle.lasso_log.specs.Calls.{IsCall, IsPlainCall};
-ghost use Rattle.lasso_log.specs.Views.{PassView, InternerId, IsSamePass, seen};
-ghost use Rattle.lasso_shared.specs.NewTexts.{keeping_of, text_of};
+ghost use Rattle.lasso_log.specs.Calls.{IsPlainCall};
+ghost use Rattle.lasso_log.specs.Views.{PassView, InternerId, IsSamePass};
+ghost use Rattle.lasso_shared.specs.NewTexts.{text_of, intern_of};
 ghost use Rattle.lasso_shared.specs.Locked.{IsLocked};
+ghost use Rattle.lasso_shared.specs.PassCalls.{IsPassCall};
 ghost use Rattle.lasso_shared.specs.Shards.{shard_of};
 
 use crate::shards::Shards;
@@ -38,7 +39,7 @@ impl<K: Key, S: BuildHasher + Drop> Shards<K, S> {
         requires hashed { hash ≡ hash_by S.BuildHasher S.Hasher.Hasher self.now.hasher (text_of text) }
         requires held { IsLocked (hash_by S.BuildHasher S.Hasher.Hasher self.now.hasher) (shard_of hash) self.now.log shard.old }
         ensures same { IsSamePass pass.new pass.old }
-        ensures call { IsCall K.key_at self.now.log.opening (seen pass.old) (seen pass.new) pass.old.number (Intern (keeping_of text.entry) (text_of text.entry)) (Interned result) }
+        ensures call { IsPassCall K.key_at self.now.log pass.old pass.new (intern_of text.entry) (Interned result) }
         ensures held { IsLocked (hash_by S.BuildHasher S.Hasher.Hasher self.now.hasher) (shard_of hash) self.now.log shard.new }
     {
         if let Some(key) = self.find(shard, pass, hash, text.as_str()) {
@@ -62,7 +63,7 @@ impl<K: Key, S: BuildHasher + Drop> Shards<K, S> {
         requires of { pass.old.of ≡ self.now.log }
         requires hashed { hash ≡ hash_by S.BuildHasher S.Hasher.Hasher self.now.hasher (text_of text) }
         ensures same { IsSamePass pass.new pass.old }
-        ensures call { IsCall K.key_at self.now.log.opening (seen pass.old) (seen pass.new) pass.old.number (Intern (keeping_of text.entry) (text_of text.entry)) (Interned result) }
+        ensures call { IsPassCall K.key_at self.now.log pass.old pass.new (intern_of text.entry) (Interned result) }
     {
         let (guard, mut shard) = self.lock(number_of(hash)).write(rt);
         let reply = self.intern_held(rt, &mut shard.shard, pass, hash, text);
@@ -81,7 +82,7 @@ impl<K: Key, S: BuildHasher + Drop> Shards<K, S> {
     ) -> LassoResult<K>
         requires { pass.old.of ≡ self.now.log }
         ensures same { IsSamePass pass.new pass.old }
-        ensures call { IsCall K.key_at self.now.log.opening (seen pass.old) (seen pass.new) pass.old.number (Intern Static text.now) (Interned result) }
+        ensures call { IsPassCall K.key_at self.now.log pass.old pass.new (Intern Static text.now) (Interned result) }
     {
         let hash = hash_text(&self.hasher, text);
         if let Some(key) = self.peek(rt, pass, hash, text) {
@@ -112,7 +113,7 @@ impl<K: Key, S: BuildHasher + Drop> Shards<K, S> {
     pub fn intern_copied<R: Wait>(&self, rt: &R, pass: &mut Pass<K>, text: &str) -> LassoResult<K>
         requires { pass.old.of ≡ self.now.log }
         ensures same { IsSamePass pass.new pass.old }
-        ensures call { IsCall K.key_at self.now.log.opening (seen pass.old) (seen pass.new) pass.old.number (Intern Copied text.now) (Interned result) }
+        ensures call { IsPassCall K.key_at self.now.log pass.old pass.new (Intern Copied text.now) (Interned result) }
     {
         let hash = hash_text(&self.hasher, text);
         if let Some(key) = self.peek(rt, pass, hash, text) {

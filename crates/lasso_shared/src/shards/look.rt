@@ -1,14 +1,16 @@
 //! Looking a text up: by the hints of a pass, in a shard that is read, and in one that is held.
-ghost use Rattle.std.specs.Prelude.{◌≡◌, ◌<◌, List, [], length, Some, IfSome, IfNone};
+ghost use Rattle.std.specs.Prelude.{◌≡◌, ◌<◌, [], length, Some, IfSome, IfNone};
 ghost use mathlib.Core.List.{IsPrefix};
 ghost use Rattle.lasso_parts.specs.Hashing.{hash_by};
-ghost use Rattle.lasso_parts.specs.Texts.{position_of, key_of};
-ghost use Rattle.lasso_log.specs.History.{IsLegal, Lacks};
-ghost use Rattle.lasso_log.specs.Notes.{NoteView, Since, history};
+ghost use Rattle.lasso_parts.specs.Texts.{key_of};
+ghost use Rattle.lasso_log.specs.History.{Lacks};
+ghost use Rattle.lasso_log.specs.Notes.{Since};
 ghost use Rattle.lasso_log.specs.Replies.{Get, Found};
-ghost use Rattle.lasso_log.specs.Calls.{IsCall, IsPlainCall};
-ghost use Rattle.lasso_log.specs.Views.{PassView, InternerId, SnapshotView, IsSamePass, list_of, seen};
+ghost use Rattle.lasso_log.specs.Calls.{IsPlainCall};
+ghost use Rattle.lasso_log.specs.Views.{PassView, InternerId, SnapshotView, IsSamePass, list_of};
 ghost use Rattle.lasso_shared.specs.Locked.{IsLocked};
+ghost use Rattle.lasso_shared.specs.LookUps.{IsFoundAt, IsKeyAfter, IsKeyOnce};
+ghost use Rattle.lasso_shared.specs.PassCalls.{IsPassCall};
 ghost use Rattle.lasso_shared.specs.Shards.{shard_of};
 
 use crate::shards::Shards;
@@ -45,7 +47,7 @@ impl<K: Key, S: BuildHasher + Drop> Shards<K, S> {
         requires begins { IsPrefix shard.now.known.notes known.now.notes }
         requires hashed { hash ≡ hash_by S.BuildHasher S.Hasher.Hasher self.now.hasher text.now }
         requires held { IsLocked (hash_by S.BuildHasher S.Hasher.Hasher self.now.hasher) (shard_of hash) self.now.log shard.now }
-        ensures found { IfSome result (λ n. (position_of (list_of self.now.log known.now.notes) text.now ≡ Some n) × (n < length (list_of self.now.log known.now.notes))) }
+        ensures found { IfSome result (λ n. IsFoundAt (list_of self.now.log known.now.notes) text.now n) }
         ensures missing { IfNone result (Lacks (list_of self.now.log shard.now.known.notes) text.now) }
     {
         known.prove_legal();
@@ -59,7 +61,7 @@ impl<K: Key, S: BuildHasher + Drop> Shards<K, S> {
     fn find_key(&self, shard: &Shard<K, S>, hash: u64, text: &str) -> Option<K>
         requires hashed { hash ≡ hash_by S.BuildHasher S.Hasher.Hasher self.now.hasher text.now }
         requires held { IsLocked (hash_by S.BuildHasher S.Hasher.Hasher self.now.hasher) (shard_of hash) self.now.log shard.now }
-        ensures found { IfSome result (λ k. IsLegal K.key_at self.now.log.opening (history shard.now.known.notes) × (key_of K.key_at (list_of self.now.log shard.now.known.notes) text.now ≡ Some k)) }
+        ensures found { IfSome result (λ k. IsKeyAfter K.key_at self.now.log shard.now.known.notes text.now k) }
         ensures missing { IfNone result (Lacks (list_of self.now.log shard.now.known.notes) text.now) }
     {
         shard.known.prove_legal();
@@ -143,7 +145,7 @@ impl<K: Key, S: BuildHasher + Drop> Shards<K, S> {
     #[inline(always)]
     pub(super) fn glance<R: Wait>(&self, rt: &R, hash: u64, text: &str) -> Option<K>
         requires hashed { hash ≡ hash_by S.BuildHasher S.Hasher.Hasher self.now.hasher text.now }
-        ensures told { IfSome result (λ k. (notes : List NoteView) × IsLegal K.key_at self.now.log.opening (history notes) × (key_of K.key_at (list_of self.now.log notes) text.now ≡ Some k)) }
+        ensures told { IfSome result (λ k. IsKeyOnce K.key_at self.now.log text.now k) }
     {
         let guard = self.lock(number_of(hash)).read(rt);
         let found = self.find_key(&guard.get().shard, hash, text);
@@ -222,7 +224,7 @@ impl<K: Key, S: BuildHasher + Drop> Shards<K, S> {
     pub fn get<R: Wait>(&self, rt: &R, pass: &mut Pass<K>, text: &str) -> Option<K>
         requires { pass.old.of ≡ self.now.log }
         ensures same { IsSamePass pass.new pass.old }
-        ensures call { IsCall K.key_at self.now.log.opening (seen pass.old) (seen pass.new) pass.old.number (Get text.now) (Found result) }
+        ensures call { IsPassCall K.key_at self.now.log pass.old pass.new (Get text.now) (Found result) }
     {
         let hash = hash_text(&self.hasher, text);
         if let Some(key) = self.follow(pass, hash, text) {

@@ -2,9 +2,10 @@
 ghost use Rattle.std.specs.Prelude.{◌≡◌, ◌≢◌, ◌≤◌, ◌-◌, ◌^◌, [], Err, IfOk, IfErr, length, map};
 ghost use Rattle.lasso_parts.specs.declared.util.LassoErrorKind.TheVariants.{FailedAllocation};
 ghost use Rattle.lasso_parts.specs.Texts.{IsDistinct, Fits};
-ghost use Rattle.lasso_single.specs.Copies.{bytes_of, clone_size};
+ghost use Rattle.lasso_single.specs.Copies.{bytes_of};
 ghost use Rattle.lasso_log.specs.History.{opened};
 ghost use Rattle.lasso_log.specs.Openings.{OpeningView, opening_with};
+ghost use Rattle.lasso_shared.specs.OpenedTexts.{opened_with_copies};
 
 mod from_static;
 
@@ -41,7 +42,7 @@ impl<K: Key, S: BuildHasher + Drop> Shards<K, S> {
     pub fn of_texts(alloc: Global, hasher: S, texts: &[&str]) -> LassoResult<Shards<K, S>>
         requires distinct { IsDistinct (map (λ t. t.now) texts.now) }
         requires fits { Fits K.key_at (length (map (λ t. t.now) texts.now)) }
-        ensures opening { let list = map (λ t. t.now) texts.now in IfOk result (λ s. s.log.opening ≡ opened list (clone_size list) (bytes_of list) (2 ^ 64 - 1)) }
+        ensures opening { IfOk result (λ s. s.log.opening ≡ opened_with_copies (map (λ t. t.now) texts.now)) }
         ensures hasher { IfOk result (λ s. s.hasher ≡ hasher) }
         ensures refused { IfErr result (λ error. error ≡ FailedAllocation) }
         ensures overflow { 2 ^ 64 ≤ bytes_of (map (λ t. t.now) texts.now) → result ≡ Err FailedAllocation }

@@ -16,8 +16,8 @@ ghost use Rattle.lasso_log.specs.Eras.{life};
 ghost use Rattle.lasso_log.specs.History.{Lacks};
 ghost use Rattle.lasso_log.specs.Notes.{Since};
 ghost use Rattle.lasso_log.specs.Pieces.{PieceView};
-ghost use Rattle.lasso_shared.specs.Locked.{IsLocked};
-ghost use Rattle.lasso_shared.specs.Shards.{IsTally, IsWholeShard, PutsLast, shard_of};
+ghost use Rattle.lasso_shared.specs.Locked.{IsLocked, IsWholeFor};
+ghost use Rattle.lasso_shared.specs.Shards.{IsTally, PutsLast, shard_of};
 ghost use Rattle.lasso_log.specs.Views.{PassView, InternerId, SnapshotView, IsSamePass, list_of};
 
 use crate::shards::Shards;
@@ -90,7 +90,7 @@ impl<K: Key, S: BuildHasher + Drop> Shards<K, S> {
         ensures begins { IsPrefix shard.old.known.notes pass.new.notes }
         ensures held { IsLocked (hash_by S.BuildHasher S.Hasher.Hasher self.now.hasher) number self.now.log shard.new }
         ensures known { shard.new.known ≡ shard.old.known }
-        ensures whole { OnErr result (IsWholeShard (hash_by S.BuildHasher S.Hasher.Hasher self.now.hasher) number self.now.log shard.old.known.notes pass.new.notes) }
+        ensures whole { OnErr result (IsWholeFor (hash_by S.BuildHasher S.Hasher.Hasher self.now.hasher) number self.now.log shard.old pass.new) }
         ensures room { OnOk result (0 < room shard.new.index.slots) }
         ensures ahead { IfOk result (λ a. (a.of ≡ self.now.log) × (a.notes ≡ pass.new.notes)) }
         ensures refused { IfErr result (λ error. error ≡ FailedAllocation) }
@@ -121,7 +121,7 @@ impl<K: Key, S: BuildHasher + Drop> Shards<K, S> {
         requires hashed { hash ≡ hash_by S.BuildHasher S.Hasher.Hasher self.now.hasher text.text }
         requires held { IsLocked (hash_by S.BuildHasher S.Hasher.Hasher self.now.hasher) (shard_of hash) self.now.log shard.old }
         requires tally { IsTally (hash_by S.BuildHasher S.Hasher.Hasher self.now.hasher) self.now.log tally.old.spine tally.old.counts }
-        requires whole { IsWholeShard (hash_by S.BuildHasher S.Hasher.Hasher self.now.hasher) (shard_of hash) self.now.log shard.old.known.notes pass.old.notes }
+        requires whole { IsWholeFor (hash_by S.BuildHasher S.Hasher.Hasher self.now.hasher) (shard_of hash) self.now.log shard.old pass.old }
         requires list { list_of self.now.log pass.old.notes ≡ list_of self.now.log tally.old.spine.notes }
         requires lacks { Lacks (list_of self.now.log shard.old.known.notes) text.text }
         requires room { 0 < room shard.old.index.slots }

@@ -43,9 +43,9 @@ impl<K: Key, S: BuildHasher + Drop> Fits for BoxedShard<K, S> {
     type Tag = ShardTag<K, S>;
 
     ghost use Rattle.lasso_parts.specs.Hashing.{hash_by};
-    ghost use Rattle.lasso_shared.specs.Shards.{IsShard};
+    ghost use Rattle.lasso_shared.specs.Locked.{IsLocked};
 
-    ghost fits = { λ tag b. IsShard (hash_by S.BuildHasher S.Hasher.Hasher tag.hasher) tag.number tag.log b.shard.value.known b.shard.value.index b.shard.value.count };
+    ghost fits = { λ tag b. IsLocked (hash_by S.BuildHasher S.Hasher.Hasher tag.hasher) tag.number tag.log b.shard.value };
 }
 
 /// The spine, and how many texts each shard has in the history that the spine has seen.

@@ -7,7 +7,7 @@ ghost use Rattle.std.specs.Prelude.{◌≡◌, ◌≢◌, [], List, length, Err,
 ghost use mathlib.Core.List.{IsPrefix};
 ghost use base.Fml.{Incl};
 ghost use Rattle.lasso_parts.specs.Hashing.{hash_by};
-ghost use Rattle.lasso_log.specs.Calls.{IsCall, TakesBytes, Stores};
+ghost use Rattle.lasso_log.specs.Calls.{TakesBytes};
 ghost use Rattle.lasso_log.specs.Charges.{IsRefusal};
 ghost use Rattle.lasso_log.specs.Chunks.{era_named};
 ghost use Rattle.lasso_log.specs.Eras.{life};
@@ -15,10 +15,11 @@ ghost use Rattle.lasso_log.specs.History.{Event, Lacks};
 ghost use Rattle.lasso_log.specs.Notes.{Since};
 ghost use Rattle.lasso_log.specs.Pieces.{PieceView, RangeView};
 ghost use Rattle.lasso_log.specs.Replies.{Copied, Intern, Interned};
-ghost use Rattle.lasso_shared.specs.NewTexts.{keeping_of, text_of};
+ghost use Rattle.lasso_shared.specs.NewTexts.{keeping_of, text_of, intern_of, StoresText};
 ghost use Rattle.lasso_shared.specs.Locked.{IsLocked};
+ghost use Rattle.lasso_shared.specs.PassCalls.{IsPassCall};
 ghost use Rattle.lasso_shared.specs.Shards.{shard_of};
-ghost use Rattle.lasso_log.specs.Views.{PassView, InternerId, SpineView, IsSamePass, IsSameSpine, list_of, seen};
+ghost use Rattle.lasso_log.specs.Views.{PassView, InternerId, SpineView, IsSamePass, IsSameSpine, list_of};
 
 use crate::shards::Shards;
 use crate::shards::new_text::NewText;
@@ -79,7 +80,7 @@ impl<K: Key, S: BuildHasher + Drop> Shards<K, S> {
         ensures same { IsSamePass pass.new pass.old }
         ensures event { IfOk result (λ r. (own : List Event) × TakesBytes (length text.now) own × Since pass.old.number pass.old.notes pass.new.notes own) }
         ensures range { IfOk result (λ r. (r.era ≡ era_named self.now.log.chunks) × (r.len ≡ length text.now)) }
-        ensures refused { IfErr result (λ error. IsCall K.key_at self.now.log.opening (seen pass.old) (seen pass.new) pass.old.number (Intern Copied text.now) (Interned (Err error))) }
+        ensures refused { IfErr result (λ error. IsPassCall K.key_at self.now.log pass.old pass.new (Intern Copied text.now) (Interned (Err error))) }
     {
         let bytes = text.len() as u64;
         if let Some(range) = self.log.reserve_anywhere(rt, &self.buckets, pass, bytes) {
@@ -107,10 +108,10 @@ impl<K: Key, S: BuildHasher + Drop> Shards<K, S> {
         requires begins { IsPrefix shard.now.known.notes pass.old.notes }
         requires lacks { Lacks (list_of self.now.log shard.now.known.notes) (text_of text) }
         ensures same { IsSamePass pass.new pass.old }
-        ensures event { IfOk result (λ p. (own : List Event) × Stores (keeping_of text.entry) (text_of text.entry) own × Since pass.old.number pass.old.notes pass.new.notes own) }
+        ensures event { IfOk result (λ p. StoresText text.entry pass.old pass.new) }
         ensures piece { IfOk result (λ p. (p.text ≡ text_of text.entry) × Incl (life (era_named self.now.log.chunks)) p.until) }
         ensures lies { IfOk result (λ p. keeping_of text.entry ≡ Copied → text_of text.entry ≢ [] → p.until ≡ life (era_named self.now.log.chunks)) }
-        ensures refused { IfErr result (λ error. IsCall K.key_at self.now.log.opening (seen pass.old) (seen pass.new) pass.old.number (Intern (keeping_of text.entry) (text_of text.entry)) (Interned (Err error))) }
+        ensures refused { IfErr result (λ error. IsPassCall K.key_at self.now.log pass.old pass.new (intern_of text.entry) (Interned (Err error))) }
     {
         let text = match text {
             NewText::Static(text) => return Ok(Piece::from_static(text)),

@@ -4,7 +4,7 @@ ghost use Rattle.std.specs.Vec.{vec_capacity};
 ghost use Rattle.lasso_parts.specs.declared.util.LassoErrorKind.TheVariants.{FailedAllocation};
 ghost use Rattle.lasso_log.specs.History.{IsLegal, IsOpening};
 ghost use Rattle.lasso_log.specs.Views.{PassView, InternerId, IsSamePass, seen};
-ghost use Rattle.lasso_shared.specs.Batches.{AddsInterned, AddsGot, StopsAtText};
+ghost use Rattle.lasso_shared.specs.PassCalls.{PassInterns, PassGets, PassStopsAt};
 
 use crate::threaded::ThreadedRodeo;
 use lasso_log::log::Pass;
@@ -41,10 +41,10 @@ impl<K: Key, S: BuildHasher + Drop> ThreadedRodeo<K, S> {
     ) -> LassoResult<()>
         requires { pass.old.of ≡ self.now }
         ensures same { IsSamePass pass.new pass.old }
-        ensures interned { OnOk result (AddsInterned K.key_at self.now.opening (seen pass.old) (seen pass.new) pass.old.number (map (λ t. t.now) texts.now) keys.old.items keys.new.items) }
+        ensures interned { OnOk result (PassInterns K.key_at self.now pass.old pass.new (map (λ t. t.now) texts.now) keys.old.items keys.new.items) }
         ensures refused { IfErr result (λ error.
             ((error ≡ FailedAllocation) × (pass.new ≡ pass.old) × (keys.new.items ≡ keys.old.items) × (vec_capacity keys.old < vec_len keys.old + length texts.now))
-            ⊎ StopsAtText K.key_at self.now.opening (seen pass.old) (seen pass.new) pass.old.number (map (λ t. t.now) texts.now) keys.old.items keys.new.items error) }
+            ⊎ PassStopsAt K.key_at self.now pass.old pass.new (map (λ t. t.now) texts.now) keys.old.items keys.new.items error) }
         ensures opening { IsOpening K.key_at self.now.opening }
         ensures legal { IsLegal K.key_at self.now.opening (seen pass.new) }
     {
@@ -78,7 +78,7 @@ impl<K: Key, S: BuildHasher + Drop> ThreadedRodeo<K, S> {
     ) -> LassoResult<()>
         requires { pass.old.of ≡ self.now }
         ensures same { IsSamePass pass.new pass.old }
-        ensures found { OnOk result (AddsGot K.key_at self.now.opening (seen pass.old) (seen pass.new) pass.old.number (map (λ t. t.now) texts.now) keys.old.items keys.new.items) }
+        ensures found { OnOk result (PassGets K.key_at self.now pass.old pass.new (map (λ t. t.now) texts.now) keys.old.items keys.new.items) }
         ensures unchanged { OnErr result ((pass.new ≡ pass.old) × (keys.new.items ≡ keys.old.items)) }
         ensures refused { IfErr result (λ error. (error ≡ FailedAllocation) × (vec_capacity keys.old < vec_len keys.old + length texts.now)) }
         ensures opening { IsOpening K.key_at self.now.opening }

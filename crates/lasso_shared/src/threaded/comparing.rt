@@ -5,6 +5,7 @@ ghost use Rattle.lasso_log.specs.History.{IsOpening};
 ghost use Rattle.lasso_log.specs.Replies.{Strings, Listed};
 ghost use Rattle.lasso_log.specs.Calls.{IsPlainCall};
 ghost use Rattle.lasso_log.specs.Views.{PassView, InternerId};
+ghost use Rattle.lasso_shared.specs.Comparing.{ComparesList};
 
 use crate::threaded::ThreadedRodeo;
 use lasso_parts::index::Texts;
@@ -59,7 +60,7 @@ impl<K: Key, S: BuildHasher + Drop> ThreadedRodeo<K, S> {
         _rt: &R,
         rodeo: &Rodeo<K, T, A>,
     ) -> bool
-        ensures list { (list : List Text) × IsPlainCall K.key_at self.now.opening Strings (Listed (Ok list)) × (IsTrue result ↔ (list ≡ rodeo.now.texts)) }
+        ensures list { ComparesList K.key_at self.now.opening rodeo.now.texts result }
         ensures opening { IsOpening K.key_at self.now.opening }
     {
         self.eq_texts(rodeo, rodeo.len())
@@ -72,7 +73,7 @@ impl<K: Key, S: BuildHasher + Drop> ThreadedRodeo<K, S> {
         _rt: &R,
         reader: &RodeoReader<K, T, A>,
     ) -> bool
-        ensures list { (list : List Text) × IsPlainCall K.key_at self.now.opening Strings (Listed (Ok list)) × (IsTrue result ↔ (list ≡ reader.now)) }
+        ensures list { ComparesList K.key_at self.now.opening reader.now result }
         ensures opening { IsOpening K.key_at self.now.opening }
     {
         self.eq_texts(reader, reader.len())
@@ -85,7 +86,7 @@ impl<K: Key, S: BuildHasher + Drop> ThreadedRodeo<K, S> {
         _rt: &R,
         resolver: &RodeoResolver<K, A>,
     ) -> bool
-        ensures list { (list : List Text) × IsPlainCall K.key_at self.now.opening Strings (Listed (Ok list)) × (IsTrue result ↔ (list ≡ resolver.now)) }
+        ensures list { ComparesList K.key_at self.now.opening resolver.now result }
         ensures opening { IsOpening K.key_at self.now.opening }
     {
         self.eq_texts(resolver, resolver.len())
@@ -94,7 +95,7 @@ impl<K: Key, S: BuildHasher + Drop> ThreadedRodeo<K, S> {
     // Whether the list at one step is the other one, which must have `other_len` texts.
     fn eq_texts<T: Texts>(&self, other: &T, other_len: usize) -> bool
         requires { other_len ≡ length (T.list other.now) }
-        ensures list { (list : List Text) × IsPlainCall K.key_at self.now.opening Strings (Listed (Ok list)) × (IsTrue result ↔ (list ≡ T.list other.now)) }
+        ensures list { ComparesList K.key_at self.now.opening (T.list other.now) result }
         ensures opening { IsOpening K.key_at self.now.opening }
     {
         let mut pass = self.pass();

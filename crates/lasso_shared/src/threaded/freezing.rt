@@ -4,10 +4,11 @@ ghost use Rattle.lasso_parts.specs.Texts.{IsDistinct, Fits};
 ghost use Rattle.lasso_parts.specs.declared.util.LassoErrorKind.TheVariants.{FailedAllocation};
 ghost use Rattle.lasso_single.specs.Copies.{bytes_of, clone_size};
 ghost use Rattle.lasso_single.specs.Interner.{IsMadeWith};
-ghost use Rattle.lasso_log.specs.History.{IsLegal, IsOpening, totals};
+ghost use Rattle.lasso_log.specs.History.{IsLegal, IsOpening};
 ghost use Rattle.lasso_log.specs.Replies.{Freeze, Listed};
-ghost use Rattle.lasso_log.specs.Calls.{IsCall, IsPlainCall};
-ghost use Rattle.lasso_log.specs.Views.{PassView, InternerId, IsSamePass, seen};
+ghost use Rattle.lasso_log.specs.Calls.{IsPlainCall};
+ghost use Rattle.lasso_log.specs.Views.{PassView, InternerId, IsSamePass, list_of, seen};
+ghost use Rattle.lasso_shared.specs.PassCalls.{IsPassCall};
 
 use crate::shards::parts::Parts;
 use crate::threaded::ThreadedRodeo;
@@ -44,8 +45,8 @@ impl<K: Key, S: BuildHasher + Drop> ThreadedRodeo<K, S> {
     ) -> LassoResult<RodeoReader<K, S, Global>>
         requires { pass.old.of ≡ self }
         ensures same { IsSamePass pass.new pass.old }
-        ensures call { IsCall K.key_at self.opening (seen pass.old) (seen pass.new) pass.old.number Freeze (Listed result) }
-        ensures overflow { 2 ^ 64 ≤ bytes_of (totals self.opening (seen pass.new)).texts → result ≡ Err FailedAllocation }
+        ensures call { IsPassCall K.key_at self pass.old pass.new Freeze (Listed result) }
+        ensures overflow { 2 ^ 64 ≤ bytes_of (list_of self pass.new.notes) → result ≡ Err FailedAllocation }
         ensures opening { IsOpening K.key_at self.opening }
         ensures legal { IsLegal K.key_at self.opening (seen pass.new) }
     {

@@ -2,8 +2,8 @@
 ghost use Rattle.std.specs.Prelude.{◌≡◌};
 ghost use Rattle.lasso_log.specs.History.{IsLegal, IsOpening};
 ghost use Rattle.lasso_log.specs.Replies.{Copied, Static, Intern, Interned};
-ghost use Rattle.lasso_log.specs.Calls.{IsCall};
 ghost use Rattle.lasso_log.specs.Views.{PassView, InternerId, IsSamePass, seen};
+ghost use Rattle.lasso_shared.specs.PassCalls.{IsPassCall};
 
 use crate::threaded::ThreadedRodeo;
 use lasso_log::log::Pass;
@@ -33,7 +33,7 @@ impl<K: Key, S: BuildHasher + Drop> ThreadedRodeo<K, S> {
     ) -> LassoResult<K>
         requires { pass.old.of ≡ self.now }
         ensures same { IsSamePass pass.new pass.old }
-        ensures call { IsCall K.key_at self.now.opening (seen pass.old) (seen pass.new) pass.old.number (Intern Copied text.now) (Interned result) }
+        ensures call { IsPassCall K.key_at self.now pass.old pass.new (Intern Copied text.now) (Interned result) }
         ensures opening { IsOpening K.key_at self.now.opening }
         ensures legal { IsLegal K.key_at self.now.opening (seen pass.new) }
     {
@@ -62,7 +62,7 @@ impl<K: Key, S: BuildHasher + Drop> ThreadedRodeo<K, S> {
     ) -> LassoResult<K>
         requires { pass.old.of ≡ self.now }
         ensures same { IsSamePass pass.new pass.old }
-        ensures call { IsCall K.key_at self.now.opening (seen pass.old) (seen pass.new) pass.old.number (Intern Static text.now) (Interned result) }
+        ensures call { IsPassCall K.key_at self.now pass.old pass.new (Intern Static text.now) (Interned result) }
         ensures opening { IsOpening K.key_at self.now.opening }
         ensures legal { IsLegal K.key_at self.now.opening (seen pass.new) }
     {

@@ -1,17 +1,18 @@
 //! An interner that threads share as JSON: the object from its texts to their positions plus one. It is read from such an object, or from
 //! the array of its texts.
-ghost use Rattle.std.specs.Prelude.{◌≡◌, ◌⊎◌, ◌≤◌, ◌<◌, ◌-◌, ◌^◌, List, Ok, Err, IfOk, IfErr, length, map};
+ghost use Rattle.std.specs.Prelude.{◌≡◌, ◌⊎◌, ◌<◌, List, Ok, Err, IfOk, IfErr, length, map};
 ghost use Rattle.serde_json.specs.View.{view};
 ghost use Rattle.lasso_parts.specs.declared.util.LassoErrorKind.TheVariants.{FailedAllocation};
-ghost use Rattle.lasso_parts.specs.Json.{json_array, shown, ReadsOr, TakesText};
-ghost use Rattle.lasso_parts.specs.JsonObjects.{json_object, TakesPosition};
+ghost use Rattle.lasso_parts.specs.Json.{shown};
+ghost use Rattle.lasso_parts.specs.JsonObjects.{json_object};
 ghost use Rattle.lasso_parts.specs.Texts.{Text, IsDistinct, Fits};
-ghost use Rattle.lasso_single.specs.Copies.{bytes_of, clone_size};
-ghost use Rattle.lasso_log.specs.Calls.{IsCall, IsPlainCall};
-ghost use Rattle.lasso_log.specs.History.{IsLegal, IsOpening, opened, totals};
+ghost use Rattle.lasso_log.specs.Calls.{IsPlainCall};
+ghost use Rattle.lasso_log.specs.History.{IsLegal, IsOpening};
 ghost use Rattle.lasso_log.specs.Replies.{Serialize, Listed};
-ghost use Rattle.lasso_log.specs.Views.{PassView, InternerId, IsSamePass, seen};
-ghost use Rattle.lasso_shared.specs.Json.{ReadsShared, read_list, written_of};
+ghost use Rattle.lasso_log.specs.Views.{PassView, InternerId, IsSamePass, list_of, seen};
+ghost use Rattle.lasso_shared.specs.Json.{IsJsonOf, ReadsShared, ReadsList, RefusesTooLong, written_of};
+ghost use Rattle.lasso_shared.specs.OpenedTexts.{opened_with_copies};
+ghost use Rattle.lasso_shared.specs.PassCalls.{IsPassCall};
 
 use crate::shards::Shards;
 use crate::threaded::ThreadedRodeo;
@@ -40,9 +41,9 @@ impl<K: Key, S: BuildHasher + Drop> ThreadedRodeo<K, S> {
     pub fn serialize_as(&self, alloc: Global, pass: &mut Pass<K>) -> Result<Value, JsonError>
         requires { pass.old.of ≡ self.now }
         ensures same { IsSamePass pass.new pass.old }
-        ensures call { IsCall K.key_at self.now.opening (seen pass.old) (seen pass.new) pass.old.number Serialize (Listed (written_of (totals self.now.opening (seen pass.new)).texts result)) }
-        ensures written { IfOk result (λ value. view value ≡ json_object (totals self.now.opening (seen pass.new)).texts) }
-        ensures refused { IfErr result (λ error. (error ≡ JsonError.Lasso FailedAllocation) × (0 < length (totals self.now.opening (seen pass.new)).texts)) }
+        ensures call { IsPassCall K.key_at self.now pass.old pass.new Serialize (Listed (written_of (list_of self.now pass.new.notes) result)) }
+        ensures written { IfOk result (λ value. view value ≡ json_object (list_of self.now pass.new.notes)) }
+        ensures refused { IfErr result (λ error. (error ≡ JsonError.Lasso FailedAllocation) × (0 < length (list_of self.now pass.new.notes))) }
         ensures opening { IsOpening K.key_at self.now.opening }
         ensures legal { IsLegal K.key_at self.now.opening (seen pass.new) }
     {
@@ -92,10 +93,10 @@ impl<K: Key, S: BuildHasher + Default + Drop> ThreadedRodeo<K, S> {
     /// ```
     pub fn deserialize(alloc: Global, value: &Value) -> Result<Self, JsonError>
         ensures read { ReadsShared K.key_at (view value.now) (shown (λ t. t.opening.texts) result) }
-        ensures opening { IfOk result (λ t. let list = t.opening.texts in t.opening ≡ opened list (clone_size list) (bytes_of list) (2 ^ 64 - 1)) }
-        ensures back { (list : List Text) → IsDistinct list → Fits K.key_at (length list) → (view value.now ≡ json_object list) ⊎ (view value.now ≡ json_array list)
+        ensures opening { IfOk result (λ t. t.opening ≡ opened_with_copies t.opening.texts) }
+        ensures back { (list : List Text) → IsDistinct list → Fits K.key_at (length list) → IsJsonOf list (view value.now)
             → (shown (λ t. t.opening.texts) result ≡ Ok list) ⊎ (result ≡ Err (JsonError.Lasso FailedAllocation)) }
-        ensures overflow { (list : List Text) → read_list K.key_at (view value.now) ≡ Ok list → 2 ^ 64 ≤ bytes_of list → result ≡ Err (JsonError.Lasso FailedAllocation) }
+        ensures overflow { RefusesTooLong K.key_at (view value.now) result }
     {
         let texts = texts_of::<K>(alloc, value)?;
         let shards = Shards::of_texts(alloc, S::default(), texts.as_slice())?;
@@ -105,7 +106,7 @@ impl<K: Key, S: BuildHasher + Default + Drop> ThreadedRodeo<K, S> {
 
 // The texts of an array or of an object. A value that is neither is reported as no object.
 fn texts_of<K: Key>(alloc: Global, value: &Value) -> Result<Vec<&str>, JsonError>
-    ensures read { ReadsOr (TakesText K.key_at (view value.now) ⊎ TakesPosition K.key_at (view value.now)) (read_list K.key_at (view value.now)) (shown (λ texts. map (λ t. t.now) texts.items) result) }
+    ensures read { ReadsList K.key_at (view value.now) (shown (λ texts. map (λ t. t.now) texts.items) result) }
     ensures distinct { IfOk result (λ texts. IsDistinct (map (λ t. t.now) texts.items)) }
     ensures fits { IfOk result (λ texts. Fits K.key_at (length (map (λ t. t.now) texts.items))) }
 {

@@ -2,8 +2,8 @@
 ghost use Rattle.std.specs.Prelude.{◌≡◌};
 ghost use Rattle.lasso_log.specs.History.{IsLegal, IsOpening};
 ghost use Rattle.lasso_log.specs.Replies.{Usage, MaxUsage, SetLimit, Number, Done};
-ghost use Rattle.lasso_log.specs.Calls.{IsCall};
 ghost use Rattle.lasso_log.specs.Views.{PassView, InternerId, IsSamePass, seen};
+ghost use Rattle.lasso_shared.specs.PassCalls.{IsPassCall};
 
 use crate::threaded::ThreadedRodeo;
 use lasso_log::log::Pass;
@@ -25,7 +25,7 @@ impl<K: Key, S: BuildHasher + Drop> ThreadedRodeo<K, S> {
     pub fn current_memory_usage_as<R: Wait>(&self, rt: &R, pass: &mut Pass<K>) -> usize
         requires { pass.old.of ≡ self.now }
         ensures same { IsSamePass pass.new pass.old }
-        ensures call { IsCall K.key_at self.now.opening (seen pass.old) (seen pass.new) pass.old.number Usage (Number result) }
+        ensures call { IsPassCall K.key_at self.now pass.old pass.new Usage (Number result) }
         ensures opening { IsOpening K.key_at self.now.opening }
         ensures legal { IsLegal K.key_at self.now.opening (seen pass.new) }
     {
@@ -47,7 +47,7 @@ impl<K: Key, S: BuildHasher + Drop> ThreadedRodeo<K, S> {
     pub fn max_memory_usage_as<R: Wait>(&self, rt: &R, pass: &mut Pass<K>) -> usize
         requires { pass.old.of ≡ self.now }
         ensures same { IsSamePass pass.new pass.old }
-        ensures call { IsCall K.key_at self.now.opening (seen pass.old) (seen pass.new) pass.old.number MaxUsage (Number result) }
+        ensures call { IsPassCall K.key_at self.now pass.old pass.new MaxUsage (Number result) }
         ensures opening { IsOpening K.key_at self.now.opening }
         ensures legal { IsLegal K.key_at self.now.opening (seen pass.new) }
     {
@@ -71,7 +71,7 @@ impl<K: Key, S: BuildHasher + Drop> ThreadedRodeo<K, S> {
     pub fn set_memory_limits_as<R: Wait>(&self, rt: &R, pass: &mut Pass<K>, limits: MemoryLimits)
         requires { pass.old.of ≡ self.now }
         ensures same { IsSamePass pass.new pass.old }
-        ensures call { IsCall K.key_at self.now.opening (seen pass.old) (seen pass.new) pass.old.number (SetLimit limits) Done }
+        ensures call { IsPassCall K.key_at self.now pass.old pass.new (SetLimit limits) Done }
         ensures opening { IsOpening K.key_at self.now.opening }
         ensures legal { IsLegal K.key_at self.now.opening (seen pass.new) }
     {

@@ -2,8 +2,8 @@
 ghost use Rattle.std.specs.Prelude.{◌≡◌, option_map};
 ghost use Rattle.lasso_log.specs.History.{IsLegal, IsOpening};
 ghost use Rattle.lasso_log.specs.Replies.{Get, ContainsKey, Resolve, Len, Found, Flag, Resolved, Number};
-ghost use Rattle.lasso_log.specs.Calls.{IsCall};
 ghost use Rattle.lasso_log.specs.Views.{PassView, InternerId, IsSamePass, seen};
+ghost use Rattle.lasso_shared.specs.PassCalls.{IsPassCall};
 
 use crate::threaded::ThreadedRodeo;
 use lasso_log::log::Pass;
@@ -26,7 +26,7 @@ impl<K: Key, S: BuildHasher + Drop> ThreadedRodeo<K, S> {
     pub fn get_as<R: Wait>(&self, rt: &R, pass: &mut Pass<K>, text: &str) -> Option<K>
         requires { pass.old.of ≡ self.now }
         ensures same { IsSamePass pass.new pass.old }
-        ensures call { IsCall K.key_at self.now.opening (seen pass.old) (seen pass.new) pass.old.number (Get text.now) (Found result) }
+        ensures call { IsPassCall K.key_at self.now pass.old pass.new (Get text.now) (Found result) }
         ensures opening { IsOpening K.key_at self.now.opening }
         ensures legal { IsLegal K.key_at self.now.opening (seen pass.new) }
     {
@@ -48,7 +48,7 @@ impl<K: Key, S: BuildHasher + Drop> ThreadedRodeo<K, S> {
     pub fn contains_key_as(&self, pass: &mut Pass<K>, key: K) -> bool
         requires { pass.old.of ≡ self.now }
         ensures same { IsSamePass pass.new pass.old }
-        ensures call { IsCall K.key_at self.now.opening (seen pass.old) (seen pass.new) pass.old.number (ContainsKey (K.number key)) (Flag result) }
+        ensures call { IsPassCall K.key_at self.now pass.old pass.new (ContainsKey (K.number key)) (Flag result) }
         ensures opening { IsOpening K.key_at self.now.opening }
         ensures legal { IsLegal K.key_at self.now.opening (seen pass.new) }
     {
@@ -69,7 +69,7 @@ impl<K: Key, S: BuildHasher + Drop> ThreadedRodeo<K, S> {
     pub fn try_resolve_as(&self, pass: &mut Pass<K>, key: K) -> Option<&str>
         requires { pass.old.of ≡ self.now }
         ensures same { IsSamePass pass.new pass.old }
-        ensures call { IsCall K.key_at self.now.opening (seen pass.old) (seen pass.new) pass.old.number (Resolve (K.number key)) (Resolved (option_map (λ t. t.now) result)) }
+        ensures call { IsPassCall K.key_at self.now pass.old pass.new (Resolve (K.number key)) (Resolved (option_map (λ t. t.now) result)) }
         ensures opening { IsOpening K.key_at self.now.opening }
         ensures legal { IsLegal K.key_at self.now.opening (seen pass.new) }
     {
@@ -91,7 +91,7 @@ impl<K: Key, S: BuildHasher + Drop> ThreadedRodeo<K, S> {
     pub fn len_as(&self, pass: &mut Pass<K>) -> usize
         requires { pass.old.of ≡ self.now }
         ensures same { IsSamePass pass.new pass.old }
-        ensures call { IsCall K.key_at self.now.opening (seen pass.old) (seen pass.new) pass.old.number Len (Number result) }
+        ensures call { IsPassCall K.key_at self.now pass.old pass.new Len (Number result) }
         ensures opening { IsOpening K.key_at self.now.opening }
         ensures legal { IsLegal K.key_at self.now.opening (seen pass.new) }
     {

@@ -4,7 +4,8 @@
 //! always a number that no event of the history has.
 ghost use Rattle.std.specs.Prelude.{◌≡◌, ◌≤◌, ℕ, Ok, option_map};
 ghost use Rattle.lasso_log.specs.History.{IsOpening};
-ghost use Rattle.lasso_log.specs.Replies.{Copied, Static, Intern, Get, Contains, ContainsKey, Resolve, Len, IsEmpty, Usage, MaxUsage, SetLimit, Interned, Found, Flag, Resolved, Number, Done};
+ghost use Rattle.lasso_log.specs.Replies.{Copied, Static, Intern, Get, Contains, ContainsKey, Resolve, Len, IsEmpty, Usage, MaxUsage, SetLimit};
+ghost use Rattle.lasso_log.specs.Replies.{Interned, Found, Flag, Resolved, Number, Done};
 ghost use Rattle.lasso_log.specs.Replies as replies;
 ghost use Rattle.lasso_log.specs.Calls.{IsPlainCall};
 ghost use Rattle.lasso_log.specs.Views.{InternerId};

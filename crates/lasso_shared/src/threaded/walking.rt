@@ -5,8 +5,8 @@ ghost use Rattle.std.specs.Iterator.{YieldsFirstBy, item_count, at_most, UpTo};
 ghost use Rattle.std.specs.Iterator.SizeHint.{IsWithinCount};
 ghost use Rattle.lasso_log.specs.History.{IsLegal, IsOpening};
 ghost use Rattle.lasso_log.specs.Replies as replies;
-ghost use Rattle.lasso_log.specs.Calls.{IsCall};
 ghost use Rattle.lasso_log.specs.Views.{PassView, InternerId, IsSamePass, seen};
+ghost use Rattle.lasso_shared.specs.PassCalls.{IsPassCall};
 
 mod debug;
 
@@ -159,7 +159,7 @@ impl<K: Key, S: BuildHasher + Drop> ThreadedRodeo<K, S> {
     pub fn iter_as(&self, pass: &mut Pass<K>) -> Iter<'_, K>
         requires { pass.old.of ≡ self.now }
         ensures same { IsSamePass pass.new pass.old }
-        ensures call { IsCall K.key_at self.now.opening (seen pass.old) (seen pass.new) pass.old.number replies.Iterate (replies.Pairs result) }
+        ensures call { IsPassCall K.key_at self.now pass.old pass.new replies.Iterate (replies.Pairs result) }
         ensures opening { IsOpening K.key_at self.now.opening }
         ensures legal { IsLegal K.key_at self.now.opening (seen pass.new) }
     {
@@ -172,7 +172,7 @@ impl<K: Key, S: BuildHasher + Drop> ThreadedRodeo<K, S> {
     pub fn strings_as(&self, pass: &mut Pass<K>) -> Strings<'_, K>
         requires { pass.old.of ≡ self.now }
         ensures same { IsSamePass pass.new pass.old }
-        ensures call { IsCall K.key_at self.now.opening (seen pass.old) (seen pass.new) pass.old.number replies.Strings (replies.Listed (Ok result)) }
+        ensures call { IsPassCall K.key_at self.now pass.old pass.new replies.Strings (replies.Listed (Ok result)) }
         ensures opening { IsOpening K.key_at self.now.opening }
         ensures legal { IsLegal K.key_at self.now.opening (seen pass.new) }
     {

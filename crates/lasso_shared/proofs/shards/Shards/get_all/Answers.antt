@@ -6,6 +6,12 @@ use Rattle.lasso_single.proofs.KeyLists.{texts_more}
 use Rattle.lasso_shared.proofs.Batched.{GotSo, got_none, got_push, called_after}
 use Rattle.lasso_shared.proofs.shards.Shards.get_all.Goals as goal
 
+pub get_each-requires-clause-room : goal.get_each-requires-clause-room
+get_each-requires-clause-room g c = omega (arith, c.in_ok-reserve.ensures.ok)
+
+pub returns-then-hints_serve-clause-found : goal.returns-then-hints_serve-clause-found
+returns-then-hints_serve-clause-found g c = rw (← c.in_ok-reserve.ensures.items) c.get_each.ensures.found
+
 pub loop-i-init : goal.loop-i-init
 loop-i-init g c = record {
   ahead = search rules;

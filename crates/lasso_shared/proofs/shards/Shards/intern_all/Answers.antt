@@ -1,4 +1,4 @@
-use Rattle.std.proofs.Common.{List, Ok, Err, inr, sym, ◌∙◌, subst, arith, rules}
+use Rattle.std.proofs.Common.{◌≡◌, ◌⊎◌, List, Result, Ok, Err, IfErr, inr, sym, ◌∙◌, subst, arith, rules}
 use Rattle.std.proofs.lemmas.Result.{err_from_is_err_and}
 use Rattle.lasso_parts.specs.Texts.{Text}
 use Rattle.lasso_log.specs.Replies.{Copied, Intern, Interned}
@@ -6,6 +6,20 @@ use Rattle.lasso_log.specs.Views.{seen}
 use Rattle.lasso_single.proofs.KeyLists.{texts_more, texts_split}
 use Rattle.lasso_shared.proofs.Batched.{InternedSo, interned_none, interned_push, stopped_at, called_after}
 use Rattle.lasso_shared.proofs.shards.Shards.intern_all.Goals as goal
+
+-- what follows from what holds of an error holds of it
+of_an_error : {T E : Type 0} (P Q : E → Type 0) (r : Result T E) → ((e : E) → P e → Q e) → IfErr r P → IfErr r Q
+of_an_error P Q (Ok x) follows h = h
+of_an_error P Q (Err e) follows h = follows e h
+
+pub intern_each-requires-clause-room : goal.intern_each-requires-clause-room
+intern_each-requires-clause-room g c = omega (arith, c.in_ok-reserve.ensures.ok)
+
+pub returns-then-hints_serve-clause-interned : goal.returns-then-hints_serve-clause-interned
+returns-then-hints_serve-clause-interned g c = rw (← c.in_ok-reserve.ensures.items) c.intern_each.ensures.interned
+
+pub returns-then-hints_serve-clause-refused : goal.returns-then-hints_serve-clause-refused
+returns-then-hints_serve-clause-refused g c = rw (← c.in_ok-reserve.ensures.items) (of_an_error _ _ _ (λ e h. inr h) c.intern_each.ensures.refused)
 
 pub loop-i-init : goal.loop-i-init
 loop-i-init g c = record {
