@@ -9,6 +9,7 @@ from functions import functions_of
 HERE = os.path.dirname(os.path.dirname(os.path.abspath(__file__)))
 BY_SOME_HISTORY = re.compile(r"\bIsPlain(?:Call|Filling)\b")
 FUNCTION = re.compile(r"\bfn (\w+)")
+CLOSURE = re.compile(r"(.*::|)fn::(.*)::(\w+)")
 TYPE_OR_CRATE = re.compile(r"(?<![\w:])(?:([A-Z]\w*)(?=::|\(| \{)|(lasso\w*)::)")
 KNOWN_EVERYWHERE = ("Some", "Ok", "Err", "Vec", "String", "Box", "Option")
 PAGE_FILE = re.compile(r"`(src/[\w/]+\.rt)`")
@@ -131,20 +132,29 @@ def test_fit(edit, in_turn):
         text = text.replace(old, new)
 
 
+def function_and_closure(named):
+    """The path of the function that has the closure of this path, and the closure's name; of a function its own path and no name."""
+    found = CLOSURE.fullmatch(named)
+    return (found.group(1) + found.group(2), found.group(3)) if found else (named, "")
+
+
 def test_function(edit):
-    """Refuses an edit of a function that its file does not have, and one of another function than it names."""
+    """Refuses an edit of a function or closure that its file does not have, and one of another than it names."""
     folder = os.path.join(HERE, "crates", edit.crate)
     with open(os.path.join(folder, edit.file), encoding="utf-8") as source:
         text = source.read()
-    named = edit.function.removeprefix(f"{edit.crate}::")
+    named, closure = function_and_closure(edit.function.removeprefix(f"{edit.crate}::"))
     (_, end, new), *_ = places(edit, text)
     before, after = [], []
     for start, path in functions_of(folder, edit.file, text):
-        (before if start < end else after).append(re.fullmatch(path, named) is not None)
-    if not any(before + after):
+        (before if start < end else after).append((start, re.fullmatch(path, named) is not None))
+    if not any(fits for _, fits in before + after):
         raise Unfit(f"{edit.crate}/{edit.name}: {edit.file} has no function {named}")
-    if not any(before[-1:]) and named.rsplit("::", 1)[-1] not in FUNCTION.findall(new):
+    last, is_in = before[-1] if before else (0, False)
+    if not is_in and named.rsplit("::", 1)[-1] not in FUNCTION.findall(new):
         raise Unfit(f"{edit.crate}/{edit.name}: in {edit.file} its first change is not one of {named}")
+    if closure and not re.search(rf"\blet (?:mut )?{closure} = (?:move )?\|", text[last:end]):
+        raise Unfit(f"{edit.crate}/{edit.name}: {named} has no closure {closure} before its first change")
 
 
 def test_names(edit):

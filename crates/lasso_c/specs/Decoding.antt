@@ -20,6 +20,14 @@ rows_named null dictionary codes = map (λ code. unwrap_or (text_of_code null di
 abbrev pub texts_named : List Text → List ℕ → List Text
 texts_named dictionary codes = rows_named None dictionary codes
 
+-- the texts that the codes name in the dictionary of that layout
+abbrev pub texts_decoded : List ℕ → List ℕ → List ℕ → List Text
+texts_decoded dictionary_bytes dictionary_offsets codes = texts_named (layout_texts dictionary_bytes dictionary_offsets) codes
+
+-- the same of a column with nulls: the code of nulls names an empty text
+abbrev pub rows_decoded : ℕ → List ℕ → List ℕ → List ℕ → List Text
+rows_decoded null dictionary_bytes dictionary_offsets codes = rows_named (Some null) (layout_texts dictionary_bytes dictionary_offsets) codes
+
 -- what goes on from the sizes of some texts to those with the next code's text, or why that is refused
 abbrev pub with_next : Sizes → Option Text → Result Sizes CallError
 with_next sizes None = Err (NoSuchCode sizes.texts)
@@ -71,3 +79,12 @@ abbrev pub nulls_decoding_outcome : ℕ → List ℕ → List ℕ → List ℕ �
 nulls_decoding_outcome null dictionary_bytes dictionary_offsets codes offsets bytes present =
     if nat_le (length codes) (8 * present) then rows_decoding_outcome (Some null) dictionary_bytes dictionary_offsets codes offsets bytes
     else Err (BitmapTooShort (8 * present))
+
+-- how decoding without nulls ends, with room for what these buffers hold
+abbrev pub decoding_into : List ℕ → List ℕ → List ℕ → (offsets bytes : List ℕ) → Result Sizes CallError
+decoding_into dictionary_bytes dictionary_offsets codes offsets bytes = decoding_outcome dictionary_bytes dictionary_offsets codes (length offsets) (length bytes)
+
+-- the same with nulls
+abbrev pub nulls_decoding_into : ℕ → List ℕ → List ℕ → List ℕ → (offsets bytes present : List ℕ) → Result Sizes CallError
+nulls_decoding_into null dictionary_bytes dictionary_offsets codes offsets bytes present =
+    nulls_decoding_outcome null dictionary_bytes dictionary_offsets codes (length offsets) (length bytes) (length present)

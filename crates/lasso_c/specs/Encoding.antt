@@ -73,6 +73,16 @@ column_outcome bits bytes offsets codes dictionary_offsets dictionary_bytes =
     let rows = column_rows bits bytes offsets in
     unless_faulty (column_refusal bits bytes offsets) (rows_outcome (length rows) (present_texts rows) codes dictionary_offsets dictionary_bytes)
 
+-- how encoding the texts of that layout ends, with room for what these buffers hold
+abbrev pub encoding_into : List ℕ → List ℕ → (codes dictionary_offsets dictionary_bytes : List ℕ) → Result Sizes CallError
+encoding_into bytes offsets codes dictionary_offsets dictionary_bytes =
+    encoding_outcome bytes offsets (length codes) (length dictionary_offsets) (length dictionary_bytes)
+
+-- the same of a column with this bitmap
+abbrev pub column_encoding_into : List ℕ → List ℕ → List ℕ → (codes dictionary_offsets dictionary_bytes : List ℕ) → Result Sizes CallError
+column_encoding_into bits bytes offsets codes dictionary_offsets dictionary_bytes =
+    column_outcome bits bytes offsets (length codes) (length dictionary_offsets) (length dictionary_bytes)
+
 -- out of memory in place of a refusal by an interner
 abbrev pub of_column : CallError → CallError
 of_column (LimitReached _) = NoMemory

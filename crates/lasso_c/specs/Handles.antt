@@ -1,12 +1,13 @@
 -- What a call on a handle is about: the list and the account of its interner, what a look-up finds, and how a
 -- call ends. A handle holds an interner or none.
-use Rattle.std.specs.Prelude.{ℕ, Bool, true, false, List, [], length, drop, slice_get, ok_or, nat_lt, if◌then◌else◌, Option, None, Some, Result, Ok, Err}
+use Rattle.std.specs.Prelude.{◌≡◌, ℕ, Bool, true, false, List, [], length, drop, slice_get, ok_or, nat_lt, if◌then◌else◌, Option, None, Some, Result, Ok, Err}
 use Rattle.std.specs.List.{concat}
 use Rattle.lasso_parts.specs.Account.{Account}
 use Rattle.lasso_parts.specs.Texts.{Text, position_of}
 use Rattle.lasso_parts.specs.Layout.{layout_texts}
+use Rattle.lasso_single.specs.Copies.{clone_of}
 use Rattle.lasso_c.specs.Layout.{layout_fault}
-use Rattle.lasso_c.specs.Encoding.{sizes_of}
+use Rattle.lasso_c.specs.Encoding.{codes_of, row_codes, sizes_of, with_all_new}
 use Rattle.lasso_c.specs.Decoding.{fitting, unless_faulty}
 use Rattle.lasso_c.specs.declared.error.Sizes.{Sizes}
 use Rattle.lasso_c.specs.declared.error.CallError.{CallError}
@@ -19,10 +20,26 @@ abbrev pub texts_in : Option Interner → List Text
 texts_in None = []
 texts_in (Some interner) = interner.rodeo.texts
 
+-- the texts of the interner `after` are those of `before`, and then each of these that is new, in order
+abbrev pub PutsNew : (before after : Option Interner) → List Text → Type 0
+PutsNew before after texts = texts_in after ≡ with_all_new (texts_in before) texts
+
+-- the codes that the texts have in the interner
+abbrev pub codes_in : Option Interner → List Text → List ℕ
+codes_in held texts = codes_of (texts_in held) texts
+
+-- the codes of rows in it, of which a null has the given one
+abbrev pub row_codes_in : ℕ → Option Interner → List (Option Text) → List ℕ
+row_codes_in null held rows = row_codes null (texts_in held) rows
+
 -- the account of the interner, if there is one
 abbrev pub account_in : Option Interner → Option Account
 account_in None = None
 account_in (Some interner) = Some interner.rodeo.account
+
+-- the account of a clone of the interner
+abbrev pub clone_account : Interner → Option Account
+clone_account interner = clone_of interner.rodeo.texts interner.rodeo.account.limit
 
 -- the bytes of its first bucket, if there is one
 abbrev pub first_in : Option Interner → Option ℕ

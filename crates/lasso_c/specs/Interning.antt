@@ -1,5 +1,5 @@
 -- What interning a text, or the rows of a column, leaves of an interner, and how it ends.
-use Rattle.std.specs.Prelude.{ℕ, ◌≡◌, ◌+◌, ◌*◌, ◌⊎◌, Bool, true, false, List, length, take, slice_get, slice_index, nat_lt, if◌then◌else◌, Option, None, Some, Result, Ok, Err}
+use Rattle.std.specs.Prelude.{ℕ, ◌≡◌, ◌+◌, ◌-◌, ◌*◌, ◌^◌, ◌⊎◌, Bool, true, false, List, length, take, slice_get, slice_index, nat_lt, if◌then◌else◌, Option, None, Some, Result, Ok, Err}
 use Rattle.std.specs.List.{slice_range}
 use Rattle.lasso_parts.specs.Kept.{kept_at}
 use Rattle.lasso_parts.specs.Texts.{Text}
@@ -7,7 +7,7 @@ use Rattle.lasso_parts.specs.declared.util.LassoError.{LassoError}
 use Rattle.lasso_parts.specs.declared.util.LassoErrorKind.TheVariants.{MemoryLimitReached, KeySpaceExhaustion, FailedAllocation}
 use Rattle.lasso_single.specs.Filling.{extend}
 use Rattle.lasso_single.specs.Intern.{InternsIn}
-use Rattle.lasso_single.specs.Interner.{InternerView}
+use Rattle.lasso_single.specs.Interner.{InternerView, made_with}
 use Rattle.lasso_c.specs.Bitmap.{bits_fit, present_at}
 use Rattle.lasso_parts.specs.Layout.{layout_texts}
 use Rattle.lasso_c.specs.Layout.{start_fault, text_fault, null_fault, column_fault, column_rows, present_texts}
@@ -22,6 +22,10 @@ use Rattle.lasso_c.specs.declared.status.TheConstants.{NO_INTERNER, NOT_UTF8}
 -- the key of a code, which is one more
 abbrev pub key_of_code : ℕ → Option ℕ
 key_of_code = kept_at 4294967295
+
+-- a new dictionary: its first bucket has 4096 bytes, and it has the greatest limit
+abbrev pub new_dictionary : InternerView
+new_dictionary = made_with 4096 (2 ^ 64 - 1)
 
 -- the error that C gets when an interner refuses the text of this number in a batch
 abbrev pub refusal_at : ℕ → LassoError → CallError
@@ -86,6 +90,10 @@ InternsPart greatest room bits bytes offsets done old outcome new =
     let rows = length (layout_texts bytes offsets) in
     InternsRoomed greatest (nat_lt room rows) (bits_fit bits rows) bits bytes offsets done old outcome new
 
+-- the same with room for the codes that this buffer holds
+abbrev pub InternsInto : ℕ → (codes : List ℕ) → List ℕ → List ℕ → List ℕ → ℕ → InternerView → Result (Unit {0}) CallError → InternerView → Type 0
+InternsInto greatest codes bits bytes offsets done old outcome new = InternsPart greatest (length codes) bits bytes offsets done old outcome new
+
 -- what a batch reports: how many of its rows were done, and the number of the refused one
 abbrev pub batch_report : ℕ → Result (Unit {0}) CallError → LassoReport
 batch_report done (Ok _) = record { texts = done; bytes = 0; at = 0 }
@@ -99,6 +107,10 @@ BatchEnds greatest None bits bytes offsets room status report new = Reports (Err
 BatchEnds greatest (Some old) bits bytes offsets room status report new =
     (interner : Interner) × (outcome : Result (Unit {0}) CallError) × (new ≡ Some interner) × InternsPart greatest room bits bytes offsets report.texts old.rodeo outcome interner.rodeo
     × (status ≡ outcome_status outcome) × (report ≡ batch_report report.texts outcome)
+
+-- the same with room for the codes that this buffer holds
+abbrev pub ColumnEnds : ℕ → Option Interner → List ℕ → List ℕ → List ℕ → (codes : List ℕ) → ℕ → LassoReport → Option Interner → Type 0
+ColumnEnds greatest old bits bytes offsets codes status report new = BatchEnds greatest old bits bytes offsets (length codes) status report new
 
 -- how interning one text ends on a handle: its status, and what the handle holds, as `InternsIn` of
 -- `lasso_single` says

@@ -2,11 +2,11 @@
 -- texts and nulls.
 --
 -- The definitions of faults take the greatest offset of the offsets' width first; all else is one for both widths.
-use Rattle.std.specs.Prelude.{ℕ, ◌+◌, List, [], ◌∷◌, ◌++◌, length, take, drop, nat_lt, if◌then◌else◌, Option, Some, None}
-use Rattle.std.specs.List.{slice_range}
+use Rattle.std.specs.Prelude.{◌≡◌, ℕ, ◌+◌, ◌≤◌, List, [], ◌∷◌, ◌++◌, length, take, drop, is_ok, nat_lt, if◌then◌else◌, Option, Some, None, Result}
+use Rattle.std.specs.List.{concat, slice_range}
 use Rattle.std.specs.Option.{option_or}
 use Rattle.std.specs.Str.{is_utf8}
-use Rattle.lasso_parts.specs.Layout.{reach, layout_texts}
+use Rattle.lasso_parts.specs.Layout.{reach, layout_texts, offsets_from}
 use Rattle.lasso_parts.specs.Texts.{Text}
 use Rattle.lasso_c.specs.Bitmap.{present_at}
 use Rattle.lasso_c.specs.declared.error.CallError.{CallError}
@@ -24,6 +24,10 @@ text_fault greatest bytes at from to =
     else if nat_lt (reach greatest bytes) to then Some (OffsetPastBytes at)
     else if is_utf8 (slice_range bytes from to) then None
     else Some (NotUtf8 at)
+
+-- the text is the one between two offsets, and nothing is wrong with it
+abbrev pub IsTextBetween : ℕ → List ℕ → ℕ → ℕ → ℕ → Text → Type 0
+IsTextBetween greatest bytes at from to text = (text ≡ slice_range bytes from to) × (from ≤ to) × (to ≤ reach greatest bytes) × (text_fault greatest bytes at from to ≡ None)
 
 -- the same of a null, whose bytes may be any
 abbrev pub null_fault : ℕ → List ℕ → ℕ → ℕ → ℕ → Option CallError
@@ -73,6 +77,18 @@ abbrev pub present_texts : List (Option Text) → List Text
 present_texts [] = []
 present_texts (row ∷ rows) = with_row row (present_texts rows)
 
+-- the texts of a column, without the nulls
+abbrev pub column_texts : List ℕ → List ℕ → List ℕ → List Text
+column_texts bits bytes offsets = present_texts (column_rows bits bytes offsets)
+
+-- the first texts of a layout, this number of them
+abbrev pub first_texts : ℕ → List ℕ → List ℕ → List Text
+first_texts count bytes offsets = take count (layout_texts bytes offsets)
+
+-- the same of the rows of a column
+abbrev pub first_rows : ℕ → List ℕ → List ℕ → List ℕ → List (Option Text)
+first_rows count bits bytes offsets = take count (column_rows bits bytes offsets)
+
 -- a buffer once this is written over its front: so are the bytes of a layout, and its offsets
 -- (`offsets_from 0`)
 abbrev pub over : List ℕ → List ℕ → List ℕ
@@ -81,3 +97,19 @@ over front buffer = front ++ drop (length front) buffer
 -- a buffer once this is written from a position on
 abbrev pub over_from : ℕ → List ℕ → List ℕ → List ℕ
 over_from start part buffer = take start buffer ++ (part ++ drop (start + length part) buffer)
+
+-- a buffer once the bytes of the texts' layout are written over its front
+abbrev pub bytes_over : List Text → List ℕ → List ℕ
+bytes_over texts buffer = over (concat texts) buffer
+
+-- a buffer once the offsets of the texts' layout are written over its front
+abbrev pub offsets_over : List Text → List ℕ → List ℕ
+offsets_over texts buffer = over (offsets_from 0 texts) buffer
+
+-- a buffer once this is written over its front, or as it was if the call was refused
+abbrev pub over_if_done : {X E : Type 0} → Result X E → List ℕ → List ℕ → List ℕ
+over_if_done result front buffer = if is_ok result then over front buffer else buffer
+
+-- as much of the text as the buffer has room for is written over its front, and `whole` is the text's length
+abbrev pub CopiesFront : Text → (whole : ℕ) → (before after : List ℕ) → Type 0
+CopiesFront text whole before after = (whole ≡ length text) × (after ≡ over (take (length before) text) before)

@@ -1,14 +1,15 @@
 //! Rows of a column interned into a dictionary that has some already, and the texts of a dictionary from a code on.
-ghost use Rattle.std.specs.Prelude.{◌≡◌, ◌<◌, ◌≤◌, ◌+◌, ◌^◌, [], None, Some, OnOk, IfOk, IfErr, IfSome, IsSome, IsTrue, length, slice_get, take, drop, is_ok, unwrap_or, if◌then◌else◌};
+ghost use Rattle.std.specs.Prelude.{◌≡◌, ◌<◌, ◌≤◌, ◌+◌, ◌^◌, [], None, Some, OnOk, IfSome};
+ghost use Rattle.std.specs.Prelude.{IsSome, IsTrue, length, slice_get, drop, unwrap_or};
 ghost use Rattle.std.specs.List.{concat};
 ghost use Rattle.std.specs.Result.{result_err};
 ghost use Rattle.lasso_parts.specs.Texts.{position_of};
 ghost use Rattle.lasso_c.specs.Bitmap.{bits_fit};
-ghost use Rattle.lasso_parts.specs.Layout.{greatest_offset, layout_texts, offsets_from};
-ghost use Rattle.lasso_c.specs.Layout.{column_rows, layout_fault, over, present_texts};
+ghost use Rattle.lasso_parts.specs.Layout.{layout_texts, offsets_from};
+ghost use Rattle.lasso_c.specs.Layout.{CopiesFront, first_rows, first_texts, layout_fault, over, over_if_done, present_texts};
 ghost use Rattle.lasso_c.specs.Encoding.{with_all_new, codes_of, codes_or, row_codes, sizes_of};
 ghost use Rattle.lasso_c.specs.Handles.{code_lookup_in, part_lookup_outcome, part_outcome};
-ghost use Rattle.lasso_c.specs.Interning.{InternsCode, InternsNext, InternsPart, batch_report, batch_start_fault, refusal_at};
+ghost use Rattle.lasso_c.specs.Interning.{InternsCode, InternsInto, InternsNext, batch_report, batch_start_fault, refusal_at};
 ghost use Rattle.lasso_c.specs.Status.{outcome_status};
 
 use crate::ahead::look_ahead_from;
@@ -59,9 +60,10 @@ pub(crate) fn intern_column<O: Offset>(
     null: u32,
     codes: &mut [u32],
 ) -> Progress
-    ensures interned { InternsPart O.GREATEST (length codes.old) bits.now bytes.now (O.numbers offsets.now) result.done dictionary.old result.outcome dictionary.new }
-    ensures texts { dictionary.new.texts ≡ with_all_new dictionary.old.texts (present_texts (take result.done (column_rows bits.now bytes.now (O.numbers offsets.now)))) }
-    ensures codes { codes.new ≡ over (row_codes null dictionary.new.texts (take result.done (column_rows bits.now bytes.now (O.numbers offsets.now)))) codes.old }
+    ensures interned { InternsInto O.GREATEST codes.old bits.now bytes.now (O.numbers offsets.now) result.done dictionary.old result.outcome dictionary.new }
+    ensures texts { dictionary.new.texts ≡ with_all_new dictionary.old.texts
+        (present_texts (first_rows result.done bits.now bytes.now (O.numbers offsets.now))) }
+    ensures codes { codes.new ≡ over (row_codes null dictionary.new.texts (first_rows result.done bits.now bytes.now (O.numbers offsets.now))) codes.old }
     ensures whole { OnOk result.outcome (result.done ≡ length (layout_texts bytes.now (O.numbers offsets.now))) }
     ensures within { result.done ≤ length (layout_texts bytes.now (O.numbers offsets.now)) }
 {
@@ -104,9 +106,9 @@ pub(crate) fn intern_layout<O: Offset>(
     offsets: &[O],
     codes: &mut [u32],
 ) -> Progress
-    ensures interned { InternsPart O.GREATEST (length codes.old) [] bytes.now (O.numbers offsets.now) result.done dictionary.old result.outcome dictionary.new }
-    ensures texts { dictionary.new.texts ≡ with_all_new dictionary.old.texts (take result.done (layout_texts bytes.now (O.numbers offsets.now))) }
-    ensures codes { codes.new ≡ over (codes_of dictionary.new.texts (take result.done (layout_texts bytes.now (O.numbers offsets.now)))) codes.old }
+    ensures interned { InternsInto O.GREATEST codes.old [] bytes.now (O.numbers offsets.now) result.done dictionary.old result.outcome dictionary.new }
+    ensures texts { dictionary.new.texts ≡ with_all_new dictionary.old.texts (first_texts result.done bytes.now (O.numbers offsets.now)) }
+    ensures codes { codes.new ≡ over (codes_of dictionary.new.texts (first_texts result.done bytes.now (O.numbers offsets.now))) codes.old }
     ensures whole { OnOk result.outcome (result.done ≡ length (layout_texts bytes.now (O.numbers offsets.now))) }
     ensures within { result.done ≤ length (layout_texts bytes.now (O.numbers offsets.now)) }
 {
@@ -204,7 +206,7 @@ pub(crate) fn find_layout<O: Offset>(
     codes: &mut [u32],
 ) -> Result<Sizes, CallError>
     ensures outcome { result ≡ part_lookup_outcome O.GREATEST bytes.now (O.numbers offsets.now) (length codes.old) }
-    ensures codes { codes.new ≡ (if is_ok result then over (codes_or absent dictionary.now.texts (layout_texts bytes.now (O.numbers offsets.now))) codes.old else codes.old) }
+    ensures codes { codes.new ≡ over_if_done result (codes_or absent dictionary.now.texts (layout_texts bytes.now (O.numbers offsets.now))) codes.old }
 {
     let count = count(offsets).saturating_sub(1);
     let needed = Sizes {
@@ -261,8 +263,8 @@ pub(crate) fn write_from<O: Offset>(
     offsets: &mut [O],
 ) -> Result<Sizes, CallError>
     ensures outcome { result ≡ part_outcome O.GREATEST (drop from dictionary.now.texts) (length (O.numbers offsets.old)) (length bytes.old) }
-    ensures bytes { bytes.new ≡ (if is_ok result then over (concat (drop from dictionary.now.texts)) bytes.old else bytes.old) }
-    ensures offsets { O.numbers offsets.new ≡ (if is_ok result then over (offsets_from 0 (drop from dictionary.now.texts)) (O.numbers offsets.old) else O.numbers offsets.old) }
+    ensures bytes { bytes.new ≡ over_if_done result (concat (drop from dictionary.now.texts)) bytes.old }
+    ensures offsets { O.numbers offsets.new ≡ over_if_done result (offsets_from 0 (drop from dictionary.now.texts)) (O.numbers offsets.old) }
 {
     let Some(sizes) = sizes_from::<O>(dictionary, from) else {
         return Err(CallError::TooManyBytes(0));
@@ -323,7 +325,7 @@ pub(crate) fn copy_text(
     whole: &mut usize,
 ) -> u32
     ensures status { result ≡ outcome_status (code_lookup_in dictionary.now.texts code) }
-    ensures found { result ≡ DONE → IfSome (slice_get dictionary.now.texts code) (λ t. (whole.new ≡ length t) × (text.new ≡ over (take (length text.old) t) text.old)) }
+    ensures found { result ≡ DONE → IfSome (slice_get dictionary.now.texts code) (λ t. CopiesFront t whole.new text.old text.new) }
     ensures present { result ≡ DONE → IsSome (slice_get dictionary.now.texts code) }
     ensures kept { ¬ (result ≡ DONE) → (whole.new ≡ whole.old) × (text.new ≡ text.old) }
 {

@@ -5,7 +5,7 @@ ghost use Rattle.std.specs.Option.{option_copied};
 ghost use Rattle.lasso_parts.specs.Layout.{greatest_offset, layout_texts, offsets_from};
 ghost use Rattle.lasso_c.specs.Layout.{layout_fault, over};
 ghost use Rattle.lasso_c.specs.Bitmap.{bitmap_of, code_bits};
-ghost use Rattle.lasso_c.specs.Decoding.{measured, nothing, nulls_decoding_outcome, rows_decoding_outcome, rows_named, text_of_code, with_next};
+ghost use Rattle.lasso_c.specs.Decoding.{measured, nothing, nulls_decoding_into, rows_decoding_outcome, rows_named, text_of_code, with_next};
 
 use crate::error::{CallError, Sizes};
 use crate::layout::{check_layout, put_text, text_at};
@@ -56,7 +56,7 @@ pub(crate) fn decode_nulls(
     offsets: &mut [u32],
     present: &mut [u8],
 ) -> Result<Sizes, CallError>
-    ensures outcome { result ≡ nulls_decoding_outcome null dictionary_bytes.now dictionary_offsets.now codes.now (length offsets.old) (length bytes.old) (length present.old) }
+    ensures outcome { result ≡ nulls_decoding_into null dictionary_bytes.now dictionary_offsets.now codes.now offsets.old bytes.old present.old }
     ensures bytes { let texts = rows_named (Some null) (layout_texts dictionary_bytes.now dictionary_offsets.now) codes.now in
         bytes.new ≡ (if is_ok result then over (concat texts) bytes.old else bytes.old) }
     ensures offsets { let texts = rows_named (Some null) (layout_texts dictionary_bytes.now dictionary_offsets.now) codes.now in

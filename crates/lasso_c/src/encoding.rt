@@ -1,12 +1,12 @@
 //! Encoding: from texts to a dictionary of the distinct ones and a code for each.
-ghost use Rattle.std.specs.Prelude.{◌≡◌, ◌⊎◌, ◌<◌, ◌≤◌, ◌-◌, ◌^◌, None, Some, Ok, Err, OnOk, IfOk, IfErr, length, slice_get, is_ok, if◌then◌else◌};
+ghost use Rattle.std.specs.Prelude.{◌≡◌, ◌⊎◌, ◌<◌, ◌≤◌, None, Some, Ok, Err, OnOk, IfOk};
+ghost use Rattle.std.specs.Prelude.{IfErr, length, slice_get, is_ok, if◌then◌else◌};
 ghost use Rattle.std.specs.List.{concat};
 ghost use Rattle.lasso_single.specs.Filling.{extend};
-ghost use Rattle.lasso_single.specs.Interner.{made_with};
-ghost use Rattle.lasso_c.specs.Interning.{key_of_code};
+ghost use Rattle.lasso_c.specs.Interning.{key_of_code, new_dictionary};
 ghost use Rattle.lasso_parts.specs.Layout.{greatest_offset, layout_texts, offsets_from};
-ghost use Rattle.lasso_c.specs.Layout.{column_rows, over, present_texts};
-ghost use Rattle.lasso_c.specs.Encoding.{codes_of, column_outcome, column_refusal, dictionary_of, encoding_outcome, of_column, row_codes, sizes_of};
+ghost use Rattle.lasso_c.specs.Layout.{column_rows, column_texts, over, present_texts};
+ghost use Rattle.lasso_c.specs.Encoding.{codes_of, column_encoding_into, column_refusal, dictionary_of, encoding_into, of_column, row_codes, sizes_of};
 ghost use Rattle.lasso_c.specs.declared.error.CallError.TheVariants.{NoMemory};
 
 use crate::batches::intern_column;
@@ -37,7 +37,7 @@ pub(crate) fn encode(
     dictionary_bytes: &mut [u8],
     dictionary_offsets: &mut [u32],
 ) -> Result<Sizes, CallError>
-    ensures outcome { (result ≡ encoding_outcome bytes.now offsets.now (length codes.old) (length dictionary_offsets.old) (length dictionary_bytes.old)) ⊎ (result ≡ Err NoMemory) }
+    ensures outcome { (result ≡ encoding_into bytes.now offsets.now codes.old dictionary_offsets.old dictionary_bytes.old) ⊎ (result ≡ Err NoMemory) }
     ensures codes { let texts = layout_texts bytes.now offsets.now in
         codes.new ≡ (if is_ok result then over (codes_of (dictionary_of texts) texts) codes.old else codes.old) }
     ensures dictionary_bytes { let dictionary = dictionary_of (layout_texts bytes.now offsets.now) in
@@ -68,12 +68,13 @@ pub(crate) fn encode_rows(
     dictionary_bytes: &mut [u8],
     dictionary_offsets: &mut [u32],
 ) -> Result<Sizes, CallError>
-    ensures outcome { (result ≡ column_outcome bits.now bytes.now offsets.now (length codes.old) (length dictionary_offsets.old) (length dictionary_bytes.old)) ⊎ (result ≡ Err NoMemory) }
+    ensures outcome { (result ≡ column_encoding_into bits.now bytes.now offsets.now codes.old dictionary_offsets.old dictionary_bytes.old)
+        ⊎ (result ≡ Err NoMemory) }
     ensures codes { let rows = column_rows bits.now bytes.now offsets.now in
         codes.new ≡ (if is_ok result then over (row_codes null (dictionary_of (present_texts rows)) rows) codes.old else codes.old) }
-    ensures dictionary_bytes { let dictionary = dictionary_of (present_texts (column_rows bits.now bytes.now offsets.now)) in
+    ensures dictionary_bytes { let dictionary = dictionary_of (column_texts bits.now bytes.now offsets.now) in
         dictionary_bytes.new ≡ (if is_ok result then over (concat dictionary) dictionary_bytes.old else dictionary_bytes.old) }
-    ensures dictionary_offsets { let dictionary = dictionary_of (present_texts (column_rows bits.now bytes.now offsets.now)) in
+    ensures dictionary_offsets { let dictionary = dictionary_of (column_texts bits.now bytes.now offsets.now) in
         dictionary_offsets.new ≡ (if is_ok result then over (offsets_from 0 dictionary) dictionary_offsets.old else dictionary_offsets.old) }
 {
     let interned = intern_rows(alloc, bytes, offsets, bits, null)?;
@@ -103,11 +104,11 @@ fn intern_rows(
 ) -> Result<Interned, CallError>
     ensures refused { IfErr result (λ refusal. (column_refusal bits.now bytes.now offsets.now ≡ Some refusal) ⊎ (refusal ≡ NoMemory)) }
     ensures layout { OnOk result (column_refusal bits.now bytes.now offsets.now ≡ None) }
-    ensures dictionary { IfOk result (λ interned. interned.dictionary.texts ≡ dictionary_of (present_texts (column_rows bits.now bytes.now offsets.now))) }
+    ensures dictionary { IfOk result (λ interned. interned.dictionary.texts ≡ dictionary_of (column_texts bits.now bytes.now offsets.now)) }
     ensures codes { let rows = column_rows bits.now bytes.now offsets.now in
         IfOk result (λ interned. interned.codes.items ≡ row_codes null (dictionary_of (present_texts rows)) rows) }
     ensures small { IfOk result (λ interned. length (concat interned.dictionary.texts) ≤ greatest_offset) }
-    ensures unlimited { IfOk result (λ interned. extend key_of_code (made_with 4096 (2 ^ 64 - 1)) (present_texts (column_rows bits.now bytes.now offsets.now)) (Ok tt) interned.dictionary) }
+    ensures unlimited { IfOk result (λ interned. extend key_of_code new_dictionary (column_texts bits.now bytes.now offsets.now) (Ok tt) interned.dictionary) }
 {
     let mut dictionary = Rodeo::with_hasher(alloc, Seed::fixed())?;
     let mut codes = vec![in alloc; 0u32; offsets.len().saturating_sub(1)]?;

@@ -1,16 +1,16 @@
 //! Interners that C holds from call to call. `include/lasso.h` says the same of each call in C's words.
 //!
 //! A call borrows the interner from its handle for as long as it works on it.
-ghost use Rattle.std.specs.Prelude.{◌≡◌, ◌≤◌, [], None, Some, length, slice_get, take, drop, IfSome, IsSome};
-ghost use Rattle.std.specs.List.{concat};
+ghost use Rattle.std.specs.Prelude.{◌≡◌, ◌≤◌, [], None, Some, length, slice_get, drop, IfSome, IsSome};
 ghost use Rattle.std.specs.Str.{is_utf8};
 ghost use Rattle.lasso_parts.specs.Account.{clear, fresh, with_limit};
 ghost use Rattle.lasso_parts.specs.Texts.{position_of};
-ghost use Rattle.lasso_parts.specs.Layout.{greatest_offset, layout_texts, offsets_from};
-ghost use Rattle.lasso_c.specs.Layout.{column_rows, over, present_texts};
-ghost use Rattle.lasso_c.specs.Encoding.{with_new, with_all_new, codes_of, codes_or, row_codes};
-ghost use Rattle.lasso_c.specs.Handles.{account_in, code_lookup, dictionary_outcome, first_in, lookup_outcome, seed_in, text_lookup, texts_in};
-ghost use Rattle.lasso_c.specs.Interning.{BatchEnds, TextEnds};
+ghost use Rattle.lasso_parts.specs.Layout.{greatest_offset, layout_texts};
+ghost use Rattle.lasso_c.specs.Layout.{bytes_over, CopiesFront, first_rows, first_texts, offsets_over, over, present_texts};
+ghost use Rattle.lasso_c.specs.Encoding.{codes_or, with_new};
+ghost use Rattle.lasso_c.specs.Handles.{account_in, code_lookup, codes_in, dictionary_outcome, first_in, lookup_outcome};
+ghost use Rattle.lasso_c.specs.Handles.{PutsNew, row_codes_in, seed_in, text_lookup, texts_in};
+ghost use Rattle.lasso_c.specs.Interning.{ColumnEnds, TextEnds};
 ghost use Rattle.lasso_c.specs.Seeds.{IsFixed};
 ghost use Rattle.lasso_c.specs.Status.{Reports, outcome_status};
 
@@ -79,9 +79,9 @@ pub extern "C" fn lasso_intern_batch(
     codes: &mut [u32],
     report: &mut LassoReport,
 ) -> u32
-    ensures outcome { BatchEnds greatest_offset lasso.old.seat.value [] bytes.now offsets.now (length codes.old) result report.new lasso.new.seat.value }
-    ensures texts { texts_in lasso.new.seat.value ≡ with_all_new (texts_in lasso.old.seat.value) (take report.new.texts (layout_texts bytes.now offsets.now)) }
-    ensures codes { codes.new ≡ over (codes_of (texts_in lasso.new.seat.value) (take report.new.texts (layout_texts bytes.now offsets.now))) codes.old }
+    ensures outcome { ColumnEnds greatest_offset lasso.old.seat.value [] bytes.now offsets.now codes.old result report.new lasso.new.seat.value }
+    ensures texts { PutsNew lasso.old.seat.value lasso.new.seat.value (first_texts report.new.texts bytes.now offsets.now) }
+    ensures codes { codes.new ≡ over (codes_in lasso.new.seat.value (first_texts report.new.texts bytes.now offsets.now)) codes.old }
     ensures seed { seed_in lasso.new.seat.value ≡ seed_in lasso.old.seat.value }
     ensures whole { result ≡ DONE → report.new.texts ≡ length (layout_texts bytes.now offsets.now) }
     ensures within { report.new.texts ≤ length (layout_texts bytes.now offsets.now) }
@@ -102,9 +102,9 @@ pub extern "C" fn lasso_intern_batch_nulls(
     codes: &mut [u32],
     report: &mut LassoReport,
 ) -> u32
-    ensures outcome { BatchEnds greatest_offset lasso.old.seat.value present.now bytes.now offsets.now (length codes.old) result report.new lasso.new.seat.value }
-    ensures texts { texts_in lasso.new.seat.value ≡ with_all_new (texts_in lasso.old.seat.value) (present_texts (take report.new.texts (column_rows present.now bytes.now offsets.now))) }
-    ensures codes { codes.new ≡ over (row_codes null (texts_in lasso.new.seat.value) (take report.new.texts (column_rows present.now bytes.now offsets.now))) codes.old }
+    ensures outcome { ColumnEnds greatest_offset lasso.old.seat.value present.now bytes.now offsets.now codes.old result report.new lasso.new.seat.value }
+    ensures texts { PutsNew lasso.old.seat.value lasso.new.seat.value (present_texts (first_rows report.new.texts present.now bytes.now offsets.now)) }
+    ensures codes { codes.new ≡ over (row_codes_in null lasso.new.seat.value (first_rows report.new.texts present.now bytes.now offsets.now)) codes.old }
     ensures seed { seed_in lasso.new.seat.value ≡ seed_in lasso.old.seat.value }
     ensures whole { result ≡ DONE → report.new.texts ≡ length (layout_texts bytes.now offsets.now) }
     ensures within { report.new.texts ≤ length (layout_texts bytes.now offsets.now) }
@@ -178,7 +178,7 @@ pub extern "C" fn lasso_resolve(
     whole: &mut usize,
 ) -> u32
     ensures status { result ≡ outcome_status (code_lookup lasso.old.seat.value code) }
-    ensures found { result ≡ DONE → IfSome (slice_get (texts_in lasso.old.seat.value) code) (λ t. (whole.new ≡ length t) × (text.new ≡ over (take (length text.old) t) text.old)) }
+    ensures found { result ≡ DONE → IfSome (slice_get (texts_in lasso.old.seat.value) code) (λ t. CopiesFront t whole.new text.old text.new) }
     ensures present { result ≡ DONE → IsSome (slice_get (texts_in lasso.old.seat.value) code) }
     ensures text_kept { ¬ (result ≡ DONE) → text.new ≡ text.old }
     ensures whole_kept { ¬ (result ≡ DONE) → whole.new ≡ whole.old }
@@ -202,8 +202,8 @@ pub extern "C" fn lasso_dictionary(
     report: &mut LassoReport,
 ) -> u32
     ensures outcome { Reports (dictionary_outcome greatest_offset lasso.old.seat.value from (length offsets.old) (length bytes.old)) result report.new }
-    ensures bytes { result ≡ DONE → bytes.new ≡ over (concat (drop from (texts_in lasso.old.seat.value))) bytes.old }
-    ensures offsets { result ≡ DONE → offsets.new ≡ over (offsets_from 0 (drop from (texts_in lasso.old.seat.value))) offsets.old }
+    ensures bytes { result ≡ DONE → bytes.new ≡ bytes_over (drop from (texts_in lasso.old.seat.value)) bytes.old }
+    ensures offsets { result ≡ DONE → offsets.new ≡ offsets_over (drop from (texts_in lasso.old.seat.value)) offsets.old }
     ensures bytes_kept { ¬ (result ≡ DONE) → bytes.new ≡ bytes.old }
     ensures offsets_kept { ¬ (result ≡ DONE) → offsets.new ≡ offsets.old }
     ensures kept { lasso.new.seat.value ≡ lasso.old.seat.value }

@@ -1,12 +1,11 @@
 //! Calls over layouts with offsets of 64 bits, as Arrow's arrays of large strings have them. Each does what the call without
 //! `_large` does, and has the same statuses.
-ghost use Rattle.std.specs.Prelude.{◌≡◌, ◌≤◌, [], length, take, drop};
-ghost use Rattle.std.specs.List.{concat};
-ghost use Rattle.lasso_parts.specs.Layout.{greatest_large_offset, layout_texts, offsets_from};
-ghost use Rattle.lasso_c.specs.Layout.{column_rows, over, present_texts};
-ghost use Rattle.lasso_c.specs.Encoding.{codes_of, codes_or, row_codes, with_all_new};
-ghost use Rattle.lasso_c.specs.Handles.{dictionary_outcome, lookup_outcome, seed_in, texts_in};
-ghost use Rattle.lasso_c.specs.Interning.{BatchEnds};
+ghost use Rattle.std.specs.Prelude.{◌≡◌, ◌≤◌, [], length, drop};
+ghost use Rattle.lasso_parts.specs.Layout.{greatest_large_offset, layout_texts};
+ghost use Rattle.lasso_c.specs.Layout.{bytes_over, first_rows, first_texts, offsets_over, over, present_texts};
+ghost use Rattle.lasso_c.specs.Encoding.{codes_or};
+ghost use Rattle.lasso_c.specs.Handles.{codes_in, dictionary_outcome, lookup_outcome, PutsNew, row_codes_in, seed_in, texts_in};
+ghost use Rattle.lasso_c.specs.Interning.{ColumnEnds};
 ghost use Rattle.lasso_c.specs.Status.{Reports};
 
 use crate::error::LassoReport;
@@ -23,9 +22,9 @@ pub extern "C" fn lasso_intern_batch_large(
     codes: &mut [u32],
     report: &mut LassoReport,
 ) -> u32
-    ensures outcome { BatchEnds greatest_large_offset lasso.old.seat.value [] bytes.now offsets.now (length codes.old) result report.new lasso.new.seat.value }
-    ensures texts { texts_in lasso.new.seat.value ≡ with_all_new (texts_in lasso.old.seat.value) (take report.new.texts (layout_texts bytes.now offsets.now)) }
-    ensures codes { codes.new ≡ over (codes_of (texts_in lasso.new.seat.value) (take report.new.texts (layout_texts bytes.now offsets.now))) codes.old }
+    ensures outcome { ColumnEnds greatest_large_offset lasso.old.seat.value [] bytes.now offsets.now codes.old result report.new lasso.new.seat.value }
+    ensures texts { PutsNew lasso.old.seat.value lasso.new.seat.value (first_texts report.new.texts bytes.now offsets.now) }
+    ensures codes { codes.new ≡ over (codes_in lasso.new.seat.value (first_texts report.new.texts bytes.now offsets.now)) codes.old }
     ensures seed { seed_in lasso.new.seat.value ≡ seed_in lasso.old.seat.value }
     ensures whole { result ≡ DONE → report.new.texts ≡ length (layout_texts bytes.now offsets.now) }
     ensures within { report.new.texts ≤ length (layout_texts bytes.now offsets.now) }
@@ -44,9 +43,9 @@ pub extern "C" fn lasso_intern_batch_nulls_large(
     codes: &mut [u32],
     report: &mut LassoReport,
 ) -> u32
-    ensures outcome { BatchEnds greatest_large_offset lasso.old.seat.value present.now bytes.now offsets.now (length codes.old) result report.new lasso.new.seat.value }
-    ensures texts { texts_in lasso.new.seat.value ≡ with_all_new (texts_in lasso.old.seat.value) (present_texts (take report.new.texts (column_rows present.now bytes.now offsets.now))) }
-    ensures codes { codes.new ≡ over (row_codes null (texts_in lasso.new.seat.value) (take report.new.texts (column_rows present.now bytes.now offsets.now))) codes.old }
+    ensures outcome { ColumnEnds greatest_large_offset lasso.old.seat.value present.now bytes.now offsets.now codes.old result report.new lasso.new.seat.value }
+    ensures texts { PutsNew lasso.old.seat.value lasso.new.seat.value (present_texts (first_rows report.new.texts present.now bytes.now offsets.now)) }
+    ensures codes { codes.new ≡ over (row_codes_in null lasso.new.seat.value (first_rows report.new.texts present.now bytes.now offsets.now)) codes.old }
     ensures seed { seed_in lasso.new.seat.value ≡ seed_in lasso.old.seat.value }
     ensures whole { result ≡ DONE → report.new.texts ≡ length (layout_texts bytes.now offsets.now) }
     ensures within { report.new.texts ≤ length (layout_texts bytes.now offsets.now) }
@@ -82,8 +81,8 @@ pub extern "C" fn lasso_dictionary_large(
     report: &mut LassoReport,
 ) -> u32
     ensures outcome { Reports (dictionary_outcome greatest_large_offset lasso.old.seat.value from (length offsets.old) (length bytes.old)) result report.new }
-    ensures bytes { result ≡ DONE → bytes.new ≡ over (concat (drop from (texts_in lasso.old.seat.value))) bytes.old }
-    ensures offsets { result ≡ DONE → offsets.new ≡ over (offsets_from 0 (drop from (texts_in lasso.old.seat.value))) offsets.old }
+    ensures bytes { result ≡ DONE → bytes.new ≡ bytes_over (drop from (texts_in lasso.old.seat.value)) bytes.old }
+    ensures offsets { result ≡ DONE → offsets.new ≡ offsets_over (drop from (texts_in lasso.old.seat.value)) offsets.old }
     ensures bytes_kept { ¬ (result ≡ DONE) → bytes.new ≡ bytes.old }
     ensures offsets_kept { ¬ (result ≡ DONE) → offsets.new ≡ offsets.old }
     ensures kept { lasso.new.seat.value ≡ lasso.old.seat.value }

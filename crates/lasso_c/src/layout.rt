@@ -1,10 +1,9 @@
 //! Texts in one buffer of bytes, beside a buffer of offsets: where they lie, what is wrong with them, and how one more is written.
 ghost use Rattle.std.specs.Prelude.{◌≡◌, ◌+◌, ◌<◌, ◌≤◌, None, Some, MatchResult, length, slice_get, slice_set};
-ghost use Rattle.std.specs.List.{slice_range};
 ghost use Rattle.std.specs.Option.{option_copied};
 ghost use Rattle.std.specs.Result.{result_err};
 ghost use Rattle.lasso_parts.specs.Layout.{greatest_offset, reach, layout_texts};
-ghost use Rattle.lasso_c.specs.Layout.{start_fault, text_fault, layout_fault, over_from};
+ghost use Rattle.lasso_c.specs.Layout.{IsTextBetween, start_fault, text_fault, layout_fault, over_from};
 
 use crate::error::CallError;
 use crate::offsets::{count, number, put};
@@ -20,7 +19,8 @@ pub(crate) fn reach<O: Offset>(bytes: &[u8]) -> usize
 
 // Where the first text begins, where its offset is good.
 pub(crate) fn first_start<O: Offset>(bytes: &[u8], from: usize) -> Result<usize, CallError>
-    ensures { MatchResult result (λ start. (start ≡ from) × (start_fault O.GREATEST bytes.now from ≡ None)) (λ refusal. start_fault O.GREATEST bytes.now from ≡ Some refusal) }
+    ensures { MatchResult result (λ start. (start ≡ from) × (start_fault O.GREATEST bytes.now from ≡ None))
+        (λ refusal. start_fault O.GREATEST bytes.now from ≡ Some refusal) }
 {
     if from > reach::<O>(bytes) {
         return Err(CallError::OffsetPastBytes(0));
@@ -35,7 +35,7 @@ pub(crate) fn text_between<O: Offset>(
     from: usize,
     to: usize,
 ) -> Result<&str, CallError>
-    ensures { MatchResult result (λ text. (text.now ≡ slice_range bytes.now from to) × (from ≤ to) × (to ≤ reach O.GREATEST bytes.now) × (text_fault O.GREATEST bytes.now at from to ≡ None))
+    ensures { MatchResult result (λ text. IsTextBetween O.GREATEST bytes.now at from to text.now)
         (λ refusal. text_fault O.GREATEST bytes.now at from to ≡ Some refusal) }
 {
     if to < from {

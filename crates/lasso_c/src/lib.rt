@@ -4,13 +4,12 @@
 //! more than there are texts. No call keeps a pointer, and each writes into its caller's memory alone.
 #![tactic(auto)]
 
-ghost use Rattle.std.specs.Prelude.{◌≡◌, ◌⊎◌, Err, Some, length, take};
-ghost use Rattle.std.specs.List.{concat};
-ghost use Rattle.lasso_parts.specs.Layout.{layout_texts, offsets_from};
-ghost use Rattle.lasso_c.specs.Layout.{column_rows, over, present_texts};
-ghost use Rattle.lasso_c.specs.Encoding.{column_outcome, codes_of, dictionary_of, encoding_outcome, row_codes};
+ghost use Rattle.std.specs.Prelude.{◌≡◌, ◌⊎◌, Err, length, take};
+ghost use Rattle.lasso_parts.specs.Layout.{layout_texts};
+ghost use Rattle.lasso_c.specs.Layout.{bytes_over, column_rows, column_texts, offsets_over, over, present_texts};
+ghost use Rattle.lasso_c.specs.Encoding.{codes_of, column_encoding_into, dictionary_of, encoding_into, row_codes};
 ghost use Rattle.lasso_c.specs.Bitmap.{bitmap_of, code_bits};
-ghost use Rattle.lasso_c.specs.Decoding.{decoding_outcome, nulls_decoding_outcome, rows_named, texts_named};
+ghost use Rattle.lasso_c.specs.Decoding.{decoding_into, nulls_decoding_into, rows_decoded, texts_decoded};
 ghost use Rattle.lasso_c.specs.Status.{Reports, status_text};
 ghost use Rattle.lasso_c.specs.declared.error.CallError.TheVariants.{NoMemory};
 
@@ -74,13 +73,15 @@ pub extern "C" fn lasso_encode(
     dictionary_offsets: &mut [u32],
     report: &mut LassoReport,
 ) -> u32
-    ensures outcome { Reports (encoding_outcome bytes.now offsets.now (length codes.old) (length dictionary_offsets.old) (length dictionary_bytes.old)) result report.new
+    ensures outcome { Reports (encoding_into bytes.now offsets.now codes.old dictionary_offsets.old dictionary_bytes.old) result report.new
         ⊎ Reports (Err NoMemory) result report.new }
 
     ensures codes { result ≡ DONE → (let texts = layout_texts bytes.now offsets.now in
         codes.new ≡ over (codes_of (dictionary_of texts) texts) codes.old) }
-    ensures dictionary_bytes { result ≡ DONE → dictionary_bytes.new ≡ over (concat (dictionary_of (layout_texts bytes.now offsets.now))) dictionary_bytes.old }
-    ensures dictionary_offsets { result ≡ DONE → dictionary_offsets.new ≡ over (offsets_from 0 (dictionary_of (layout_texts bytes.now offsets.now))) dictionary_offsets.old }
+    ensures dictionary_bytes { result ≡ DONE →
+        dictionary_bytes.new ≡ bytes_over (dictionary_of (layout_texts bytes.now offsets.now)) dictionary_bytes.old }
+    ensures dictionary_offsets { result ≡ DONE →
+        dictionary_offsets.new ≡ offsets_over (dictionary_of (layout_texts bytes.now offsets.now)) dictionary_offsets.old }
 
     ensures codes_kept { ¬ (result ≡ DONE) → codes.new ≡ codes.old }
     ensures dictionary_bytes_kept { ¬ (result ≡ DONE) → dictionary_bytes.new ≡ dictionary_bytes.old }
@@ -111,13 +112,15 @@ pub extern "C" fn lasso_encode_nulls(
     dictionary_offsets: &mut [u32],
     report: &mut LassoReport,
 ) -> u32
-    ensures outcome { Reports (column_outcome present.now bytes.now offsets.now (length codes.old) (length dictionary_offsets.old) (length dictionary_bytes.old)) result report.new
+    ensures outcome { Reports (column_encoding_into present.now bytes.now offsets.now codes.old dictionary_offsets.old dictionary_bytes.old) result report.new
         ⊎ Reports (Err NoMemory) result report.new }
 
     ensures codes { result ≡ DONE → (let rows = column_rows present.now bytes.now offsets.now in
         codes.new ≡ over (row_codes null (dictionary_of (present_texts rows)) rows) codes.old) }
-    ensures dictionary_bytes { result ≡ DONE → dictionary_bytes.new ≡ over (concat (dictionary_of (present_texts (column_rows present.now bytes.now offsets.now)))) dictionary_bytes.old }
-    ensures dictionary_offsets { result ≡ DONE → dictionary_offsets.new ≡ over (offsets_from 0 (dictionary_of (present_texts (column_rows present.now bytes.now offsets.now)))) dictionary_offsets.old }
+    ensures dictionary_bytes { result ≡ DONE →
+        dictionary_bytes.new ≡ bytes_over (dictionary_of (column_texts present.now bytes.now offsets.now)) dictionary_bytes.old }
+    ensures dictionary_offsets { result ≡ DONE →
+        dictionary_offsets.new ≡ offsets_over (dictionary_of (column_texts present.now bytes.now offsets.now)) dictionary_offsets.old }
 
     ensures codes_kept { ¬ (result ≡ DONE) → codes.new ≡ codes.old }
     ensures dictionary_bytes_kept { ¬ (result ≡ DONE) → dictionary_bytes.new ≡ dictionary_bytes.old }
@@ -147,10 +150,10 @@ pub extern "C" fn lasso_decode(
     offsets: &mut [u32],
     report: &mut LassoReport,
 ) -> u32
-    ensures outcome { Reports (decoding_outcome dictionary_bytes.now dictionary_offsets.now codes.now (length offsets.old) (length bytes.old)) result report.new }
+    ensures outcome { Reports (decoding_into dictionary_bytes.now dictionary_offsets.now codes.now offsets.old bytes.old) result report.new }
 
-    ensures bytes { result ≡ DONE → bytes.new ≡ over (concat (texts_named (layout_texts dictionary_bytes.now dictionary_offsets.now) codes.now)) bytes.old }
-    ensures offsets { result ≡ DONE → offsets.new ≡ over (offsets_from 0 (texts_named (layout_texts dictionary_bytes.now dictionary_offsets.now) codes.now)) offsets.old }
+    ensures bytes { result ≡ DONE → bytes.new ≡ bytes_over (texts_decoded dictionary_bytes.now dictionary_offsets.now codes.now) bytes.old }
+    ensures offsets { result ≡ DONE → offsets.new ≡ offsets_over (texts_decoded dictionary_bytes.now dictionary_offsets.now codes.now) offsets.old }
 
     ensures bytes_kept { ¬ (result ≡ DONE) → bytes.new ≡ bytes.old }
     ensures offsets_kept { ¬ (result ≡ DONE) → offsets.new ≡ offsets.old }
@@ -179,10 +182,11 @@ pub extern "C" fn lasso_decode_nulls(
     present: &mut [u8],
     report: &mut LassoReport,
 ) -> u32
-    ensures outcome { Reports (nulls_decoding_outcome null dictionary_bytes.now dictionary_offsets.now codes.now (length offsets.old) (length bytes.old) (length present.old)) result report.new }
+    ensures outcome { Reports (nulls_decoding_into null dictionary_bytes.now dictionary_offsets.now codes.now offsets.old bytes.old present.old)
+        result report.new }
 
-    ensures bytes { result ≡ DONE → bytes.new ≡ over (concat (rows_named (Some null) (layout_texts dictionary_bytes.now dictionary_offsets.now) codes.now)) bytes.old }
-    ensures offsets { result ≡ DONE → offsets.new ≡ over (offsets_from 0 (rows_named (Some null) (layout_texts dictionary_bytes.now dictionary_offsets.now) codes.now)) offsets.old }
+    ensures bytes { result ≡ DONE → bytes.new ≡ bytes_over (rows_decoded null dictionary_bytes.now dictionary_offsets.now codes.now) bytes.old }
+    ensures offsets { result ≡ DONE → offsets.new ≡ offsets_over (rows_decoded null dictionary_bytes.now dictionary_offsets.now codes.now) offsets.old }
     ensures present { result ≡ DONE → present.new ≡ over (bitmap_of (code_bits null codes.now)) present.old }
 
     ensures bytes_kept { ¬ (result ≡ DONE) → bytes.new ≡ bytes.old }

@@ -1,8 +1,8 @@
 //! Makers of interners that C holds: of given capacity, with keys, and as a clone of another.
 ghost use Rattle.std.specs.Prelude.{◌≡◌, [], None, Some, IfSome, IsSome, max};
 ghost use Rattle.lasso_parts.specs.Account.{fresh};
-ghost use Rattle.lasso_single.specs.Copies.{clone_of, clone_size};
-ghost use Rattle.lasso_c.specs.Handles.{account_in, first_in, seed_in, texts_in};
+ghost use Rattle.lasso_single.specs.Copies.{clone_size};
+ghost use Rattle.lasso_c.specs.Handles.{account_in, clone_account, first_in, seed_in, texts_in};
 ghost use Rattle.lasso_c.specs.Seeds.{IsFixed, keyed_seed};
 
 use crate::handle::Lasso;
@@ -91,7 +91,7 @@ pub extern "C" fn lasso_new_sized_keyed(
 pub extern "C" fn lasso_clone(alloc: Global, lasso: &mut Lasso, clone: &mut Lasso) -> u32
     ensures made { result ≡ DONE → IsSome clone.new.seat.value }
     ensures texts { result ≡ DONE → texts_in clone.new.seat.value ≡ texts_in lasso.old.seat.value }
-    ensures account { result ≡ DONE → IfSome lasso.old.seat.value (λ interner. account_in clone.new.seat.value ≡ clone_of interner.rodeo.texts interner.rodeo.account.limit) }
+    ensures account { result ≡ DONE → IfSome lasso.old.seat.value (λ interner. account_in clone.new.seat.value ≡ clone_account interner) }
     ensures first { result ≡ DONE → first_in clone.new.seat.value ≡ Some (clone_size (texts_in lasso.old.seat.value)) }
     ensures seed { result ≡ DONE → seed_in clone.new.seat.value ≡ seed_in lasso.old.seat.value }
     ensures none { lasso.old.seat.value ≡ None → result ≡ NO_INTERNER }

@@ -1,11 +1,10 @@
 //! The calls on a handle that read or write offsets, at either width of these.
-ghost use Rattle.std.specs.Prelude.{◌≡◌, ◌≤◌, [], length, take, drop};
-ghost use Rattle.std.specs.List.{concat};
-ghost use Rattle.lasso_parts.specs.Layout.{layout_texts, offsets_from};
-ghost use Rattle.lasso_c.specs.Layout.{column_rows, over, present_texts};
-ghost use Rattle.lasso_c.specs.Encoding.{codes_of, codes_or, row_codes, with_all_new};
-ghost use Rattle.lasso_c.specs.Handles.{dictionary_outcome, lookup_outcome, seed_in, texts_in};
-ghost use Rattle.lasso_c.specs.Interning.{BatchEnds};
+ghost use Rattle.std.specs.Prelude.{◌≡◌, ◌≤◌, [], length, drop};
+ghost use Rattle.lasso_parts.specs.Layout.{layout_texts};
+ghost use Rattle.lasso_c.specs.Layout.{bytes_over, first_rows, first_texts, offsets_over, over, present_texts};
+ghost use Rattle.lasso_c.specs.Encoding.{codes_or};
+ghost use Rattle.lasso_c.specs.Handles.{codes_in, dictionary_outcome, lookup_outcome, PutsNew, row_codes_in, seed_in, texts_in};
+ghost use Rattle.lasso_c.specs.Interning.{ColumnEnds};
 ghost use Rattle.lasso_c.specs.Status.{Reports};
 
 use crate::batches::{find_layout, intern_column, intern_layout, tell_batch, write_from};
@@ -22,9 +21,9 @@ pub(crate) fn intern_batch<O: Offset>(
     codes: &mut [u32],
     report: &mut LassoReport,
 ) -> u32
-    ensures outcome { BatchEnds O.GREATEST lasso.old.seat.value [] bytes.now (O.numbers offsets.now) (length codes.old) result report.new lasso.new.seat.value }
-    ensures texts { texts_in lasso.new.seat.value ≡ with_all_new (texts_in lasso.old.seat.value) (take report.new.texts (layout_texts bytes.now (O.numbers offsets.now))) }
-    ensures codes { codes.new ≡ over (codes_of (texts_in lasso.new.seat.value) (take report.new.texts (layout_texts bytes.now (O.numbers offsets.now)))) codes.old }
+    ensures outcome { ColumnEnds O.GREATEST lasso.old.seat.value [] bytes.now (O.numbers offsets.now) codes.old result report.new lasso.new.seat.value }
+    ensures texts { PutsNew lasso.old.seat.value lasso.new.seat.value (first_texts report.new.texts bytes.now (O.numbers offsets.now)) }
+    ensures codes { codes.new ≡ over (codes_in lasso.new.seat.value (first_texts report.new.texts bytes.now (O.numbers offsets.now))) codes.old }
     ensures seed { seed_in lasso.new.seat.value ≡ seed_in lasso.old.seat.value }
     ensures whole { result ≡ DONE → report.new.texts ≡ length (layout_texts bytes.now (O.numbers offsets.now)) }
     ensures within { report.new.texts ≤ length (layout_texts bytes.now (O.numbers offsets.now)) }
@@ -46,9 +45,12 @@ pub(crate) fn intern_batch_nulls<O: Offset>(
     codes: &mut [u32],
     report: &mut LassoReport,
 ) -> u32
-    ensures outcome { BatchEnds O.GREATEST lasso.old.seat.value present.now bytes.now (O.numbers offsets.now) (length codes.old) result report.new lasso.new.seat.value }
-    ensures texts { texts_in lasso.new.seat.value ≡ with_all_new (texts_in lasso.old.seat.value) (present_texts (take report.new.texts (column_rows present.now bytes.now (O.numbers offsets.now)))) }
-    ensures codes { codes.new ≡ over (row_codes null (texts_in lasso.new.seat.value) (take report.new.texts (column_rows present.now bytes.now (O.numbers offsets.now)))) codes.old }
+    ensures outcome { ColumnEnds O.GREATEST lasso.old.seat.value present.now bytes.now (O.numbers offsets.now) codes.old
+        result report.new lasso.new.seat.value }
+    ensures texts { PutsNew lasso.old.seat.value lasso.new.seat.value
+        (present_texts (first_rows report.new.texts present.now bytes.now (O.numbers offsets.now))) }
+    ensures codes { codes.new ≡
+        over (row_codes_in null lasso.new.seat.value (first_rows report.new.texts present.now bytes.now (O.numbers offsets.now))) codes.old }
     ensures seed { seed_in lasso.new.seat.value ≡ seed_in lasso.old.seat.value }
     ensures whole { result ≡ DONE → report.new.texts ≡ length (layout_texts bytes.now (O.numbers offsets.now)) }
     ensures within { report.new.texts ≤ length (layout_texts bytes.now (O.numbers offsets.now)) }
@@ -70,7 +72,8 @@ pub(crate) fn get_batch<O: Offset>(
     report: &mut LassoReport,
 ) -> u32
     ensures outcome { Reports (lookup_outcome O.GREATEST lasso.old.seat.value bytes.now (O.numbers offsets.now) (length codes.old)) result report.new }
-    ensures codes { result ≡ DONE → codes.new ≡ over (codes_or absent (texts_in lasso.old.seat.value) (layout_texts bytes.now (O.numbers offsets.now))) codes.old }
+    ensures codes { result ≡ DONE →
+        codes.new ≡ over (codes_or absent (texts_in lasso.old.seat.value) (layout_texts bytes.now (O.numbers offsets.now))) codes.old }
     ensures codes_kept { ¬ (result ≡ DONE) → codes.new ≡ codes.old }
     ensures kept { lasso.new.seat.value ≡ lasso.old.seat.value }
 {
@@ -90,8 +93,8 @@ pub(crate) fn dictionary<O: Offset>(
     report: &mut LassoReport,
 ) -> u32
     ensures outcome { Reports (dictionary_outcome O.GREATEST lasso.old.seat.value from (length (O.numbers offsets.old)) (length bytes.old)) result report.new }
-    ensures bytes { result ≡ DONE → bytes.new ≡ over (concat (drop from (texts_in lasso.old.seat.value))) bytes.old }
-    ensures offsets { result ≡ DONE → O.numbers offsets.new ≡ over (offsets_from 0 (drop from (texts_in lasso.old.seat.value))) (O.numbers offsets.old) }
+    ensures bytes { result ≡ DONE → bytes.new ≡ bytes_over (drop from (texts_in lasso.old.seat.value)) bytes.old }
+    ensures offsets { result ≡ DONE → O.numbers offsets.new ≡ offsets_over (drop from (texts_in lasso.old.seat.value)) (O.numbers offsets.old) }
     ensures bytes_kept { ¬ (result ≡ DONE) → bytes.new ≡ bytes.old }
     ensures offsets_kept { ¬ (result ≡ DONE) → O.numbers offsets.new ≡ O.numbers offsets.old }
     ensures kept { lasso.new.seat.value ≡ lasso.old.seat.value }

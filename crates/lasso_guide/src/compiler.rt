@@ -87,7 +87,8 @@ fn translate<K: Key + Drop>(
     token: &Token<'_>,
     code: &mut Vec<Instruction>,
 ) -> Result<(), CompileError>
-    ensures { IfOk result (λ _. Translates (names_in K.number scopes.old.names scopes.old.variables) scopes.old.opened.items code.old.items token.now (names_in K.number scopes.new.names scopes.new.variables) scopes.new.opened.items code.new.items) }
+    ensures { IfOk result (λ _. Translates (names_in K.number scopes.old.names scopes.old.variables) scopes.old.opened.items code.old.items token.now
+        (names_in K.number scopes.new.names scopes.new.variables) scopes.new.opened.items code.new.items) }
 {
     match token {
         Token::Number(number) => {

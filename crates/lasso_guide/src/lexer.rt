@@ -1,6 +1,7 @@
 //! A lexer with keywords. It interns the keywords first, so a key below `KEYWORDS.len()` is a keyword's, and
 //! any other is a name's.
-ghost use Rattle.std.specs.Prelude.{◌≡◌, ◌↔◌, ◌<◌, ◌≤◌, ◌++◌, ℕ, false, true, IfOk, Some, IsTrue, MatchOption, length, option_map, slice_get, slice_index};
+ghost use Rattle.std.specs.Prelude.{◌≡◌, ◌↔◌, ◌<◌, ◌≤◌, ◌++◌, ℕ, false, true, IfOk, Some, IsTrue};
+ghost use Rattle.std.specs.Prelude.{MatchOption, length, option_map, slice_get, slice_index};
 ghost use Rattle.lasso.specs.Spurs.{spur_number};
 ghost use Rattle.lasso_guide.specs.declared.lexer.Kind.TheVariants.{Space};
 ghost use Rattle.lasso_guide.specs.Lexing.{IsCutInto, IsKeyword, IsPiece, IsTokenOf, Keep, kind_of, continues, keywords};

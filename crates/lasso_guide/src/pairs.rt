@@ -25,7 +25,8 @@ pub fn intern_pair<R: Threads + Wait + Sync, K: Key + Send + Sync + Drop>(
     ensures left { IfOk result (λ keys. HasKey K.key_at rodeo.now.opening (seen pass.new) left.now keys.0) }
     ensures right { IfOk result (λ keys. HasKey K.key_at rodeo.now.opening (seen pass.new) right.now keys.1) }
     ensures equal { IfOk result (λ keys. (keys.0 ≡ keys.1) ↔ (left.now ≡ right.now)) }
-    ensures kept { (n : ℕ) (text : Text) → slice_get (list_of rodeo.now pass.old.notes) n ≡ Some text → slice_get (list_of rodeo.now pass.new.notes) n ≡ Some text }
+    ensures kept { (n : ℕ) (text : Text) → slice_get (list_of rodeo.now pass.old.notes) n ≡ Some text
+        → slice_get (list_of rodeo.now pass.new.notes) n ≡ Some text }
     ensures refused { IfErr result (λ _. pass.new ≡ pass.old) }
 {
     let here = move || -> LassoResult<Find<K>>

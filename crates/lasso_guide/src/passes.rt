@@ -17,7 +17,8 @@ pub fn declare<K: Key, R: Wait>(
     requires { pass.old.of ≡ rodeo.now }
     ensures same { IsSamePass pass.new pass.old }
     ensures named { IfOk result (λ key. slice_get (list_of rodeo.now pass.new.notes) (K.number key) ≡ Some name.now) }
-    ensures kept { (n : ℕ) (text : Text) → slice_get (list_of rodeo.now pass.old.notes) n ≡ Some text → slice_get (list_of rodeo.now pass.new.notes) n ≡ Some text }
+    ensures kept { (n : ℕ) (text : Text) → slice_get (list_of rodeo.now pass.old.notes) n ≡ Some text
+        → slice_get (list_of rodeo.now pass.new.notes) n ≡ Some text }
 {
     rodeo.try_get_or_intern_as(rt, pass, name)
 }

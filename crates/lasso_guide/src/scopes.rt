@@ -60,7 +60,8 @@ impl<K: Key + Drop> Scopes<K> {
     /// scope are the same.
     pub fn declare(&mut self, name: &str) -> LassoResult<usize>
         ensures place { IfOk result (λ place. place ≡ length self.old.variables.items) }
-        ensures declared { IfOk result (λ _. names_in K.number self.new.names self.new.variables ≡ names_in K.number self.old.names self.old.variables ++ Some name.now ∷ []) }
+        ensures declared { IfOk result (λ _. names_in K.number self.new.names self.new.variables
+            ≡ names_in K.number self.old.names self.old.variables ++ Some name.now ∷ []) }
         ensures kept { OnErr result (names_in K.number self.new.names self.new.variables ≡ names_in K.number self.old.names self.old.variables) }
         ensures opened { self.new.opened.items ≡ self.old.opened.items }
     {

@@ -32,7 +32,8 @@ pub(crate) fn answer_line<O: ByteWriter>(
     ensures first { rodeo.new.first ≡ first_bytes }
     ensures failures { O.failures writer.new ≡ O.failures writer.old + failed_writes result }
     ensures delivered { OnlyGrows (O.delivered writer.old) (O.delivered writer.new) }
-    ensures answers { Writes O.delivered O.pending writer.old writer.new (λ part. AnswersLine (held_by rodeo.old) number line.now result (held_by rodeo.new) part) }
+    ensures answers { Writes O.delivered O.pending writer.old writer.new
+        (λ part. AnswersLine (held_by rodeo.old) number line.now result (held_by rodeo.new) part) }
     ensures faults { IfErr result IsAnswerFault }
 {
     let Ok(text) = line.text() else {

@@ -1,5 +1,6 @@
 //! Writes the distinct lines in the order of their bytes.
-ghost use Rattle.std.specs.Prelude.{◌≡◌, ◌+◌, ◌++◌, ◌∷◌, [], true, false, ◌↔◌, ◌<◌, ℕ, Some, OnOk, IfOk, IfErr, Err, All, Contains, length, map, slice_index_or, vec_len, if◌then◌else◌};
+ghost use Rattle.std.specs.Prelude.{◌≡◌, ◌+◌, ◌++◌, ◌∷◌, [], true, false, ◌↔◌, ◌<◌, ℕ, Some, OnOk, IfOk, IfErr};
+ghost use Rattle.std.specs.Prelude.{Err, All, Contains, length, map, slice_index_or, vec_len, if◌then◌else◌};
 ghost use mathlib.Core.List.{IsPrefix};
 ghost use Rattle.lasso_log.specs.Views.{PassView, InternerId, list_of};
 ghost use Rattle.lasso_lines.specs.Stream.{OnlyGrows, Writes};
@@ -96,7 +97,8 @@ fn take_marked<'a>(
 
 // A list of `len` marks, set at these positions. Positions past its end are ignored.
 fn marks_of(alloc: Global, codes: &[u32], len: usize) -> Result<Vec<bool>, AllocError>
-    ensures { IfOk result (λ marks. (vec_len marks ≡ len) × ((p : ℕ) → p < len → (slice_index_or marks.items p false ≡ true) ↔ Contains codes.now p)) }
+    ensures { IfOk result (λ marks. (vec_len marks ≡ len)
+        × ((p : ℕ) → p < len → (slice_index_or marks.items p false ≡ true) ↔ Contains codes.now p)) }
 {
     let mut marks = vec![in alloc; false; len]?;
     for code in codes {

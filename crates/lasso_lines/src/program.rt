@@ -43,7 +43,8 @@ pub fn run_words<R: AllocGlobal + Threads + Wait + Sync, I: ByteReader, O: ByteW
     ensures writes { O.failures writer.new ≡ O.failures writer.old + failed_writes result }
     ensures delivered { OnlyGrows (O.delivered writer.old) (O.delivered writer.new) }
     ensures no_usage { (settings : ℕ × Option ℕ) → settings_of (map string_bytes words.now) ≡ Some settings → ¬ (result ≡ Err Usage) }
-    ensures nothing_pending { (settings : ℕ × Option ℕ) → settings_of (map string_bytes words.now) ≡ Some settings → ¬ (result ≡ Err WriteFailed) → O.pending writer.new ≡ Some [] }
+    ensures nothing_pending { (settings : ℕ × Option ℕ) → settings_of (map string_bytes words.now) ≡ Some settings
+        → ¬ (result ≡ Err WriteFailed) → O.pending writer.new ≡ Some [] }
 {
     match arguments(words) {
         Ok(

@@ -82,7 +82,8 @@ fn add_codes(
 ) -> Result<Option<NumberedError>, RunFault>
     ensures fault { IfErr result (λ fault. fault ≡ Refused 0 FailedAllocation) }
     ensures lowest { IfOk result (λ next. MatchResult outcome.now (λ _. next ≡ lowest) (λ refusal. IsSomeAnd next (IsLower lowest refusal))) }
-    ensures added { IfOk result (λ next. next ≡ None → (lowest ≡ None) × MatchResult outcome.now (λ more. codes.new.items ≡ codes.old.items ++ more.items) (λ _. ⊥)) }
+    ensures added { IfOk result (λ next. next ≡ None → (lowest ≡ None)
+        × MatchResult outcome.now (λ more. codes.new.items ≡ codes.old.items ++ more.items) (λ _. ⊥)) }
 {
     match outcome {
         Ok(more) => {

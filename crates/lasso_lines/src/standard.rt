@@ -1,5 +1,6 @@
 //! Readers and writers of std, each with a large buffer.
-ghost use Rattle.std.specs.Prelude.{◌≡◌, ℕ, ◌+◌, ◌-◌, ◌<◌, ◌≤◌, ◌↔◌, ◌++◌, ◌∷◌, [], false, IsTrue, Some, IfOk, OnOk, drop, length, vec_capacity};
+ghost use Rattle.std.specs.Prelude.{◌≡◌, ℕ, ◌+◌, ◌-◌, ◌<◌, ◌≤◌, ◌↔◌, ◌++◌, ◌∷◌, [], false};
+ghost use Rattle.std.specs.Prelude.{IsTrue, Some, IfOk, OnOk, drop, length, vec_capacity};
 ghost use Rattle.lasso_lines.specs.Stream.{Grows, Stays, OnlyGrows, Takes, taken};
 
 use crate::stream::{ByteReader, ByteWriter, StreamError, push_line};
@@ -28,7 +29,11 @@ impl<R: Read + Drop> Model for StandardReader<R> {
 
     ghost Value = { ReaderView };
 
-    ghost view = { λ r. record { at_hand = drop r.used (take r.filled r.buffer.items); left = prepend_known (drop r.used (take r.filled r.buffer.items)) (R.remaining r.inner); failures = r.failures.count } };
+    ghost view = { λ r. record {
+      at_hand = drop r.used (take r.filled r.buffer.items);
+      left = prepend_known (drop r.used (take r.filled r.buffer.items)) (R.remaining r.inner);
+      failures = r.failures.count;
+    } };
 
     ghost invariant = { λ r. (r.used ≤ r.filled) × (r.filled ≤ length r.buffer.items) × (0 < length r.buffer.items) };
 }
@@ -96,7 +101,12 @@ impl<W: Write + Drop> Model for StandardWriter<W> {
 
     ghost Value = { WriterView };
 
-    ghost view = { λ w. record { delivered = W.contents w.outgoing.inner; pending = Some (drop w.outgoing.sent w.outgoing.buffer.items); failures = w.failures.count; room = 65536 - length w.outgoing.buffer.items } };
+    ghost view = { λ w. record {
+      delivered = W.contents w.outgoing.inner;
+      pending = Some (drop w.outgoing.sent w.outgoing.buffer.items);
+      failures = w.failures.count;
+      room = 65536 - length w.outgoing.buffer.items;
+    } };
 }
 
 impl<W: Write + Drop> StandardWriter<W> {
@@ -182,7 +192,8 @@ impl<W: Write + Drop> Outgoing<W> {
     // Appends the first of the bytes, those that fit, and returns how many. Sends a full buffer first.
     fn take(&mut self, bytes: &[u8]) -> Result<usize, StreamError>
         ensures delivered { OnlyGrows (W.contents self.old.inner) (W.contents self.new.inner) }
-        ensures written { Grows (taken W.contents self.old.inner self.old.sent self.old.buffer) (taken W.contents self.new.inner self.new.sent self.new.buffer) (Takes bytes.now result) }
+        ensures written { Grows (taken W.contents self.old.inner self.old.sent self.old.buffer)
+            (taken W.contents self.new.inner self.new.sent self.new.buffer) (Takes bytes.now result) }
         ensures count { IfOk result (λ n. n ≤ length bytes.now) }
         ensures progress { IfOk result (λ n. 0 < length bytes.now → 0 < n) }
     {
@@ -197,7 +208,8 @@ impl<W: Write + Drop> Outgoing<W> {
     // Sends the whole buffer, and flushes the inner writer.
     fn flush(&mut self) -> Result<(), StreamError>
         ensures delivered { OnlyGrows (W.contents self.old.inner) (W.contents self.new.inner) }
-        ensures written { Stays (taken W.contents self.old.inner self.old.sent self.old.buffer) (taken W.contents self.new.inner self.new.sent self.new.buffer) }
+        ensures written { Stays (taken W.contents self.old.inner self.old.sent self.old.buffer)
+            (taken W.contents self.new.inner self.new.sent self.new.buffer) }
         ensures all { OnOk result (drop self.new.sent self.new.buffer.items ≡ []) }
     {
         self.send()?;
@@ -210,7 +222,8 @@ impl<W: Write + Drop> Outgoing<W> {
     // Sends the buffer if it is full.
     fn make_room(&mut self) -> Result<(), StreamError>
         ensures delivered { OnlyGrows (W.contents self.old.inner) (W.contents self.new.inner) }
-        ensures written { Stays (taken W.contents self.old.inner self.old.sent self.old.buffer) (taken W.contents self.new.inner self.new.sent self.new.buffer) }
+        ensures written { Stays (taken W.contents self.old.inner self.old.sent self.old.buffer)
+            (taken W.contents self.new.inner self.new.sent self.new.buffer) }
         ensures room { OnOk result (length self.new.buffer.items < 65536) }
     {
         if self.buffer.len() < BUFFER {
@@ -223,7 +236,8 @@ impl<W: Write + Drop> Outgoing<W> {
     // failed write, the bytes that were not sent stay in the buffer.
     fn send(&mut self) -> Result<(), StreamError>
         ensures delivered { OnlyGrows (W.contents self.old.inner) (W.contents self.new.inner) }
-        ensures written { Stays (taken W.contents self.old.inner self.old.sent self.old.buffer) (taken W.contents self.new.inner self.new.sent self.new.buffer) }
+        ensures written { Stays (taken W.contents self.old.inner self.old.sent self.old.buffer)
+            (taken W.contents self.new.inner self.new.sent self.new.buffer) }
         ensures all { OnOk result (self.new.buffer.items ≡ []) }
     {
         while self.sent < self.buffer.len() {

@@ -1,6 +1,7 @@
 //! Readers and writers of bytes. Their contracts say what happens to the bytes, if these are known, and
 //! count the failed calls.
-ghost use Rattle.std.specs.Prelude.{◌≡◌, ℕ, ◌+◌, ◌<◌, ◌≤◌, ◌↔◌, ◌++◌, ◌∷◌, List, [], false, IsTrue, Option, Some, length, drop, IfOk, OnOk, vec_capacity};
+ghost use Rattle.std.specs.Prelude.{◌≡◌, ℕ, ◌+◌, ◌<◌, ◌≤◌, ◌↔◌, ◌++◌, ◌∷◌, List, [], false, IsTrue};
+ghost use Rattle.std.specs.Prelude.{Option, Some, length, drop, IfOk, OnOk, vec_capacity};
 ghost use Rattle.lasso_lines.specs.Stream.{OnlyGrows, Stays, Loses, ComeFirst, Ended, Keeps, Takes, Writes, failed_calls};
 
 /// A call failed. The reader or writer has counted it.

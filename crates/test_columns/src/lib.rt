@@ -33,6 +33,8 @@ mod parts;
 #[cfg(test)]
 mod refused;
 #[cfg(test)]
+mod rounds;
+#[cfg(test)]
 mod shared;
 #[cfg(test)]
 mod shared_columns;
