@@ -1,6 +1,6 @@
 -- What an arena shows: the regions that it copies texts into, each a bucket of the account, and the texts
 -- in them.
-use Rattle.std.specs.Prelude.{◌≡◌, ℕ, ◌+◌, ◌-◌, ◌<◌, ◌≤◌, max, nat_eq, if◌then◌else◌, List, [], ◌++◌, length, get_or, sum_by, slice_range, IsUtf8}
+use Rattle.std.specs.Prelude.{◌≡◌, ℕ, ◌+◌, ◌-◌, ◌<◌, ◌≤◌, max, nat_eq, if◌then◌else◌, List, [], ◌∷◌, ◌++◌, length, get_or, slice_set, sum_by, slice_range, IsUtf8}
 use denote.RawPtr.{Ptr, null_ptr, ◌+ₚ◌}
 use Rattle.lasso_parts.specs.Account.{Account}
 use Rattle.lasso_parts.specs.Bucket.{Extent}
@@ -82,6 +82,15 @@ emptied r = record r { bytes = [] }
 -- the region with more bytes
 abbrev pub with_bytes : Extent → List ℕ → Extent
 with_bytes r more = record r { bytes = r.bytes ++ more }
+
+-- the regions with more bytes in the one at this position
+abbrev pub with_bytes_at : List Extent → ℕ → List ℕ → List Extent
+with_bytes_at regions at more = slice_set regions at (with_bytes (region_at regions at) more)
+
+-- an arena gets one more region, after the others: of this capacity, with these bytes, at some address
+abbrev pub AddsRegion : (before after : Regions) → List ℕ → (capacity : ℕ) → Type 0
+AddsRegion before after bytes capacity =
+    (at : Ptr) × (after ≡ record before { all = before.all ++ record { at = at; bytes = bytes; capacity = capacity } ∷ [] })
 
 -- the bytes that a span names: a region, a start and a length
 abbrev pub text_at : List Extent → Span → List ℕ

@@ -5,7 +5,7 @@
 -- size has more than twice the doubling size, and a remnant fewer, so these are the doubled ones.
 use Rattle.std.specs.Prelude.{◌≡◌, ℕ, ◌*◌, ◌<◌, ◌≤◌, ◌⊎◌, nat_eq, if◌then◌else◌, List, [], ◌∷◌, length, drop}
 use Rattle.lasso_parts.specs.Bucket.{Extent}
-use Rattle.lasso_parts.specs.Arena.{Regions, region_at, first_of, copied_of, most_of, account_of, spares_at_clear, spare_part}
+use Rattle.lasso_parts.specs.Arena.{Regions, region_at, first_of, copied_of, most_of, account_of, spares_at_clear, spare_part, usage_of}
 use Rattle.lasso_parts.specs.Waste.{IsThriftySince}
 
 -- the first has this size, and each next one twice the size of the one before
@@ -42,6 +42,10 @@ pub record IsOrdered (a : Regions) : Type 0 where
 pub record IsSound (a : Regions) : Type 0 where
   pub order : IsOrdered a
   pub thrift : IsThriftySince (first_of a) (copied_of a) (most_of a) (account_of a)
+
+-- the same, and the usage is counted: it is the sum of the regions' capacities
+abbrev pub IsCountedSound : (usage : ℕ) → Regions → Type 0
+IsCountedSound usage a = (usage ≡ usage_of a.all) × IsSound a
 
 -- the region can take n bytes as a spare
 abbrev pub CanTake : ℕ → Extent → Type 0

@@ -1,7 +1,7 @@
 -- An open-addressed table of positions in a list of texts: a slot is empty or holds one position.
 -- Callers cite `Holds`, `IsFiled`, `room` and `IsIndexOf`.
-use Rattle.std.specs.Prelude.{◌≡◌, ◌≢◌, ℕ, ◌+◌, ◌-◌, ◌*◌, ◌/◌, ◌%◌, ◌^◌, ◌<◌, ◌≤◌, ◌⊎◌, ◌↔◌, List, Option, Some, None, [], ◌∷◌, length, slice_index_or, slice_get, bit_and, nat_eq, if◌then◌else◌}
-use Rattle.lasso_parts.specs.Texts.{Text, IsDistinct}
+use Rattle.std.specs.Prelude.{◌≡◌, ◌≢◌, ℕ, ◌+◌, ◌-◌, ◌*◌, ◌/◌, ◌%◌, ◌^◌, ◌<◌, ◌≤◌, ◌⊎◌, ◌↔◌, List, Option, Some, None, [], ◌∷◌, length, slice_index_or, slice_get, bit_and, nat_eq, if◌then◌else◌, Result, MatchResult}
+use Rattle.lasso_parts.specs.Texts.{Text, position_of, IsDistinct}
 
 -- slots, each empty or with a position, and a fingerprint for each
 pub record Table : Type 0 where
@@ -98,3 +98,12 @@ pub record IsIndexOf (hash_of : Text → ℕ) (texts : List Text) (table : Table
   pub holds : (n : ℕ) → Holds table.slots n ↔ (n < length texts)
   pub once : used table.slots ≡ length texts
   pub distinct : IsDistinct texts
+
+-- in the index of a whole list a search finds the text's position in the list, or none
+abbrev pub FindsPosition : (hash_of : Text → ℕ) → List Text → Table → Text → Option ℕ → Type 0
+FindsPosition hash_of texts table text found = IsIndexOf hash_of texts table → found ≡ position_of texts text
+
+-- the same of a search that finds something else, as a vacancy, if the list lacks the text
+abbrev pub LocatesPosition : {V : Type 0} → (hash_of : Text → ℕ) → List Text → Table → Text → Result ℕ V → Type 0
+LocatesPosition hash_of texts table text found =
+    IsIndexOf hash_of texts table → MatchResult found (λ n. position_of texts text ≡ Some n) (λ _. position_of texts text ≡ None)

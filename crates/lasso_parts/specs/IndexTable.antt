@@ -31,8 +31,20 @@ pub record IsEntered (n : ℕ) (old new : Table) : Type 0 where
   pub more : used new.slots ≡ used old.slots + 1
   pub len : length new.slots ≡ length old.slots
 
+-- the new table is filed under the list if the old one was
+abbrev pub KeepsFiled : (hash_of : Text → ℕ) → List Text → (old new : Table) → Type 0
+KeepsFiled hash_of texts old new = IsFiled hash_of texts old → IsFiled hash_of texts new
+
 -- a new table of the list holds these positions, in `count` slots
 pub record IsRefilled (hash_of : Text → ℕ) (texts : List Text) (table : Table) (IsHeld : ℕ → Type 0) (count : ℕ) : Type 0 where
   pub filed : IsFiled hash_of texts table
   pub holds : (n : ℕ) → Holds table.slots n ↔ IsHeld n
   pub counted : used table.slots ≡ count
+
+-- it holds the positions that the old slots held
+abbrev pub HoldsAgain : (hash_of : Text → ℕ) → List Text → (old : List (Option ℕ)) → Table → Type 0
+HoldsAgain hash_of texts old table = IsRefilled hash_of texts table (Holds old) (used old)
+
+-- it holds the first positions of the list, this number of them
+abbrev pub HoldsFirst : (hash_of : Text → ℕ) → List Text → (len : ℕ) → Table → Type 0
+HoldsFirst hash_of texts len table = IsRefilled hash_of texts table (λ n. n < len) len

@@ -1,9 +1,10 @@
 -- Lists of texts and keys as JSON: what is written, and how a value is read. What a JSON value is is the word
 -- of `serde_json` (`Data` of its specs): contracts see the value of a `Value` by `view`.
-use Rattle.std.specs.Prelude.{◌≡◌, ◌⊎◌, ℕ, zero, suc, List, [], ◌∷◌, ◌++◌, length, map, Bool, if◌then◌else◌, Option, Some, None, IsSome, option_and_then, Result, Ok, Err}
+use Rattle.std.specs.Prelude.{◌≡◌, ◌⊎◌, ℕ, zero, suc, List, [], ◌∷◌, ◌++◌, length, map, Bool, IsTrue, if◌then◌else◌, Option, Some, None, IsSome, option_and_then, Result, Ok, Err}
 use Rattle.serde_json.specs.Data.{Data, string, array, Items, no_items, item}
 use Rattle.serde_json.specs.Find.{as_str, as_array, as_number, as_u64}
 use Rattle.serde_json.specs.View.{items_of}
+use Rattle.lasso_parts.specs.Index.{Table, IsIndexOf}
 use Rattle.lasso_parts.specs.Texts.{Text, position_of}
 use Rattle.lasso_parts.specs.declared.util.LassoErrorKind.TheVariants.{FailedAllocation}
 use Rattle.lasso_parts.specs.declared.json.error.JsonError.{JsonError}
@@ -79,6 +80,23 @@ TakesText key_at d = (first : Data) × (ds : Items) × (text : Text) × (as_arra
 -- takes some
 abbrev pub ReadsOr : Type 0 → Result (List Text) JsonError → Result (List Text) JsonError → Type 0
 ReadsOr takes_memory read answer = (answer ≡ read) ⊎ ((answer ≡ no_memory) × takes_memory)
+
+-- the result is the list that an array is read as, or what is wrong with the value; or it is out of memory,
+-- unless the value is no array or its first item is faulty
+abbrev pub ReadsArray : {K : Type 0} → (ℕ → Option K) → Bool → Data → Result (List Text) JsonError → Type 0
+ReadsArray key_at distinct d answer = ReadsOr (TakesText key_at d) (read_array key_at distinct d) answer
+
+-- the same of items: any of them may find no memory
+abbrev pub ReadsItems : {K : Type 0} → (ℕ → Option K) → Bool → Items → Result (List Text) JsonError → Type 0
+ReadsItems key_at distinct ds answer = (answer ≡ read_items key_at distinct [] ds) ⊎ (answer ≡ no_memory)
+
+-- the fault is what is wrong with a text as the item of this number, after those seen; or it is out of memory
+abbrev pub IsFaultOfText : {K : Type 0} → (ℕ → Option K) → (at : ℕ) → Bool → (seen : List Text) → Text → JsonError → Type 0
+IsFaultOfText key_at at distinct seen text fault = (new_text key_at at text (earlier distinct seen text) ≡ Err fault) ⊎ (fault ≡ Lasso FailedAllocation)
+
+-- the index is that of the list with the text last, if its texts have to be distinct
+abbrev pub IndexesWith : Bool → (hash_of : Text → ℕ) → List Text → Text → Table → Type 0
+IndexesWith distinct hash_of texts text index = IsTrue distinct → IsIndexOf hash_of (texts ++ text ∷ []) index
 
 -- ---- keys
 

@@ -1,5 +1,5 @@
 -- Lists of texts as JSON objects, from each text to its position plus one: what is written, and how a value is read.
-use Rattle.std.specs.Prelude.{◌≡◌, ℕ, zero, suc, ◌+◌, ◌==◌, List, [], ◌∷◌, ◌++◌, length, replicate, set, Bool, true, false, nat_lt, if◌then◌else◌, Option, Some, None, Result, Ok, Err}
+use Rattle.std.specs.Prelude.{◌≡◌, ◌⊎◌, ℕ, zero, suc, ◌+◌, ◌==◌, List, [], ◌∷◌, ◌++◌, length, replicate, set, Bool, true, false, nat_lt, if◌then◌else◌, Option, Some, None, Result, Ok, Err}
 use Rattle.std.specs.List.{list_any}
 use Rattle.std.specs.List.Sorted.{IsStrictlySortedBy}
 use Rattle.std.specs.Ordering.{nat_cmp}
@@ -8,7 +8,7 @@ use Rattle.serde_json.specs.Data.{Data, number, unsigned, object, Members, no_me
 use Rattle.serde_json.specs.Events.{members_len}
 use Rattle.serde_json.specs.Find.{as_object}
 use Rattle.lasso_parts.specs.Texts.{Text}
-use Rattle.lasso_parts.specs.Json.{and_then, key_or_too_many, whole_number}
+use Rattle.lasso_parts.specs.Json.{and_then, key_or_too_many, no_memory, whole_number, ReadsOr}
 use Rattle.lasso_parts.specs.declared.json.error.JsonError.{JsonError}
 use Rattle.lasso_parts.specs.declared.json.error.JsonError.TheVariants.{NotAnObject, NotAPosition, Taken}
 
@@ -79,6 +79,15 @@ read_object key_at d = read_if_object key_at (as_object d)
 -- the value is an object whose first member has a position: to read it takes memory
 abbrev pub TakesPosition : {K : Type 0} → (ℕ → Option K) → Data → Type 0
 TakesPosition key_at d = (t : Text) × (first : Data) × (ms : Members) × (p : ℕ) × (as_object d ≡ Some (member t first ms)) × (next_position key_at (members_len ms + 1) [] first ≡ Ok p)
+
+-- the result is the list that an object is read as, or what is wrong with the value; or it is out of memory,
+-- unless the value is no object or its first member is faulty
+abbrev pub ReadsObject : {K : Type 0} → (ℕ → Option K) → Data → Result (List Text) JsonError → Type 0
+ReadsObject key_at d answer = ReadsOr (TakesPosition key_at d) (read_object key_at d) answer
+
+-- the same of members, which are n: any of them may find no memory
+abbrev pub ReadsMembers : {K : Type 0} → (ℕ → Option K) → (n : ℕ) → Members → Result (List Text) JsonError → Type 0
+ReadsMembers key_at n ms answer = (answer ≡ read_members key_at n [] (replicate n []) ms) ⊎ (answer ≡ no_memory)
 
 -- ---- the order of members
 

@@ -1,9 +1,11 @@
 -- Where the next text goes, and what the account says of it.
-use Rattle.std.specs.Prelude.{◌≡◌, ℕ, ◌+◌, ◌-◌, ◌*◌, ◌<◌, ◌≤◌, Some, None}
-use Rattle.lasso_parts.specs.Account.{Account, store, store_in_current, store_in_spare}
+use Rattle.std.specs.Prelude.{◌≡◌, ℕ, ◌+◌, ◌-◌, ◌*◌, ◌<◌, ◌≤◌, ◌⊎◌, Some, None, IsSome}
+use Rattle.lasso_parts.specs.Account.{Account, spare_for, store, store_in_current, store_in_spare}
 use Rattle.lasso_parts.specs.Arena.{Regions, region_at, first_of, account_of}
 use Rattle.lasso_parts.specs.Doubled.{CanTake}
 use Rattle.lasso_parts.specs.Waste.{IsSpare, HasNoSpare}
+use Rattle.lasso_parts.specs.declared.util.LassoErrorKind.{LassoErrorKind}
+use Rattle.lasso_parts.specs.declared.util.LassoErrorKind.TheVariants.{MemoryLimitReached, FailedAllocation}
 use Rattle.lasso_parts.specs.declared.arena.Placement.{Placement}
 use Rattle.lasso_parts.specs.declared.arena.Placement.TheVariants.{Current, Spare, Exact, Remnant, Doubled, Refused}
 
@@ -18,10 +20,24 @@ pub record IsSpareAt (a : Regions) (n at : ℕ) : Type 0 where
   pub takes : CanTake n (region_at a.all at)
   pub spare : IsSpare (account_of a) (region_at a.all at).capacity
 
+-- the same, and it is the spare that the account fills
+abbrev pub IsSpareFor : Regions → (n at : ℕ) → Type 0
+IsSpareFor a n at = IsSpareAt a n at × (spare_for (first_of a) (account_of a) n ≡ Some (region_at a.all at).capacity)
+
 -- neither the current region nor a spare has n bytes
 pub record NeedsNew (a : Regions) (n : ℕ) : Type 0 where
   pub room : (account_of a).room < n
   pub spare : HasNoSpare (account_of a) n
+
+-- n bytes fit into the current region or into a spare, or the usage and n are at most the limit
+abbrev pub HasPlaceFor : Regions → ℕ → Type 0
+HasPlaceFor a n = (n ≤ (account_of a).room) ⊎ (IsSome (spare_for (first_of a) (account_of a) n) ⊎ ((account_of a).usage + n ≤ a.limit))
+
+-- storing n bytes may end with this error: the limit refuses them; or memory runs out, and neither the current
+-- region nor a spare has room for them
+abbrev pub MayRefuse : Regions → ℕ → LassoErrorKind → Type 0
+MayRefuse a n error =
+    (error ≡ MemoryLimitReached) ⊎ (error ≡ FailedAllocation) × ((account_of a).room < n) × (spare_for (first_of a) (account_of a) n ≡ None)
 
 -- storing n bytes gives this account
 abbrev pub StoresTo : Regions → ℕ → Account → Type 0

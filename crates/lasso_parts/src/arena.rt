@@ -1,6 +1,8 @@
 //! The arena: buckets that texts are copied into, which grow in number under a limit on their bytes.
-ghost use Rattle.std.specs.Prelude.{◌≡◌, ◌+◌, ◌*◌, ◌<◌, ◌-◌, ◌^◌, ◌≤◌, ◌⊎◌, ◌↔◌, length, map, IfOk, IfErr, IfSome, OnErr, IsOk, IsSome, IsNone, IsTrue, Some, None, Err};
-ghost use Rattle.lasso_parts.specs.Account.{fresh, store, spare_for, clear, with_limit};
+ghost use Rattle.std.specs.Prelude.{◌≡◌, ◌+◌, ◌*◌, ◌<◌, ◌-◌, ◌^◌, ◌≤◌, ◌↔◌, length, map, Some, None, Err};
+ghost use Rattle.std.specs.Prelude.{IfOk, IfErr, IfSome, OnErr, IsOk, IsSome, IsNone, IsTrue};
+ghost use Rattle.lasso_parts.specs.Account.{fresh, store, clear, with_limit};
+ghost use Rattle.lasso_parts.specs.Placements.{HasPlaceFor, MayRefuse};
 ghost use Rattle.lasso_parts.specs.declared.util.LassoErrorKind.TheVariants.{MemoryLimitReached, FailedAllocation};
 
 mod owned;
@@ -58,15 +60,15 @@ pub struct Arena<A: Allocator> {
 }
 
 impl<A: Allocator> Model for Arena<A> {
-    ghost use Rattle.std.specs.Prelude.{◌≡◌};
-    ghost use Rattle.lasso_parts.specs.Arena.{Regions, usage_of};
-    ghost use Rattle.lasso_parts.specs.Doubled.{IsSound};
+    ghost use Rattle.lasso_parts.specs.Arena.{Regions};
+    ghost use Rattle.lasso_parts.specs.Doubled.{IsCountedSound};
 
     ghost Value = { Regions };
 
     ghost view = { λ a. record { all = a.regions; current = a.current; kept = a.kept; doubling = a.doubling; limit = a.limit; most = a.most } };
 
-    ghost invariant = { λ a. (a.usage ≡ usage_of a.regions) × IsSound (record { all = a.regions; current = a.current; kept = a.kept; doubling = a.doubling; limit = a.limit; most = a.most }) };
+    ghost invariant = { λ a. IsCountedSound a.usage
+        (record { all = a.regions; current = a.current; kept = a.kept; doubling = a.doubling; limit = a.limit; most = a.most }) };
 }
 
 impl<A: Allocator + Clone> Arena<A> {
@@ -148,7 +150,7 @@ impl<A: Allocator> Arena<A> {
     /// `store_str` then fails only when out of memory. It takes no memory.
     pub fn admits(&self, n: usize) -> bool
         ensures account { IsTrue result ↔ IsSome (store (first_of self.now) (account_of self.now) n) }
-        ensures sums { IsTrue result ↔ (n ≤ (account_of self.now).room) ⊎ (IsSome (spare_for (first_of self.now) (account_of self.now) n) ⊎ ((account_of self.now).usage + n ≤ self.now.limit)) }
+        ensures sums { IsTrue result ↔ HasPlaceFor self.now n }
     {
         n == 0 || !matches!(self.placement_for(n), Placement::Refused)
     }
@@ -227,7 +229,7 @@ impl<A: Allocator + Clone> Arena<A> {
         ensures copied { IsOk result → copied_of self.new ≡ copied_of self.old + length text.now }
         ensures most { self.new.most ≡ self.old.most }
         ensures limit { (result ≡ Err MemoryLimitReached) ↔ (store (first_of self.old) (account_of self.old) (length text.now) ≡ None) }
-        ensures memory { IfErr result (λ error. (error ≡ MemoryLimitReached) ⊎ (error ≡ FailedAllocation) × ((account_of self.old).room < length text.now) × (spare_for (first_of self.old) (account_of self.old) (length text.now) ≡ None)) }
+        ensures memory { IfErr result (λ error. MayRefuse self.old (length text.now) error) }
         ensures err { OnErr result (self.new ≡ self.old) }
     {
         let n = text.len();

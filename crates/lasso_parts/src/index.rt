@@ -1,9 +1,11 @@
 //! `Index`, from a text to its position in a list that another owns.
-ghost use Rattle.std.specs.Prelude.{◌≡◌, ◌≢◌, ℕ, ◌+◌, ◌<◌, ◌≤◌, ◌⊎◌, ◌↔◌, length, slice_get, Some, IfSome, IfNone, OnOk, OnErr, IsTrue, IfOk, IfErr, IsOk, MatchResult, None};
+ghost use Rattle.std.specs.Prelude.{◌≡◌, ◌≢◌, ℕ, ◌+◌, ◌<◌, ◌≤◌, ◌⊎◌, ◌↔◌, length, slice_get, Some};
+ghost use Rattle.std.specs.Prelude.{IfSome, IfNone, OnOk, OnErr, IsTrue, IfOk, IfErr, IsOk};
 ghost use Rattle.lasso_parts.specs.declared.util.LassoErrorKind.TheVariants.{FailedAllocation};
 ghost use Rattle.lasso_parts.specs.Hashing.{hash_by};
-ghost use Rattle.lasso_parts.specs.Index.{Holds, HoldsNone, IsFiled, IsFiledAnywhere, IsVacancy, StaysFiled, IsIndexOf, IsFewest, used, room, grown_count};
-ghost use Rattle.lasso_parts.specs.Texts.{position_of, Fits};
+ghost use Rattle.lasso_parts.specs.Index.{Holds, HoldsNone, IsFiled, IsFiledAnywhere, IsVacancy, StaysFiled, IsIndexOf};
+ghost use Rattle.lasso_parts.specs.Index.{FindsPosition, LocatesPosition, IsFewest, used, room, grown_count};
+ghost use Rattle.lasso_parts.specs.Texts.{Fits};
 
 mod groups;
 mod hashing;
@@ -85,7 +87,7 @@ impl<K: Key, A: Allocator> Index<K, A> {
         requires { IsFiled (hash_by S.BuildHasher S.Hasher.Hasher hasher.now) (T.list texts.now) self.now }
         ensures found { IfSome result (λ n. Holds self.now.slots n × (slice_get (T.list texts.now) n ≡ Some text.now)) }
         ensures missing { IfNone result ((n : ℕ) → Holds self.now.slots n → slice_get (T.list texts.now) n ≢ Some text.now) }
-        ensures whole { let hash_of = hash_by S.BuildHasher S.Hasher.Hasher hasher.now in IsIndexOf hash_of (T.list texts.now) self.now → result ≡ position_of (T.list texts.now) text.now }
+        ensures whole { FindsPosition (hash_by S.BuildHasher S.Hasher.Hasher hasher.now) (T.list texts.now) self.now text.now result }
     {
         self.find_hashed(texts, hasher, hash_text(hasher, text), text)
     }
@@ -104,7 +106,7 @@ impl<K: Key, A: Allocator> Index<K, A> {
         requires filed { IsFiled (hash_by S.BuildHasher S.Hasher.Hasher hasher.now) (T.list texts.now) self.now }
         ensures found { IfSome result (λ n. Holds self.now.slots n × (slice_get (T.list texts.now) n ≡ Some text.now)) }
         ensures missing { IfNone result ((n : ℕ) → Holds self.now.slots n → slice_get (T.list texts.now) n ≢ Some text.now) }
-        ensures whole { let hash_of = hash_by S.BuildHasher S.Hasher.Hasher hasher.now in IsIndexOf hash_of (T.list texts.now) self.now → result ≡ position_of (T.list texts.now) text.now }
+        ensures whole { FindsPosition (hash_by S.BuildHasher S.Hasher.Hasher hasher.now) (T.list texts.now) self.now text.now result }
     {
         match self.locate(texts, hasher, hash, text) {
             Ok(position) => Some(position),
@@ -127,7 +129,7 @@ impl<K: Key, A: Allocator> Index<K, A> {
         ensures found { IfOk result (λ n. Holds self.now.slots n × (slice_get (T.list texts.now) n ≡ Some text.now)) }
         ensures missing { IfErr result (λ _. (n : ℕ) → Holds self.now.slots n → slice_get (T.list texts.now) n ≢ Some text.now) }
         ensures vacant { IfErr result (λ vacancy. IsVacancy hash vacancy self.now.slots) }
-        ensures whole { let hash_of = hash_by S.BuildHasher S.Hasher.Hasher hasher.now in IsIndexOf hash_of (T.list texts.now) self.now → MatchResult result (λ n. position_of (T.list texts.now) text.now ≡ Some n) (λ _. position_of (T.list texts.now) text.now ≡ None) }
+        ensures whole { LocatesPosition (hash_by S.BuildHasher S.Hasher.Hasher hasher.now) (T.list texts.now) self.now text.now result }
     {
         self.search(texts, hasher, hash, text)
     }

@@ -3,7 +3,8 @@
 ghost use Rattle.lasso_parts.specs.Account.{NeverGrowsPastLimit, RefusesExactlyPastLimit};
 ghost use Rattle.lasso_parts.specs.AccountSteps.{ServesAsWorked};
 ghost use Rattle.lasso_parts.specs.Sizes.{sizes_cmp, sizes_eq};
-ghost use Rattle.lasso_parts.specs.Spurs.{large_spur_at, large_spur_number, micro_spur_at, micro_spur_number, mini_spur_at, mini_spur_number, spur_at, spur_number};
+ghost use Rattle.lasso_parts.specs.Spurs.{large_spur_at, large_spur_number, micro_spur_at, micro_spur_number};
+ghost use Rattle.lasso_parts.specs.Spurs.{mini_spur_at, mini_spur_number, spur_at, spur_number};
 ghost use Rattle.std.specs.Hash as fed;
 ghost use Rattle.std.specs.Ordering.{nat_cmp};
 ghost use Rattle.std.specs.Prelude.{◌≡◌, ◌==◌, ◌++◌, ℕ, Some};

@@ -1,7 +1,8 @@
 //! Regions in the order in which they were opened, each with the right to free it.
-ghost use Rattle.std.specs.Prelude.{◌≡◌, ◌+◌, ◌^◌, ◌<◌, ◌≤◌, ◌++◌, [], ◌∷◌, length, map, take, slice_set, IfOk, IfErr, IsOk, OnErr};
+ghost use Rattle.std.specs.Prelude.{◌≡◌, ◌+◌, ◌^◌, ◌<◌, ◌≤◌, ◌++◌, [], ◌∷◌, length, map, take};
+ghost use Rattle.std.specs.Prelude.{IfOk, IfErr, IsOk, OnErr};
 ghost use denote.RawPtr.{Ptr};
-ghost use Rattle.lasso_parts.specs.Arena.{region_at, with_bytes, emptied, usage_of, copied_in};
+ghost use Rattle.lasso_parts.specs.Arena.{region_at, with_bytes_at, emptied, usage_of, copied_in};
 ghost use Rattle.lasso_parts.specs.Bucket.{block_of};
 ghost use Rattle.lasso_parts.specs.Doubled.{kept_of};
 ghost use Rattle.lasso_parts.specs.declared.util.LassoErrorKind.TheVariants.{FailedAllocation};
@@ -92,7 +93,7 @@ impl<A: Allocator> OwnedRegions<A> {
     pub(crate) fn push_text(&mut self, at: usize, text: &str) -> usize
         requires in_bounds { at < length self.old }
         requires room { length (region_at self.old at).bytes + length text.now ≤ (region_at self.old at).capacity }
-        ensures pushed { self.new ≡ slice_set self.old at (with_bytes (region_at self.old at) text.now) }
+        ensures pushed { self.new ≡ with_bytes_at self.old at text.now }
         ensures start { result ≡ length (region_at self.old at).bytes }
     {
         let region = &mut self.regions[at];

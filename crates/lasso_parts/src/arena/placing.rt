@@ -1,10 +1,10 @@
 //! Where the next text of an arena goes: the current region, the smallest spare that has room, a new
 //! region, or nowhere.
-ghost use Rattle.std.specs.Prelude.{◌≡◌, ◌<◌, IfSome, IsNone, Some, None};
+ghost use Rattle.std.specs.Prelude.{◌≡◌, ◌<◌, IfSome, IsNone, None};
 ghost use Rattle.lasso_parts.specs.Account.{spare_for};
-ghost use Rattle.lasso_parts.specs.Arena.{account_of, first_of, region_at};
+ghost use Rattle.lasso_parts.specs.Arena.{account_of, first_of};
 ghost use Rattle.lasso_parts.specs.Doubled.{IsFirstToTake, NoneTakes};
-ghost use Rattle.lasso_parts.specs.Placements.{IsPlacementFor, IsSpareAt, NeedsNew};
+ghost use Rattle.lasso_parts.specs.Placements.{IsPlacementFor, IsSpareFor, NeedsNew};
 ghost use Rattle.lasso_parts.specs.Waste.{HasNoSpare};
 
 use super::{Arena, Placement};
@@ -30,7 +30,7 @@ impl<A: Allocator> Arena<A> {
     // The position of the smallest spare that has n bytes.
     #[inline(never)]
     fn spare_for(&self, n: usize) -> Option<usize>
-        ensures found { IfSome result (λ at. IsSpareAt self.now n at × (spare_for (first_of self.now) (account_of self.now) n ≡ Some (region_at self.now.all at).capacity)) }
+        ensures found { IfSome result (λ at. IsSpareFor self.now n at) }
         ensures missing { IsNone result → HasNoSpare (account_of self.now) n × (spare_for (first_of self.now) (account_of self.now) n ≡ None) }
     {
         let spares = &self.regions.as_slice()[1..self.kept];

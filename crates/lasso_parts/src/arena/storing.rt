@@ -1,7 +1,6 @@
 //! A text stored in an arena once its placement is known.
-ghost use Rattle.std.specs.Prelude.{◌≡◌, ◌+◌, ◌<◌, ◌≤◌, ◌++◌, [], ◌∷◌, length, slice_set, IfOk, IfErr, IsOk, OnErr, Some};
-ghost use denote.RawPtr.{Ptr};
-ghost use Rattle.lasso_parts.specs.Arena.{account_of, first_of, copied_of, region_at, with_bytes};
+ghost use Rattle.std.specs.Prelude.{◌≡◌, ◌+◌, ◌<◌, ◌≤◌, length, IfOk, IfErr, IsOk, OnErr, Some};
+ghost use Rattle.lasso_parts.specs.Arena.{account_of, first_of, copied_of, region_at, with_bytes_at, AddsRegion};
 ghost use Rattle.lasso_parts.specs.Placements.{IsPlacementFor, StoresTo};
 ghost use Rattle.lasso_parts.specs.declared.arena.Placement.TheVariants.{Current, Spare, Exact, Remnant, Doubled};
 ghost use Rattle.lasso_parts.specs.declared.util.LassoErrorKind.TheVariants.{FailedAllocation};
@@ -17,7 +16,7 @@ impl<A: Allocator> Arena<A> {
         requires some { 0 < length text.now }
         requires placement { IsPlacementFor self.old (length text.now) Current }
         ensures account { StoresTo self.old (length text.now) (account_of self.new) }
-        ensures text { self.new ≡ record self.old { all = slice_set self.old.all self.old.current (with_bytes (region_at self.old.all self.old.current) text.now) } }
+        ensures text { self.new ≡ record self.old { all = with_bytes_at self.old.all self.old.current text.now } }
         ensures span { result ≡ record { region = self.old.current; start = length (region_at self.old.all self.old.current).bytes; len = length text.now } }
     {
         let start = self.regions.push_text(self.current, text);
@@ -34,7 +33,7 @@ impl<A: Allocator> Arena<A> {
         requires some { 0 < length text.now }
         requires placement { IsPlacementFor self.old (length text.now) (Spare at) }
         ensures account { StoresTo self.old (length text.now) (account_of self.new) }
-        ensures text { self.new ≡ record self.old { all = slice_set self.old.all at (with_bytes (region_at self.old.all at) text.now); current = at } }
+        ensures text { self.new ≡ record self.old { all = with_bytes_at self.old.all at text.now; current = at } }
         ensures span { result ≡ record { region = at; start = length (region_at self.old.all at).bytes; len = length text.now } }
         ensures inside { at < length self.old.all }
     {
@@ -55,7 +54,7 @@ impl<A: Allocator + Clone> Arena<A> {
         requires some { 0 < length text.now }
         requires placement { IsPlacementFor self.old (length text.now) Exact }
         ensures account { IsOk result → StoresTo self.old (length text.now) (account_of self.new) }
-        ensures text { IsOk result → (at : Ptr) × (self.new ≡ record self.old { all = self.old.all ++ record { at = at; bytes = text.now; capacity = length text.now } ∷ [] }) }
+        ensures text { IsOk result → AddsRegion self.old self.new text.now (length text.now) }
         ensures span { IfOk result (λ span. span ≡ record { region = length self.old.all; start = 0; len = length text.now }) }
         ensures err { OnErr result (self.new ≡ self.old) }
         ensures refused { IfErr result (λ error. error ≡ FailedAllocation) }
@@ -77,7 +76,7 @@ impl<A: Allocator + Clone> Arena<A> {
         requires some { 0 < length text.now }
         requires placement { IsPlacementFor self.old (length text.now) (Remnant size) }
         ensures account { IsOk result → StoresTo self.old (length text.now) (account_of self.new) }
-        ensures text { IsOk result → (at : Ptr) × (self.new ≡ record self.old { all = self.old.all ++ record { at = at; bytes = text.now; capacity = size } ∷ []; current = length self.old.all }) }
+        ensures text { IsOk result → AddsRegion (record self.old { current = length self.old.all }) self.new text.now size }
         ensures span { IfOk result (λ span. span ≡ record { region = length self.old.all; start = 0; len = length text.now }) }
         ensures err { OnErr result (self.new ≡ self.old) }
         ensures refused { IfErr result (λ error. error ≡ FailedAllocation) }
@@ -100,7 +99,7 @@ impl<A: Allocator + Clone> Arena<A> {
         requires some { 0 < length text.now }
         requires placement { IsPlacementFor self.old (length text.now) (Doubled size) }
         ensures account { IsOk result → StoresTo self.old (length text.now) (account_of self.new) }
-        ensures text { IsOk result → (at : Ptr) × (self.new ≡ record self.old { all = self.old.all ++ record { at = at; bytes = text.now; capacity = size } ∷ []; current = length self.old.all; doubling = size }) }
+        ensures text { IsOk result → AddsRegion (record self.old { current = length self.old.all; doubling = size }) self.new text.now size }
         ensures span { IfOk result (λ span. span ≡ record { region = length self.old.all; start = 0; len = length text.now }) }
         ensures err { OnErr result (self.new ≡ self.old) }
         ensures refused { IfErr result (λ error. error ≡ FailedAllocation) }

@@ -1,6 +1,7 @@
 //! The slots of a table, each empty or with a key: a list of the slots' fingerprints, a byte each, and a list of
 //! keys.
-ghost use Rattle.std.specs.Prelude.{◌≡◌, ◌≢◌, ℕ, ◌<◌, ◌≤◌, ◌^◌, ◌⊎◌, [], None, Some, length, replicate, slice_set, slice_index_or, option_map, IfOk};
+ghost use Rattle.std.specs.Prelude.{◌≡◌, ◌≢◌, ℕ, ◌<◌, ◌≤◌, ◌^◌, ◌⊎◌, [], None, Some};
+ghost use Rattle.std.specs.Prelude.{length, replicate, slice_set, slice_index_or, option_map, IfOk};
 ghost use Rattle.std.specs.Vec.{vec_capacity};
 ghost use Rattle.lasso_parts.specs.Index.{slot, SetsFingerprint};
 

@@ -1,8 +1,8 @@
 //! Tables of slots: how many there are, and how a new one gets the keys of another.
 ghost use Rattle.std.specs.Prelude.{◌≡◌, ◌<◌, ◌≤◌, ◌^◌, length, replicate, None, IfSome, IfNone, IfOk};
 ghost use Rattle.lasso_parts.specs.Hashing.{hash_by};
-ghost use Rattle.lasso_parts.specs.Index.{used, load_limit, grown_count, Holds, IsFewest, IsFiled, IsVacant, StaysFiled};
-ghost use Rattle.lasso_parts.specs.IndexTable.{AllInList, IsEntered, IsRefilled, IsSlotCount};
+ghost use Rattle.lasso_parts.specs.Index.{used, load_limit, grown_count, IsFewest, IsVacant, StaysFiled};
+ghost use Rattle.lasso_parts.specs.IndexTable.{AllInList, HoldsAgain, HoldsFirst, IsEntered, IsSlotCount, KeepsFiled};
 ghost use Rattle.lasso_parts.specs.Texts.{Fits};
 
 use crate::index::hashing::hash_text;
@@ -80,7 +80,7 @@ fn enter_again<K: Key, A: Allocator, T: Texts, S: BuildHasher>(
     requires in_list { K.number key < length (T.list texts.now) }
     requires free { used slots.old.slots < length slots.old.slots }
     ensures entered { IsEntered (K.number key) slots.old slots.new }
-    ensures filed { let hash_of = hash_by S.BuildHasher S.Hasher.Hasher hasher.now in IsFiled hash_of (T.list texts.now) slots.old → IsFiled hash_of (T.list texts.now) slots.new }
+    ensures filed { KeepsFiled (hash_by S.BuildHasher S.Hasher.Hasher hasher.now) (T.list texts.now) slots.old slots.new }
 {
     let text = texts.text_at(key.into_usize());
     enter(slots, hash_text(hasher, text), key);
@@ -97,7 +97,7 @@ fn refill<K: Key, A: Allocator, T: Texts, S: BuildHasher>(
     requires empty { slots.old.slots ≡ replicate (length slots.old.slots) None }
     requires load { used old.now.slots < length slots.old.slots }
     ensures len { length slots.new.slots ≡ length slots.old.slots }
-    ensures refilled { IsRefilled (hash_by S.BuildHasher S.Hasher.Hasher hasher.now) (T.list texts.now) slots.new (Holds old.now.slots) (used old.now.slots) }
+    ensures refilled { HoldsAgain (hash_by S.BuildHasher S.Hasher.Hasher hasher.now) (T.list texts.now) old.now.slots slots.new }
 {
     for j in 0..old.len() {
         if let Some(key) = old.get(j) {
@@ -118,7 +118,7 @@ fn refill_in_order<K: Key, A: Allocator, T: Texts, S: BuildHasher>(
     requires empty { slots.old.slots ≡ replicate (length slots.old.slots) None }
     requires load { len < length slots.old.slots }
     ensures len { length slots.new.slots ≡ length slots.old.slots }
-    ensures refilled { IsRefilled (hash_by S.BuildHasher S.Hasher.Hasher hasher.now) (T.list texts.now) slots.new (λ n. n < len) len }
+    ensures refilled { HoldsFirst (hash_by S.BuildHasher S.Hasher.Hasher hasher.now) (T.list texts.now) len slots.new }
 {
     for position in 0..len {
         let Some(key) = K::try_from_usize(position) else {
@@ -139,7 +139,7 @@ pub fn rebuilt<K: Key, A: Allocator + Clone, T: Texts, S: BuildHasher>(
     requires in_list { AllInList (T.list texts.now) old.now.slots }
     requires load { used old.now.slots < count }
     ensures len { IfOk result (λ table. length table.slots ≡ count) }
-    ensures refilled { let hash_of = hash_by S.BuildHasher S.Hasher.Hasher hasher.now in IfOk result (λ table. IsRefilled hash_of (T.list texts.now) table (Holds old.now.slots) (used old.now.slots)) }
+    ensures refilled { IfOk result (λ table. HoldsAgain (hash_by S.BuildHasher S.Hasher.Hasher hasher.now) (T.list texts.now) old.now.slots table) }
 {
     let mut slots = KeySlots::empty(alloc, count)?;
     refill(&mut slots, old, texts, hasher);
@@ -159,7 +159,7 @@ pub fn rebuilt_in_order<K: Key, A: Allocator + Clone, T: Texts, S: BuildHasher>(
     requires fits { Fits K.key_at len }
     requires load { len < count }
     ensures len { IfOk result (λ table. length table.slots ≡ count) }
-    ensures refilled { let hash_of = hash_by S.BuildHasher S.Hasher.Hasher hasher.now in IfOk result (λ table. IsRefilled hash_of (T.list texts.now) table (λ n. n < len) len) }
+    ensures refilled { IfOk result (λ table. HoldsFirst (hash_by S.BuildHasher S.Hasher.Hasher hasher.now) (T.list texts.now) len table) }
 {
     let mut slots = KeySlots::empty(alloc, count)?;
     refill_in_order(&mut slots, len, texts, hasher);

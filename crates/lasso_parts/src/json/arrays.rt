@@ -1,11 +1,12 @@
 //! Lists of texts as JSON arrays, in order: read and written.
-ghost use Rattle.std.specs.Prelude.{◌≡◌, ◌<◌, ◌⊎◌, ◌++◌, ◌∷◌, [], ℕ, Some, Err, IsTrue, IfOk, IfErr, OnOk, length, map};
+ghost use Rattle.std.specs.Prelude.{◌≡◌, ◌<◌, [], ℕ, Some, IsTrue, IfOk, IfErr, OnOk, length, map};
 ghost use Rattle.serde_json.specs.Find.{as_str};
 ghost use Rattle.serde_json.specs.View.{view, items_view};
 ghost use Rattle.lasso_parts.specs.declared.util.LassoErrorKind.TheVariants.{FailedAllocation};
 ghost use Rattle.lasso_parts.specs.Hashing.{hash_by};
 ghost use Rattle.lasso_parts.specs.Index.{HoldsNone, IsIndexOf};
-ghost use Rattle.lasso_parts.specs.Json.{json_array, read_array, read_items, item_text, new_text, key_or_too_many, earlier, shown, no_memory, TakesText, ReadsOr};
+ghost use Rattle.lasso_parts.specs.Json.{json_array, item_text, new_text, key_or_too_many, earlier, shown};
+ghost use Rattle.lasso_parts.specs.Json.{ReadsArray, ReadsItems, IsFaultOfText, IndexesWith};
 
 use crate::index::{Index, Texts, hash_text};
 use crate::json::JsonError;
@@ -24,7 +25,7 @@ pub fn read_array<K: Key, A: Allocator + Clone>(
     value: &Value,
     distinct: bool,
 ) -> Result<Vec<&str, A>, JsonError>
-    ensures { ReadsOr (TakesText K.key_at (view value.now)) (read_array K.key_at distinct (view value.now)) (shown (λ texts. map (λ t. t.now) texts.items) result) }
+    ensures { ReadsArray K.key_at distinct (view value.now) (shown (λ texts. map (λ t. t.now) texts.items) result) }
 {
     let Some(items) = value.as_array() else {
         return Err(JsonError::NotAnArray);
@@ -50,7 +51,7 @@ fn read_items<'a, K: Key, S: BuildHasher, A: Allocator + Clone>(
 ) -> Result<Vec<&'a str, A>, JsonError>
     requires empty { texts.items ≡ [] }
     requires none { HoldsNone index.slots }
-    ensures { (shown (λ list. map (λ t. t.now) list.items) result ≡ read_items K.key_at distinct [] (items_view items.now)) ⊎ (shown (λ list. map (λ t. t.now) list.items) result ≡ no_memory) }
+    ensures { ReadsItems K.key_at distinct (items_view items.now) (shown (λ list. map (λ t. t.now) list.items) result) }
 {
     let mut texts = texts;
     let mut index = index;
@@ -93,8 +94,8 @@ fn enter_text<K: Key, S: BuildHasher, A: Allocator + Clone>(
 ) -> Result<(), JsonError>
     requires { IsTrue distinct → IsIndexOf (hash_by S.BuildHasher S.Hasher.Hasher hasher.now) (map (λ t. t.now) texts.now) index.old }
     ensures taken { OnOk result (new_text K.key_at (length texts.now) text.now (earlier distinct (map (λ t. t.now) texts.now) text.now) ≡ Ok text.now) }
-    ensures fault { IfErr result (λ e. (new_text K.key_at (length texts.now) text.now (earlier distinct (map (λ t. t.now) texts.now) text.now) ≡ Err e) ⊎ (e ≡ JsonError.Lasso FailedAllocation)) }
-    ensures whole { OnOk result (IsTrue distinct → IsIndexOf (hash_by S.BuildHasher S.Hasher.Hasher hasher.now) (map (λ t. t.now) texts.now ++ text.now ∷ []) index.new) }
+    ensures fault { IfErr result (λ e. IsFaultOfText K.key_at (length texts.now) distinct (map (λ t. t.now) texts.now) text.now e) }
+    ensures whole { OnOk result (IndexesWith distinct (hash_by S.BuildHasher S.Hasher.Hasher hasher.now) (map (λ t. t.now) texts.now) text.now index.new) }
 {
     let at = texts.len();
     if !distinct {

@@ -1,10 +1,10 @@
 //! Lists of texts as JSON objects, from each text to its position plus one: read and written.
-ghost use Rattle.std.specs.Prelude.{◌≡◌, ◌⊎◌, ◌<◌, [], IfOk, IfErr, length, map, replicate};
+ghost use Rattle.std.specs.Prelude.{◌≡◌, ◌<◌, [], IfOk, IfErr, length, map};
 ghost use Rattle.serde_json.specs.Events.{members_len};
 ghost use Rattle.serde_json.specs.View.{view, members_view};
 ghost use Rattle.lasso_parts.specs.declared.util.LassoErrorKind.TheVariants.{FailedAllocation};
-ghost use Rattle.lasso_parts.specs.Json.{shown, no_memory, whole_number, ReadsOr};
-ghost use Rattle.lasso_parts.specs.JsonObjects.{json_object, member_position, read_members, read_object, IsInOrder, TakesPosition};
+ghost use Rattle.lasso_parts.specs.Json.{shown, whole_number};
+ghost use Rattle.lasso_parts.specs.JsonObjects.{json_object, member_position, IsInOrder, ReadsMembers, ReadsObject};
 
 use crate::index::Texts;
 use crate::json::JsonError;
@@ -21,7 +21,7 @@ pub fn read_map<K: Key, A: Allocator + Clone>(
     alloc: A,
     value: &Value,
 ) -> Result<Vec<&str, A>, JsonError>
-    ensures read { ReadsOr (TakesPosition K.key_at (view value.now)) (read_object K.key_at (view value.now)) (shown (λ texts. map (λ t. t.now) texts.items) result) }
+    ensures read { ReadsObject K.key_at (view value.now) (shown (λ texts. map (λ t. t.now) texts.items) result) }
     ensures order { IsInOrder (view value.now) }
 {
     let Some(members) = value.as_object() else {
@@ -46,7 +46,7 @@ fn read_members<'a, K: Key, A: Allocator>(
 ) -> Result<Vec<&'a str, A>, JsonError>
     requires empty { texts.items ≡ [] }
     requires none { taken.items ≡ [] }
-    ensures { (shown (λ list. map (λ t. t.now) list.items) result ≡ read_members K.key_at (length members.now.entries) [] (replicate (length members.now.entries) []) (members_view members.now.entries)) ⊎ (shown (λ list. map (λ t. t.now) list.items) result ≡ no_memory) }
+    ensures { ReadsMembers K.key_at (length members.now.entries) (members_view members.now.entries) (shown (λ list. map (λ t. t.now) list.items) result) }
 {
     let mut texts = texts;
     let mut taken = taken;
