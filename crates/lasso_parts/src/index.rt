@@ -6,6 +6,7 @@ ghost use Rattle.lasso_parts.specs.Index.{Holds, HoldsNone, IsFiled, IsFiledAnyw
 ghost use Rattle.lasso_parts.specs.Texts.{position_of, Fits};
 
 mod groups;
+mod hashes_ahead;
 mod hashing;
 pub mod key_slots;
 mod lists;
