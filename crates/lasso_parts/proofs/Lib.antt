@@ -3,6 +3,7 @@ pub mod Spurs
 pub mod IndexLaws
 mod IndexSlots
 mod IndexTables
+mod HashesAhead
 mod KeySlots
 pub mod Regions
 pub mod Doubled

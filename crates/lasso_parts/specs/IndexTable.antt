@@ -1,5 +1,5 @@
 -- What the table of an index keeps, and what the functions below its public calls say.
-use Rattle.std.specs.Prelude.{◌≡◌, ◌≢◌, ℕ, ◌+◌, ◌^◌, ◌<◌, ◌≤◌, ◌⊎◌, ◌↔◌, List, Option, Some, length, slice_get}
+use Rattle.std.specs.Prelude.{◌≡◌, ◌≢◌, ℕ, ◌+◌, ◌^◌, ◌<◌, ◌≤◌, ◌⊎◌, ◌↔◌, List, [], Option, Some, length, slice_get, slice_index_or}
 use Rattle.lasso_parts.specs.Texts.{Text}
 use Rattle.lasso_parts.specs.Index.{Table, slot, used, load_limit, fingerprint_at, Holds, IsFiled}
 
@@ -16,6 +16,20 @@ pub record IsTable (xs : List (Option ℕ)) (count : ℕ) : Type 0 where
 -- each position that the slots show is in the list
 abbrev pub AllInList : List Text → List (Option ℕ) → Type 0
 AllInList texts xs = (j n : ℕ) → slot xs j ≡ Some n → n < length texts
+
+-- these are the texts of `size` slots from the first one on, as far as those are not empty
+abbrev pub AreTextsFrom : List Text → List (Option ℕ) → (first size : ℕ) → List Text → Type 0
+AreTextsFrom texts xs first size found = (i n : ℕ) → i < size → slot xs (first + i) ≡ Some n → slice_get texts n ≡ Some (slice_index_or found i [])
+
+-- these are the hashes of the texts of `size` slots from the first one on, as far as those are not empty
+abbrev pub AreHashesFrom : (Text → ℕ) → List Text → List (Option ℕ) → (first size : ℕ) → List ℕ → Type 0
+AreHashesFrom hash_of texts xs first size hashes = (i n : ℕ) (text : Text) → i < size → slot xs (first + i) ≡ Some n → slice_get texts n ≡ Some text → slice_index_or hashes i 0 ≡ hash_of text
+
+-- the same, of at most 32 slots
+pub record KnowsHashes (hash_of : Text → ℕ) (texts : List Text) (xs : List (Option ℕ)) (first size : ℕ) (each : List ℕ) : Type 0 where
+  pub all : length each ≡ 32
+  pub few : size ≤ 32
+  pub hashed : AreHashesFrom hash_of texts xs first size each
 
 -- no slot of the range has the text
 abbrev pub Misses : List Text → Text → List (Option ℕ) → ℕ → ℕ → Type 0

@@ -8,6 +8,7 @@ ghost use Rattle.lasso_parts.specs.Index.{FindsPosition, LocatesPosition, IsFewe
 ghost use Rattle.lasso_parts.specs.Texts.{Fits};
 
 mod groups;
+mod hashes_ahead;
 mod hashing;
 pub mod key_slots;
 mod lists;

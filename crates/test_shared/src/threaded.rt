@@ -10,6 +10,7 @@ mod looking;
 mod makers;
 mod memory;
 mod passes;
+mod serving;
 mod walking;
 
 use crate::checks::{is_so, runs_as, runs_beside, runs_in, runs_in_two};

@@ -103,6 +103,27 @@ fn resolves_by<K: Key, S: BuildHasher + Drop, R: Wait>(
     Ok(all)
 }
 
+// More texts than a round of hints has.
+const ROUND: usize = 70_000;
+
+// Looks the text up until hints serve. Returns whether they do.
+fn serves_by<K: Key, S: BuildHasher + Drop, R: Wait>(
+    rt: &R,
+    shared: &ThreadedRodeo<K, S>,
+    pass: &mut Pass<K>,
+    text: &str,
+) -> bool
+    requires { pass.old.of ≡ shared.now }
+    ensures { pass.new.of ≡ pass.old.of }
+{
+    for _ in 0..ROUND {
+        if pass.hints_serve() || found_as(rt, shared, pass, text).is_none() {
+            return pass.hints_serve();
+        }
+    }
+    pass.hints_serve()
+}
+
 // Makes a call that sets the limit, or one that is about a list. Returns whether it returned what it has to.
 fn holds_more_by<K: Key, S: BuildHasher + Drop, R: AllocGlobal + Wait>(
     rt: &R,
@@ -137,6 +158,7 @@ fn holds_more_by<K: Key, S: BuildHasher + Drop, R: AllocGlobal + Wait>(
             )
         }
         Call::FindsAll(texts, numbers) => finds_all_by(rt, shared, pass, texts, numbers),
+        Call::Serves(text) => Ok(serves_by(rt, shared, pass, text)),
         _ => Ok(false),
     }
 }

@@ -131,6 +131,9 @@ pub enum Call {
     TakesAll(List, KeyNumbers, Option<LassoErrorKind>),
     /// Looks the texts up by one call. They have these numbers, or are absent.
     FindsAll(&'static [&'static str], &'static [Option<usize>]),
+    /// Looks the present text up until the hints of the pass serve: then calls of a list take its texts one by
+    /// one.
+    Serves(&'static str),
 }
 
 /// A call, and what it has to return.

@@ -5,6 +5,7 @@ ghost use Rattle.lasso_parts.specs.Index.{used, load_limit, grown_count, IsFewes
 ghost use Rattle.lasso_parts.specs.IndexTable.{AllInList, HoldsAgain, HoldsFirst, IsEntered, IsSlotCount, KeepsFiled};
 ghost use Rattle.lasso_parts.specs.Texts.{Fits};
 
+use crate::index::hashes_ahead::HashesAhead;
 use crate::index::hashing::hash_text;
 use crate::index::key_slots::KeySlots;
 use crate::index::lists::Texts;
@@ -99,9 +100,11 @@ fn refill<K: Key, A: Allocator, T: Texts, S: BuildHasher>(
     ensures len { length slots.new.slots ≡ length slots.old.slots }
     ensures refilled { HoldsAgain (hash_by S.BuildHasher S.Hasher.Hasher hasher.now) (T.list texts.now) old.now.slots slots.new }
 {
+    let mut ahead = HashesAhead::new();
     for j in 0..old.len() {
         if let Some(key) = old.get(j) {
-            enter_again(slots, key, texts, hasher);
+            let hash = ahead.hash_at(old, j, texts, hasher);
+            enter(slots, hash, key);
         }
     }
 }
