@@ -1,5 +1,6 @@
--- Lists whose end is written anew.
-use Rattle.std.proofs.Common.{ℕ, ◌≡◌, List, [], ◌++◌, take, drop, length, ap, ◌∙◌, arith}
+-- Lists that are appended to, and whose end is written anew.
+use Rattle.std.proofs.Common.{ℕ, ◌≡◌, List, [], ◌++◌, take, drop, length, cond, Result, Ok, Err, is_ok, ap, ◌∙◌, arith}
+use Rattle.std.specs.Prelude.{OnOk}
 use Rattle.std.proofs.lemmas.List.{append-nil, length-append, take_all}
 use Rattle.std.proofs.Math.ListN.{drop_of_length-le}
 use Rattle.std.proofs.Math.Seq.{take-append_seam, drop-append_seam}
@@ -16,3 +17,8 @@ end_written before added written mid m n start is long same =
     let past : drop (length (before ++ written)) mid ≡ [] = drop_of_length-le mid (omega (arith, total)) in
     ap (λ (xs : List ℕ). take n (xs ++ drop (length xs) mid)) whole ∙ ap (λ (xs : List ℕ). take n ((before ++ written) ++ xs)) past ∙ ap (take n) (append-nil (before ++ written))
     ∙ take_all n (before ++ written) (omega (arith, long, total))
+
+-- what is appended, unless an error is returned
+pub appended : {A B : Type 0} (r : Result A B) (new old before more line : List ℕ) → new ≡ cond (is_ok r) (old ++ more) old → old ≡ before → more ≡ line → OnOk r (new ≡ before ++ line)
+appended (Ok x) new old before more line is same same' = is ∙ ap (λ (xs : List ℕ). xs ++ more) same ∙ ap (λ (xs : List ℕ). before ++ xs) same'
+appended (Err e) new old before more line is same same' = tt

@@ -3,7 +3,7 @@
 -- A line that is its own text doesn't begin with the mark, so it is read back as itself. Another line's text begins
 -- with the mark, and its digits are read back as the bytes. The mark is a character and digits are ASCII, so both
 -- are UTF-8.
-use Rattle.std.proofs.Common.{ℕ, ◌≡◌, ◌+◌, ◌≤◌, ◌&&◌, ◌++◌, ◌⊎◌, Bool, true, false, not, List, [], ◌∷◌, drop, length, take, Err, Ok, inl, inr, nat_lt, refl, sym, ap, subst, ◌∙◌, append_assoc, arith}
+use Rattle.std.proofs.Common.{ℕ, ◌≡◌, ◌+◌, ◌≤◌, ◌&&◌, ◌++◌, Bool, true, false, not, List, [], ◌∷◌, drop, length, take, Result, Err, Ok, is_ok, inl, inr, nat_lt, refl, sym, ap, subst, ◌∙◌, append_assoc, arith}
 use Rattle.std.proofs.lemmas.Bool.{and_parts, cases_Bool, cond-true, cond-false, false≢true, not-true}
 use Rattle.std.proofs.lemmas.Str.{IsUtf8-append, IsUtf8-from_ascii, IsUtf8-from_is_utf8, is_utf8-from_IsUtf8}
 use Rattle.std.proofs.lemmas.List.{length-append, take_all}
@@ -13,7 +13,6 @@ use Rattle.std.proofs.lemmas.Str.Ascii.{IsAscii-cons, IsAscii-nil}
 use Rattle.std.specs.Result.{result_unwrap_or}
 use Rattle.std.specs.Str.{is_utf8, IsAscii, IsUtf8}
 use Rattle.hex.specs.declared.error.FromHexError.{FromHexError}
-use Rattle.hex.specs.declared.error.FromHexError.TheVariants.{OutOfMemory}
 use Rattle.hex.specs.Hex.{IsBytes, decode_of, encode_lower, lower_digits}
 use Rattle.hex.proofs.HexLemmas.{IsAscii-encode_with, decode_of-encode_lower}
 use Rattle.lasso_input.proofs.Ends.{end_written}
@@ -68,18 +67,25 @@ digits_behind : (line : List ℕ) → drop 4 (escaped line) ≡ encode_lower lin
 unfolding escaped
 digits_behind line = refl
 
--- a marked text that has no proper digits is its own line
-bad_digits : (text : List ℕ) (error : FromHexError) → is_marked text ≡ true → decode_of (drop 4 text) ≡ Err error → line_of text ≡ text
-bad_digits text error marked bad = marked_line text marked ∙ ap (λ r. result_unwrap_or r text) bad
-
-pub no_digits : (text : List ℕ) (error : FromHexError) → is_marked text ≡ true → ¬ (error ≡ OutOfMemory)
-    → (error ≡ OutOfMemory) ⊎ (decode_of (drop 4 text) ≡ Err error) → line_of text ≡ text
-no_digits text error marked memory (inl is) = absurd (memory is)
-no_digits text error marked memory (inr bad) = bad_digits text error marked bad
-
--- and digits are read
-pub good_digits : (text line : List ℕ) → is_marked text ≡ true → decode_of (drop 4 text) ≡ Ok line → line_of text ≡ line
+-- digits are read
+good_digits : (text line : List ℕ) → is_marked text ≡ true → decode_of (drop 4 text) ≡ Ok line → line_of text ≡ line
 good_digits text line marked good = marked_line text marked ∙ ap (λ r. result_unwrap_or r text) good
+
+unwrapped : (r : Result (List ℕ) FromHexError) (one other : List ℕ) → is_ok r ≡ true → result_unwrap_or r one ≡ result_unwrap_or r other
+unwrapped (Ok bytes) one other read = refl
+unwrapped (Err error) one other read = absurd (cc)
+
+default_by : (r : Result (List ℕ) FromHexError) (text : List ℕ) → is_ok r ≡ false → result_unwrap_or r text ≡ text
+default_by (Ok bytes) text unread = absurd (cc)
+default_by (Err error) text unread = refl
+
+-- the line of a marked text whose digits are read
+pub read_is_line : (text : List ℕ) → is_marked text ≡ true → is_ok (decode_of (drop 4 text)) ≡ true → result_unwrap_or (decode_of (drop 4 text)) [] ≡ line_of text
+read_is_line text marked read = unwrapped (decode_of (drop 4 text)) [] text read ∙ sym (marked_line text marked)
+
+-- and of one whose digits are not
+pub unread_is_line : (text : List ℕ) → is_marked text ≡ true → is_ok (decode_of (drop 4 text)) ≡ false → text ≡ line_of text
+unread_is_line text marked unread = sym (marked_line text marked ∙ default_by (decode_of (drop 4 text)) text unread)
 
 pub escaped_gives_line : (line : List ℕ) → IsBytes line → line_of (escaped line) ≡ line
 escaped_gives_line line bytes =

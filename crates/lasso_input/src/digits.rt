@@ -1,13 +1,12 @@
 //! Writes bytes as hexadecimal digits, and reads them back.
 //!
 //! Digits are computed, since the processor can do that for many at a time, and can't look many up.
-ghost use Rattle.std.specs.Prelude.{◌≡◌, ◌*◌, ◌<◌, ◌⊎◌, true, Err, IfErr, IfOk, Ok, Some, length, slice_index};
+ghost use Rattle.std.specs.Prelude.{◌≡◌, ◌*◌, ◌<◌, ◌++◌, [], true, IfOk, OnOk, Ok, Some, is_ok, length, slice_index};
 ghost use Rattle.std.specs.List.{AllPass, list_all};
+ghost use Rattle.std.specs.Result.{result_unwrap_or};
 ghost use Rattle.hex.specs.Hex.{decode_of, encode_lower, hex_digit_value, is_hex_digit, lower_digits};
-ghost use Rattle.hex.specs.declared.error.FromHexError.TheVariants.{OutOfMemory};
 
-use hex::FromHexError;
-use std::alloc::Allocator;
+use std::alloc::{AllocError, Allocator};
 
 /// Fills `digits` with the lower-case hexadecimal digits of the bytes, two a byte.
 pub(crate) fn put_digits(bytes: &[u8], digits: &mut [u8])
@@ -36,23 +35,31 @@ fn digit(number: u8) -> u8
     }
 }
 
-/// The bytes that have these hexadecimal digits, of both cases, two a byte: what `hex::decode` returns, but faster.
+/// Appends the bytes that have these hexadecimal digits, of both cases, two a byte. Returns whether there are two
+/// digits for each byte; if not, nothing is appended.
 ///
 /// # Errors
-/// As `hex::decode`: one digit is left over, a byte is no digit, or out of memory.
-pub(crate) fn read_digits<A: Allocator>(alloc: A, digits: &[u8]) -> Result<Vec<u8, A>, FromHexError>
-    ensures ok { IfOk result (λ bytes. decode_of digits.now ≡ Ok bytes.items) }
-    ensures err { IfErr result (λ error. (error ≡ OutOfMemory) ⊎ (decode_of digits.now ≡ Err error)) }
+/// Out of memory.
+pub(crate) fn append_read<A: Allocator>(
+    bytes: &mut Vec<u8, A>,
+    digits: &[u8],
+) -> Result<bool, AllocError>
+    ensures is_read { IfOk result (λ is_read. is_read ≡ is_ok (decode_of digits.now)) }
+    ensures bytes { OnOk result (bytes.new.items ≡ bytes.old.items ++ result_unwrap_or (decode_of digits.now) []) }
 {
     if digits.len() % 2 != 0 {
-        return Err(FromHexError::OddLength);
+        return Ok(false);
     }
     if !are_digits(digits) {
-        return hex::decode(alloc, digits);
+        return Ok(false);
     }
-    let mut bytes = vec![in alloc; 0u8; digits.len() / 2]?;
-    take_digits(digits, bytes.as_mut_slice());
-    Ok(bytes)
+    let start = bytes.len();
+    let Some(end) = start.checked_add(digits.len() / 2) else {
+        return Err(AllocError);
+    };
+    bytes.resize(end, 0)?;
+    take_digits(digits, bytes.slice_mut(start..));
+    Ok(true)
 }
 
 // Whether all bytes are digits. Tests each of them, since that is faster.

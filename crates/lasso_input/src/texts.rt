@@ -7,9 +7,8 @@ ghost use Rattle.std.specs.Cow.{cow_slice_items, cow_str_bytes, IsBorrowedSlice,
 ghost use Rattle.std.specs.String.{string_bytes};
 ghost use Rattle.lasso_input.specs.Texts.{escaped, is_marked, is_own_text, line_of, text_of};
 
-use crate::digits::{put_digits, read_digits};
+use crate::digits::{append_read, put_digits};
 use crate::line::Line;
-use hex::FromHexError;
 use std::alloc::{AllocError, Allocator};
 use std::borrow::{CowSlice, CowStr};
 use std::str::from_utf8_unchecked;
@@ -77,12 +76,27 @@ pub fn line_of<A: Allocator>(alloc: A, text: &str) -> Result<CowSlice<'_, u8, A>
     if !is_marked(bytes) {
         return Ok(CowSlice::Borrowed(bytes));
     }
-    match read_digits(alloc, &bytes[MARK_BYTES.len()..]) {
-        Ok(line) => Ok(CowSlice::Owned(line)),
-        Err(error) => match error {
-            FromHexError::OutOfMemory => Err(AllocError),
-            _ => Ok(CowSlice::Borrowed(bytes)),
-        },
+    let mut line = Vec::new(alloc);
+    append_line(&mut line, text)?;
+    Ok(CowSlice::Owned(line))
+}
+
+/// Appends the line that has this text, as `line_of` returns it.
+///
+/// # Errors
+/// Out of memory.
+pub fn append_line<A: Allocator>(lines: &mut Vec<u8, A>, text: &str) -> Result<(), AllocError>
+    ensures { OnOk result (lines.new.items ≡ lines.old.items ++ line_of text.now) }
+{
+    let bytes = text.as_bytes();
+    if !is_marked(bytes) {
+        return lines.extend_from_slice(bytes);
+    }
+    let is_read = append_read(lines, &bytes[MARK_BYTES.len()..])?;
+    if is_read {
+        Ok(())
+    } else {
+        lines.extend_from_slice(bytes)
     }
 }
 
