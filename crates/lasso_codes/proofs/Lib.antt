@@ -4,6 +4,8 @@ pub mod Stretches
 pub mod Written
 pub mod Flat
 pub mod Blocks
+pub mod ColumnHead
+pub mod EntryParts
 pub mod FewTexts
 pub mod LettingIn
 pub mod LineTexts

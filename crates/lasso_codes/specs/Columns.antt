@@ -33,6 +33,10 @@ abbrev pub entry_bytes : Bool → Option ℕ → List ℕ
 entry_bytes true entry = to_le_bytes w32 (unwrap_or entry 4294967295)
 entry_bytes false entry = entry_line entry
 
+-- the entries with these numbers, one after another
+abbrev pub entries_of : Bool → List ℕ → List ℕ
+entries_of binary numbers = flat_map (λ n. entry_bytes binary (entry_at n)) numbers
+
 -- ---- columns
 
 -- the words at the beginning of a header line
@@ -48,6 +52,10 @@ header binary distinct lines = header_front binary ++ (decimal distinct ++ 32 �
 abbrev pub column_of : Bool → List Text → List (Option ℕ) → List ℕ
 column_of binary list entries =
     header binary (length list) (length entries) ++ (flat_map with_feed list ++ flat_map (entry_bytes binary) entries)
+
+-- what comes before the entries of a column with this number of them
+abbrev pub head_of : Bool → List Text → ℕ → List ℕ
+head_of binary list lines = header binary (length list) lines ++ flat_map with_feed list
 
 -- the column of lines
 abbrev pub column_bytes : Bool → Option Text → List Text → List ℕ

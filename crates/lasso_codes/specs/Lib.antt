@@ -7,6 +7,7 @@ pub mod Distinct
 pub mod Counts
 pub mod Columns
 pub mod Encode
+pub mod EntryParts
 pub mod Arguments
 pub mod Endings
 pub mod Reading

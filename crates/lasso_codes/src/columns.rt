@@ -1,7 +1,7 @@
 //! The numbers of a column's lines, and how a column is written: a header line, the dictionary's lines in the
 //! order of their codes, and an entry for each line.
 ghost use Rattle.std.specs.Prelude.{◌≡◌, ◌+◌, ◌≤◌, ◌++◌, ◌∷◌, [], Err, IfOk, IfErr, OnOk, OnErr, MatchResult, length, map, take, vec_capacity, vec_len, decimal, flat_map};
-ghost use Rattle.lasso_codes.specs.Columns.{column_of, entry_at, entry_bytes, header, header_front};
+ghost use Rattle.lasso_codes.specs.Columns.{column_of, entry_at, entry_bytes, head_of, header, header_front};
 ghost use Rattle.lasso_codes.specs.Distinct.{with_feed};
 ghost use Rattle.lasso_codes.specs.Streams.{Writes, WritesAll};
 ghost use Rattle.lasso_codes.specs.Errors.{failed_writes, gone_readers};
@@ -54,11 +54,27 @@ pub fn write_column<W: Write + Drop>(
     ensures writes { output.new.failures ≡ output.old.failures + failed_writes result }
     ensures gone { output.new.gone ≡ output.old.gone + gone_readers result }
 {
-    let distinct = table.len();
-    let lines = numbers.len();
-    write_header(output, binary, distinct as u64, lines as u64)?;
-    write_lines(output, table)?;
+    write_head(output, table, numbers.len(), binary)?;
     write_entries(output, binary, numbers)
+}
+
+/// Writes what comes before the entries of a column of this number of lines: the header, and the lines of the table.
+///
+/// # Errors
+/// As `write_bytes`.
+pub fn write_head<W: Write + Drop>(
+    output: &mut Output<W>,
+    table: &LineTable<'_>,
+    lines: usize,
+    binary: bool,
+) -> Result<(), RunError>
+    ensures written { Writes output.old.written output.new.written (WritesAll (head_of binary table.now lines) result) }
+    ensures writes { output.new.failures ≡ output.old.failures + failed_writes result }
+    ensures gone { output.new.gone ≡ output.old.gone + gone_readers result }
+{
+    let distinct = table.len();
+    write_header(output, binary, distinct as u64, lines as u64)?;
+    write_lines(output, table)
 }
 
 // Writes the header line.
@@ -122,11 +138,14 @@ fn write_lines<W: Write + Drop>(
 // Entries are written in blocks of this size.
 const BLOCK_SIZE: usize = 4096;
 
-// The length of the longest entry: ten digits and a line feed.
-const LONGEST_ENTRY: usize = 11;
+/// The length of the longest entry: ten digits and a line feed.
+pub const LONGEST_ENTRY: usize = 11;
 
-// Writes the entry of each number.
-fn write_entries<W: Write + Drop>(
+/// Writes the entry of each number.
+///
+/// # Errors
+/// As `write_bytes`.
+pub fn write_entries<W: Write + Drop>(
     output: &mut Output<W>,
     binary: bool,
     numbers: &[u32],
@@ -168,9 +187,10 @@ fn make_room<W: Write + Drop>(
     Ok(0)
 }
 
-// Puts the entry of the number into the block at the position `at`. Returns the position after it.
+/// Puts the entry of the number into the block at the position `at`. Returns the position after it. There must be
+/// room for the longest entry.
 #[inline]
-fn put_entry(block: &mut [u8], at: usize, binary: bool, number: u32) -> usize
+pub fn put_entry(block: &mut [u8], at: usize, binary: bool, number: u32) -> usize
     requires { at + 11 ≤ length block.old }
     ensures put { take result block.new ≡ take at block.old ++ entry_bytes binary (entry_at number) }
     ensures within { result ≤ at + 11 }

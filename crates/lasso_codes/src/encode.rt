@@ -17,7 +17,8 @@ ghost use Rattle.lasso_codes.specs.Stages.{Encoding};
 ghost use Rattle.lasso_codes.specs.Streams.{Writes};
 
 use crate::arguments::Settings;
-use crate::columns::{append, write_column};
+use crate::columns::append;
+use crate::entry_parts::write_column_in_parts;
 use crate::error::RunError;
 use crate::input::next_line;
 use crate::interner::new_rodeo;
@@ -78,7 +79,14 @@ fn write_encoded<H: AllocGlobal + Threads + Sync, R: Read + Drop, W: Write + Dro
     let mut numbers = Vec::new(rt.alloc());
     number_lines(rt, input, &mut rodeo, &mut numbers, null, settings)?;
     let table = LineTable::new(rt.alloc(), &rodeo)?;
-    write_column(output, &table, &numbers, settings.binary)
+    write_column_in_parts(
+        rt,
+        output,
+        &table,
+        &numbers,
+        settings.binary,
+        settings.workers,
+    )
 }
 
 // Encodes all lines, with one worker or several.

@@ -16,6 +16,7 @@ pub mod distinct;
 pub mod encode;
 pub mod ending;
 pub mod entries;
+pub mod entry_parts;
 pub mod error;
 pub mod help;
 pub mod input;

@@ -47,12 +47,12 @@ returns-clause-report g c = λ bytes e.
     let many = subst (λ (ns : List ℕ). length ns < 2 ^ 64) (sym c.deref.ensures.value) few in
     let made = c.in_ok-rodeo.ensures.made ∙ ap (λ n. made_with 4096 n) c.new.ensures in
     let interned = subst (λ (i : InternerView). extend spur_at i (line_texts (texts_of null (lines_of bytes))) accepted c.number_lines.new.rodeo) made (c.in_ok-number_lines.ensures.interned bytes e) in
-    let result = c.write_column.result in
-    writes_as _ _ _ (λ part. EncodeEnd bytes c.args.settings.only_utf8 c.args.settings.limit null c.args.settings.binary part result) c.write_column.ensures.written (λ part w.
+    let result = c.write_column_in_parts.result in
+    writes_as _ _ _ (λ part. EncodeEnd bytes c.args.settings.only_utf8 c.args.settings.limit null c.args.settings.binary part result) c.write_column_in_parts.ensures.written (λ part w.
     column_written bytes c.args.settings.only_utf8 c.args.settings.limit null c.args.settings.binary c.in_ok-table.table list numbers part result numbered.0 c.in_ok-table.ensures.lines are (c.number_lines.new.rodeo, interned) many w)
 
 pub returns-clause-reads : goal.returns-clause-reads
 returns-clause-reads g c =
-    let wrote = c.write_column.ensures.written in
-    let nothing = written_no_read _ wrote.0 c.write_column.result wrote.2 in
+    let wrote = c.write_column_in_parts.ensures.written in
+    let nothing = written_no_read _ wrote.0 c.write_column_in_parts.result wrote.2 in
     omega (arith, c.in_ok-number_lines.ensures.reads, nothing)
