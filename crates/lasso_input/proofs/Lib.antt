@@ -5,3 +5,4 @@ pub mod HexDigits
 pub mod LineTexts
 pub mod Remaining
 pub mod Tested
+pub mod VectorDigits

@@ -2,3 +2,4 @@ pub mod Lines
 pub mod Texts
 pub mod Numbers
 pub mod Workers
+pub mod Lanes

@@ -1,8 +1,26 @@
-use Rattle.std.proofs.Common.{ℕ, ◌+◌, ◌*◌, slice_index, arith, ◌∙◌}
+use Rattle.std.proofs.Common.{ℕ, ◌≡◌, ◌+◌, ◌*◌, true, drop, slice_index, sym, subst, arith, ◌∙◌}
+use Rattle.std.specs.List.{AllPass}
+use Rattle.std.specs.Simd.Lanes.{put_chunk}
+use Rattle.std.proofs.lemmas.List.Elements.{All-drop, All-take}
+use Rattle.std.proofs.lemmas.Simd.{take_more_put_chunk}
+use Rattle.hex.specs.Hex.{is_hex_digit}
 use Rattle.hex.proofs.HexLemmas.{decode_of-even}
 use Rattle.hex.proofs.Pairs.{decode_done, decode_step}
 use Rattle.lasso_input.proofs.HexDigits.{pair_read}
+use Rattle.lasso_input.proofs.VectorDigits.{block_read, two_chunks}
 use Rattle.lasso_input.proofs.digits.take_digits.Goals as goal
+
+pub bytes_of-requires : goal.bytes_of-requires
+bytes_of-requires c =
+    let at = 2 * (c.loop-block.block * 16) in
+    subst (AllPass is_hex_digit) (sym (two_chunks at c.args.digits.now)) (All-take (λ d. is_hex_digit d ≡ true) 32 (drop at c.args.digits.now) (All-drop (λ d. is_hex_digit d ≡ true) at c.args.digits.now c.requires.proper))
+
+pub loop-block-preserved : goal.loop-block-preserved
+loop-block-preserved c =
+    let at = c.loop-block.block * 16 in
+    let next : (c.loop-block.block + 1) * 16 ≡ at + 16 = omega arith in
+    let put = take_more_put_chunk at c.loop-block.bytes c.bytes_of.result (at + 16) (omega (arith, c.bytes_of.ensures.long)) (omega arith) in
+    rw next (block_read c.args.digits.now c.loop-block.bytes (put_chunk at c.loop-block.bytes c.bytes_of.result) c.bytes_of.result at (omega arith) put c.bytes_of.ensures.read c.loop-block.invariant)
 
 pub number-high-requires : goal.number-high-requires
 number-high-requires c = c.requires.proper (2 * c.loop-i.i) 0 (omega arith)
