@@ -1,12 +1,15 @@
 -- Texts that are counted after others.
-use Rattle.std.specs.Prelude.{ℕ, ◌≡◌, ◌+◌, ◌<◌, ◌≤◌, ◌⊎◌, List, ◌++◌, length, sum, take, codes, decimal, Vec, vec_capacity, vec_len, None, IsSome, Result, Ok, Err, MatchResult}
+use Rattle.std.specs.Prelude.{ℕ, ◌≡◌, ◌+◌, ◌<◌, ◌≤◌, ◌⊎◌, List, [], ◌++◌, length, sum, take, slice_get, codes, decimal, Vec, vec_capacity, vec_len, None, IsSome, IsSomeAnd, Result, Ok, Err, MatchResult}
 use Rattle.lasso_parts.specs.Errors.{error_text}
-use Rattle.lasso_parts.specs.Texts.{Text, position_of}
+use Rattle.lasso_parts.specs.Texts.{Text, position_of, IsDistinct}
 use Rattle.lasso_parts.specs.declared.util.LassoError.{LassoError}
+use Rattle.lasso_single.specs.Codes.{AreCodes}
+use Rattle.lasso_single.specs.Filling.{extend}
 use Rattle.lasso_single.specs.Intern.{InternsIn}
 use Rattle.lasso_single.specs.Interner.{InternerView}
 use Rattle.lasso_single.specs.Coding.{spur_at, IsRefused, MayLackMemory}
 use Rattle.lasso_columns.specs.Counts.{count_of, count_at, counted}
+use Rattle.lasso_columns.specs.Parts.{new_texts}
 use Rattle.lasso_columns.specs.declared.counts.error.CountError.{CountError}
 
 -- what the error prints
@@ -31,10 +34,32 @@ pub record AddsAmounts (list from : List Text) (amounts old new : List ℕ) : Ty
   pub long : length new ≡ length old
   pub total : sum new ≡ sum old + sum amounts
 
+-- counts of the texts of a list, one for each, have grown: each by how often its text is among texts that have these codes in the list
+abbrev pub CountsCodes : (codes before after : List ℕ) → Type 0
+CountsCodes codes before after = (list texts : List Text) → length before ≡ length list → AreCodes list texts codes → AddsCounts texts list before list after
+
+-- counts of the texts of a list, one for each, have grown by these amounts at these places, which are the codes of distinct texts in the list
+abbrev pub AddsAmountsAt : (places amounts before after : List ℕ) → Type 0
+AddsAmountsAt places amounts before after =
+    (list from : List Text) → length before ≡ length list → IsDistinct from → AreCodes list from places → AddsAmounts list from amounts before after
+
+-- the texts that were counted are interned, if before this the first of the distinct texts were, no matter how many
+abbrev pub InternsRest : (old : InternerView) → Result (Unit {0}) CountError → List Text → (new : InternerView) → Type 0
+InternsRest old result texts new =
+    (before : InternerView) (n : ℕ) → extend spur_at before (take n (new_texts [] texts)) (Ok tt) old → extend spur_at before (counted_of result texts) (Ok tt) new
+
+-- the text at the error's position was refused with it, as `IsRefused` of `lasso_single` says
+abbrev pub IsRefusedAmong : InternerView → List Text → CountError → Type 0
+IsRefusedAmong now texts error = IsSomeAnd (slice_get texts error.position) (λ text. IsRefused now text error.error)
+
 -- A refused text is absent. It is out of memory only if the counts have no room for one more, or neither the
 -- keys nor the limit refuse it.
 abbrev pub RefusesNew : {A : Type 0} → InternerView → Vec ℕ A → Text → LassoError → Type 0
 RefusesNew now counts text error = (position_of now.texts text ≡ None) × MayLackMemory now counts text error
+
+-- so it is with the text at the error's position
+abbrev pub RefusesNewAmong : {A : Type 0} → InternerView → Vec ℕ A → List Text → CountError → Type 0
+RefusesNewAmong now counts texts error = IsSomeAnd (slice_get texts error.position) (λ text. RefusesNew now counts text error.error)
 
 -- the text is interned and its count is one more; or it is refused, and all is as it was
 abbrev pub CountsText : {A : Type 0} → InternerView → Vec ℕ A → Text → Result (Unit {0}) LassoError → InternerView → Vec ℕ A → Type 0

@@ -1,11 +1,13 @@
 -- Lines of a block that are encoded beside a list.
-use Rattle.std.specs.Prelude.{ℕ, ◌≡◌, ◌==◌, ◌||◌, ◌+◌, ◌-◌, ◌<◌, ◌≤◌, Bool, true, false, List, [], ◌∷◌, ◌++◌, length, take, map, All, Option, Some, None, Result, Ok, Err, IfSome, Vec, slice_get, nat_lt, if◌then◌else◌}
+use Rattle.std.specs.Prelude.{ℕ, ◌≡◌, ◌==◌, ◌||◌, ◌+◌, ◌-◌, ◌<◌, ◌≤◌, Bool, true, false, List, [], ◌∷◌, ◌++◌, length, take, map, All, Option, Some, None, Result, Ok, Err, IfSome, Vec, slice_get, slice_index_or, nat_lt, if◌then◌else◌}
 use Rattle.std.specs.Str.{IsUtf8}
 use Rattle.lasso_parts.specs.Texts.{Text, position_of}
 use Rattle.lasso_parts.specs.declared.util.LassoError.{LassoError}
 use Rattle.lasso_single.specs.Interner.{InternerView}
+use Rattle.lasso_input.specs.Lines.{lines_of}
 use Rattle.lasso_columns.specs.Parts.{new_texts}
 use Rattle.lasso_columns.specs.Rows.{texts_of, AreEntries, EncodesRows, IsRowFault}
+use Rattle.lasso_columns.specs.declared.blocks.Block.{Block}
 use Rattle.lasso_columns.specs.declared.faults.LineError.{LineError}
 use Rattle.lasso_columns.specs.declared.faults.LineError.TheVariants.{Refused, NotText}
 
@@ -21,6 +23,18 @@ pub record IsBlock (null : Option Text) (list lines added : List Text) (entries 
   pub lines_are : AreTextLines is_complete done lines
   pub added_are : added ≡ new_texts list (texts_of null done)
   pub entries_are : AreEntries null (list ++ added) done entries
+
+-- the block is that of the lines of these bytes, encoded beside the list
+abbrev pub IsBlockOf : Option Text → (list : List Text) → (bytes : List ℕ) → Block → Type 0
+IsBlockOf null list bytes block = IsBlock null list (lines_of bytes) block.added block.entries.items block.is_complete
+
+-- the same, and the block keeps how many texts the list has
+abbrev pub IsBlockBeside : Option Text → (list : List Text) → (bytes : List ℕ) → Block → Type 0
+IsBlockBeside null list bytes block = IsBlockOf null list bytes block × (block.base ≡ length list)
+
+-- so it is of the bytes at this position of the list of blocks
+abbrev pub IsBlockAt : {A : Type 0} → Option Text → (list : List Text) → (blocks : List (Vec ℕ A)) → (position : ℕ) → Block → Type 0
+IsBlockAt {A} null list blocks position block = (e : Vec ℕ A) → IsBlockBeside null list (slice_index_or blocks position e).items block
 
 -- the text went last, unless one of both lists has it, and the code is its position in both, one after the
 -- other
@@ -44,6 +58,10 @@ IsAddedAt base old text new code =
 abbrev pub IsBlockFor : Option Text → List Text → List Text → ℕ → List Text → List ℕ → Bool → Type 0
 IsBlockFor null list lines base added entries is_complete =
     (base ≤ length list) × IsBlock null (take base list) lines added entries is_complete
+
+-- the same of the lines of these bytes, by what the block has
+abbrev pub IsBlockToPut : Option Text → (list : List Text) → (bytes : List ℕ) → Block → Type 0
+IsBlockToPut null list bytes block = IsBlockFor null list (lines_of bytes) block.base block.added block.entries.items block.is_complete
 
 -- an entry after the added texts were interned: those of nulls and of the first `base` texts stay, and the
 -- others are rewritten by the table of the new codes

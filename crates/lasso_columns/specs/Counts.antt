@@ -1,6 +1,6 @@
 -- Counts of texts, one for each text of a list of distinct texts.
 use denote.Ref.{Bor}
-use Rattle.std.specs.Prelude.{ℕ, ◌≡◌, ◌+◌, List, [], ◌∷◌, ◌++◌, length, map, sum, count_by, nat_lt, Option, Some, None, slice_index, slice_set, if◌then◌else◌}
+use Rattle.std.specs.Prelude.{ℕ, ◌≡◌, ◌+◌, List, [], ◌∷◌, ◌++◌, length, map, sum, count_by, nat_lt, Option, Some, None, slice_index, slice_set, if◌then◌else◌, IsPermutation}
 use Rattle.std.specs.Ordering.{nat_cmp, ordering_then}
 use Rattle.std.specs.Str.{bytes_eq}
 use Rattle.std.specs.Cmp.Lexicographic.{slice_cmp}
@@ -26,9 +26,17 @@ pub record AreCounts (texts list : List Text) (counts : List ℕ) : Type 0 where
   pub lengths : length counts ≡ length list
   pub total : sum counts ≡ length texts
 
+-- what were the counts of any texts are those of these texts and this one
+abbrev pub CountsOneMore : Text → (list : List Text) → (counts : List ℕ) → (list' : List Text) → (counts' : List ℕ) → Type 0
+CountsOneMore text list counts list' counts' = (texts : List Text) → AreCounts texts list counts → AreCounts (texts ++ text ∷ []) list' counts'
+
 -- each distinct text once, with its count
 abbrev pub counted_texts : List Text → List (ℕ × Text)
 counted_texts texts = map (λ text. (count_of texts text, text)) (new_texts [] texts)
+
+-- the pairs are the distinct texts with their counts, in some order, if these are counts of texts at all
+abbrev pub AreCountedTexts : (list : List Text) → (counts : List ℕ) → List (ℕ × Text) → Type 0
+AreCountedTexts list counts pairs = (texts : List Text) → AreCounts texts list counts → IsPermutation (counted_texts texts) pairs
 
 -- the counts with one more at a position, or with a count of 1 after the others
 abbrev pub added : List ℕ → ℕ → List ℕ

@@ -6,7 +6,7 @@ use Rattle.lasso_parts.specs.declared.util.LassoErrorKind.{LassoErrorKind}
 use Rattle.lasso_parts.specs.declared.util.LassoErrorKind.TheVariants.{FailedAllocation}
 use Rattle.lasso_single.specs.Filling.{extend}
 use Rattle.lasso_single.specs.Intern.{InternsIn}
-use Rattle.lasso_single.specs.Interner.{InternerView}
+use Rattle.lasso_single.specs.Interner.{InternerView, made_with}
 use Rattle.lasso_parts.specs.Layout.{layout_texts, offsets_from}
 use Rattle.lasso_columns.specs.Layout.{layout_fault}
 use Rattle.lasso_columns.specs.declared.faults.ReadError.{ReadError}
@@ -59,6 +59,14 @@ IsRefusedReading {K} key_at most bytes offsets made error =
 -- how many bytes the first bucket of a new interner for these bytes has
 abbrev pub first_bucket : ℕ → List ℕ → ℕ
 first_bucket limit bytes = max (min (if nat_eq (length bytes) 0 then 4096 else length bytes) limit) 1
+
+-- the new interner that a layout of these bytes is read into, under this limit
+abbrev pub made_to_read : (limit : ℕ) → (bytes : List ℕ) → InternerView
+made_to_read limit bytes = made_with (first_bucket limit bytes) limit
+
+-- the first of these texts were interned in order, as many as were appended to the list
+abbrev pub InternsAppended : {K : Type 0} → (ℕ → Option K) → (old : InternerView) → List Text → (new : InternerView) → Type 0
+InternsAppended key_at old texts new = extend key_at old (take (appended old.texts new.texts) texts) (Ok tt) new
 
 -- a text is appended to the list; or it is refused, as present or by the interner, and nothing changes
 abbrev pub AppendsNew : {K : Type 0} → (ℕ → Option K) → ℕ → InternerView → Text → Result (Unit {0}) ReadError → InternerView → Type 0

@@ -5,13 +5,18 @@ use Rattle.lasso_parts.specs.declared.util.LassoError.{LassoError}
 use Rattle.lasso_parts.specs.declared.util.LassoErrorKind.TheVariants.{FailedAllocation}
 use Rattle.lasso_single.specs.Filling.{extend}
 use Rattle.lasso_single.specs.Interner.{InternerView}
-use Rattle.lasso_single.specs.Coding.{spur_at, IsAdmitted}
+use Rattle.lasso_single.specs.Coding.{spur_at, IsAdmitted, IsRefused}
 
 -- When memory may run out for a list's next text, if there is room for its code: the text is absent and
 -- admitted.
 abbrev pub MayLackMemoryWithRoom : InternerView → List ℕ → List Text → LassoError → Type 0
 MayLackMemoryWithRoom now codes list error =
     IsSomeAnd (slice_get list (length codes)) (λ text. error ≡ FailedAllocation → IsAdmitted now text)
+
+-- the texts before one of the list were interned, and that one was refused with this error
+abbrev pub StopsMerging : (old now : InternerView) → List Text → LassoError → Type 0
+StopsMerging old now list error =
+    (n : ℕ) × extend spur_at old (take n list) (Ok tt) now × IsSomeAnd (slice_get list n) (λ text. IsRefused now text error)
 
 -- When memory may run out while a list is interned in another: before its first text; or for an absent and
 -- admitted text, after all texts before it were interned.

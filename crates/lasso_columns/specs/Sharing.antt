@@ -22,6 +22,10 @@ IsRefusalIn opening past texts error =
     (error ≡ FailedAllocation)
     ⊎ ((text : Text) × (front back : History) × Contains texts text × (front ++ back ≡ past) × MayReply spur_at (totals opening front) (Intern Copied text) (Interned (Err error)))
 
+-- so it is in some legal history
+abbrev pub IsRefusalOnce : (opening : Totals) → List Text → LassoErrorKind → Type 0
+IsRefusalOnce opening texts error = (past : History) × IsLegal spur_at opening past × IsRefusalIn opening past texts error
+
 -- what a worker gives back: a history of the interner that was seen; and the codes that the texts have in its
 -- list, or why one of them may be refused somewhere in it
 abbrev pub IsPartOf : {A : Type 0} → InternerId → List Text → SnapshotView → Result (Vec ℕ A) LassoErrorKind → Type 0

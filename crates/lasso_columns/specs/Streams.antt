@@ -4,7 +4,7 @@ use Rattle.hex.specs.Hex.{IsBytes}
 use Rattle.lasso_parts.specs.Texts.{Text}
 use Rattle.lasso_single.specs.Interner.{InternerView}
 use Rattle.lasso_input.specs.Lines.{lines_of, NoFeed}
-use Rattle.lasso_columns.specs.Blocks.{IsBlockFor, StopsInRound}
+use Rattle.lasso_columns.specs.Blocks.{IsBlockToPut, StopsInRound}
 use Rattle.lasso_columns.specs.Rows.{EncodesRows, StopsAtRow}
 use Rattle.lasso_columns.specs.Texts.{texts_by}
 use Rattle.lasso_columns.specs.declared.blocks.Block.{Block}
@@ -51,12 +51,12 @@ CutsLast before after = (begun : List ℕ) × (before ≡ after ++ begun) × NoF
 abbrev pub AreBlocksFor : {A : Type 0} → Option Text → List Text → List (Vec ℕ A) → List (Option Block) → Type 0
 AreBlocksFor {A} null list blocks made =
     (i : ℕ) (block : Block) (bytes : Vec ℕ A) → slice_get made i ≡ Some (Some block) → slice_get blocks i ≡ Some bytes
-    → IsBlockFor null list (lines_of bytes.items) block.base block.added block.entries.items block.is_complete
+    → IsBlockToPut null list bytes.items block
 
 -- what was made of the last block beside the list
 abbrev pub IsLastFor : {A : Type 0} → Option Text → List Text → List (Vec ℕ A) → Option Block → Type 0
 IsLastFor {A} null list blocks last =
-    IfSome last (λ block. (bytes : Vec ℕ A) → slice_get blocks (length blocks - 1) ≡ Some bytes → IsBlockFor null list (lines_of bytes.items) block.base block.added block.entries.items block.is_complete)
+    IfSome last (λ block. (bytes : Vec ℕ A) → slice_get blocks (length blocks - 1) ≡ Some bytes → IsBlockToPut null list bytes.items block)
 
 -- what was made of the last block is after what was made of all others, or is left out
 abbrev pub AddsLast : {A : Type 0} → List (Vec ℕ A) → List (Option Block) → Option Block → List (Option Block) → Type 0
@@ -86,6 +86,10 @@ abbrev pub ReadsTexts : {A E : Type 0} → LineTexts → Option (List ℕ) → O
 ReadsTexts by before after blocks more =
     (bytes : List ℕ) → before ≡ Some bytes → (first : List (List ℕ)) × (lines : List (List ℕ)) × (lines_of bytes ≡ first ++ lines) × (lines_in blocks ≡ texts_by by first)
     × AreBytesBy by first × FollowBy by more after lines
+
+-- if more lines follow, the first of them were read so as blocks
+abbrev pub ReadsMore : {A E : Type 0} → (follow : Result Bool E) → LineTexts → (before after : Option (List ℕ)) → List (Vec ℕ A) → (more : Result Bool E) → Type 0
+ReadsMore follow by before after blocks more = follow ≡ Ok true → ReadsTexts by before after blocks more
 
 -- blocks of lines became blocks of their texts: all, or memory ran out for those of the others
 abbrev pub AllBecome : {A E : Type 0} → LineTexts → List (Vec ℕ A) → Result Bool E → List (Vec ℕ A) → Result Bool E → Type 0

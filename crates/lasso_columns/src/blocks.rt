@@ -1,8 +1,7 @@
 //! Encodes the lines of blocks beside an interner that nobody changes meanwhile.
 ghost use Rattle.std.specs.Prelude.{◌≡◌, ◌<◌, ℕ, [], IfSome, IfOk, length, slice_index_or, vec_len};
-ghost use Rattle.lasso_columns.specs.Blocks.{IsAddedAt, IsBlock, IsCodedBeside, IsRowBeside};
+ghost use Rattle.lasso_columns.specs.Blocks.{IsAddedAt, IsBlockAt, IsBlockBeside, IsBlockOf, IsCodedBeside, IsRowBeside};
 ghost use Rattle.lasso_columns.specs.Rows.{is_null, word_of};
-ghost use Rattle.lasso_input.specs.Lines.{lines_of};
 
 use crate::interners::{SpurRodeo, SpurRodeoReader};
 use crate::rows::{NULL, is_null};
@@ -38,7 +37,7 @@ pub fn encode_block<S: BuildHasher, A: Allocator>(
     bytes: &[u8],
     null: Option<&[u8]>,
 ) -> Option<Block>
-    ensures block { IfSome result (λ block. IsBlock (word_of null.entry) rodeo.now.texts (lines_of bytes.now) block.added block.entries.items block.is_complete) }
+    ensures block { IfSome result (λ block. IsBlockOf (word_of null.entry) rodeo.now.texts bytes.now block) }
     ensures base { IfSome result (λ block. block.base ≡ length rodeo.now.texts) }
 {
     let Ok(mut added) = new_rodeo(alloc) else {
@@ -145,11 +144,11 @@ pub fn encode_blocks<R: AllocGlobal + Threads + Sync>(
 ) -> Result<Vec<Option<Block>>, AllocError>
     ensures len { IfOk result (λ made. vec_len made ≡ length blocks.now) }
     ensures each { IfOk result (λ made. (i : ℕ) (d : _) (e : _) → i < length blocks.now →
-        IfSome (slice_index_or made.items i d) (λ block. IsBlock (word_of null.entry) rodeo.now.texts (lines_of (slice_index_or blocks.now i e).items) block.added block.entries.items block.is_complete × (block.base ≡ length rodeo.now.texts))) }
+        IfSome (slice_index_or made.items i d) (λ block. IsBlockBeside (word_of null.entry) rodeo.now.texts (slice_index_or blocks.now i e).items block)) }
 {
     let work = move |i: usize| -> Option<Block>
         requires { i < length blocks.now }
-        ensures { IfSome result (λ block. (e : _) → IsBlock (word_of null.entry) rodeo.entry.now.texts (lines_of (slice_index_or blocks.entry.now i e).items) block.added block.entries.items block.is_complete × (block.base ≡ length rodeo.entry.now.texts)) }
+        ensures { IfSome result (λ block. IsBlockAt (word_of null.entry) rodeo.entry.now.texts blocks.entry.now i block) }
     { encode_block(rt.alloc(), rodeo, &blocks[i], null) };
     map_indices(rt, rt.alloc(), blocks.len(), &work)
 }

@@ -1,9 +1,9 @@
 //! Merges the texts of one interner into another.
-ghost use Rattle.std.specs.Prelude.{◌≡◌, ℕ, ◌≤◌, [], Ok, OnOk, IfOk, IfErr, IsSomeAnd, slice_get, take, length, vec_capacity};
+ghost use Rattle.std.specs.Prelude.{◌≡◌, ◌≤◌, [], Ok, OnOk, IfOk, IfErr, IsSomeAnd, slice_get, take, length, vec_capacity};
 ghost use Rattle.lasso_single.specs.Filling.{extend};
 ghost use Rattle.lasso_single.specs.Codes.{AreCodes, StandFor};
 ghost use Rattle.lasso_single.specs.Coding.{spur_at, IsRefused};
-ghost use Rattle.lasso_columns.specs.Merging.{MayLackMemoryWithRoom, MayLackMemoryMerging};
+ghost use Rattle.lasso_columns.specs.Merging.{MayLackMemoryWithRoom, MayLackMemoryMerging, StopsMerging};
 
 use lasso_parts::index::Texts;
 use lasso_parts::keys::Spur;
@@ -40,7 +40,7 @@ pub fn merge<S: BuildHasher, A: Allocator + Clone, T: BuildHasher, B: Allocator>
     ensures list { OnOk result (extend spur_at into.old from.now (Ok tt) into.new) }
     ensures codes { IfOk result (λ codes. AreCodes into.new.texts from.now codes.items) }
     ensures texts { IfOk result (λ codes. StandFor into.new.texts codes.items from.now) }
-    ensures refused { IfErr result (λ error. (n : ℕ) × extend spur_at into.old (take n from.now) (Ok tt) into.new × IsSomeAnd (slice_get from.now n) (λ text. IsRefused into.new text error)) }
+    ensures refused { IfErr result (λ error. StopsMerging into.old into.new from.now error) }
     ensures memory { IfErr result (MayLackMemoryMerging into.old into.new from.now) }
 {
     let mut codes = Vec::new(alloc);

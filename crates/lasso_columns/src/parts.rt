@@ -1,5 +1,6 @@
 //! Encodes texts to codes in parts, each by a thread with an interner of its own.
-ghost use Rattle.std.specs.Prelude.{◌≡◌, ℕ, ◌+◌, ◌<◌, ◌≤◌, Ok, OnOk, IfErr, IfSome, All, length, map, slice_get, slice_index, vec_len, vec_capacity};
+ghost use Rattle.std.specs.Prelude.{◌≡◌, ℕ, ◌+◌, ◌<◌, ◌≤◌, Ok, OnOk, IfErr, IfSome, All};
+ghost use Rattle.std.specs.Prelude.{length, map, slice_get, slice_index, vec_len, vec_capacity};
 ghost use Rattle.std.specs.List.{AllWithin};
 ghost use Rattle.lasso_single.specs.Filling.{extend};
 ghost use Rattle.lasso_single.specs.Codes.{AddsCodes};

@@ -3,8 +3,7 @@ ghost use Rattle.std.specs.Prelude.{◌≡◌, ◌+◌, ◌<◌, ◌++◌, None,
 ghost use Rattle.std.specs.List.{slice_range};
 ghost use Rattle.lasso_parts.specs.declared.util.LassoErrorKind.TheVariants.{FailedAllocation};
 ghost use Rattle.lasso_single.specs.Filling.{extend};
-ghost use Rattle.lasso_single.specs.Interner.{made_with};
-ghost use Rattle.lasso_columns.specs.Dictionaries.{AppendsNew, AppendsUnless, IsFaultAfter, IsRefusedReading, appended, first_bucket};
+ghost use Rattle.lasso_columns.specs.Dictionaries.{AppendsNew, AppendsUnless, InternsAppended, IsFaultAfter, IsRefusedReading, appended, made_to_read};
 ghost use Rattle.lasso_parts.specs.Layout.{layout_texts};
 ghost use Rattle.lasso_columns.specs.Layout.{layout_fault, text_fault};
 
@@ -41,10 +40,10 @@ pub fn read_dictionary<K: Key, S: BuildHasher + Drop, A: Allocator + Clone, O: O
     bytes: &[u8],
     offsets: &[O],
 ) -> Result<Rodeo<K, S, A>, ReadError>
-    ensures list { IfOk result (λ rodeo. extend K.key_at (made_with (first_bucket limits bytes.now) limits) (layout_texts bytes.now (map O.number offsets.now)) (Ok tt) rodeo) }
+    ensures list { IfOk result (λ rodeo. extend K.key_at (made_to_read limits bytes.now) (layout_texts bytes.now (map O.number offsets.now)) (Ok tt) rodeo) }
     ensures texts { IfOk result (λ rodeo. rodeo.texts ≡ layout_texts bytes.now (map O.number offsets.now)) }
     ensures good { OnOk result (layout_fault O.GREATEST bytes.now (map O.number offsets.now) ≡ None) }
-    ensures fault { IfErr result (IsRefusedReading K.key_at O.GREATEST bytes.now (map O.number offsets.now) (made_with (first_bucket limits bytes.now) limits)) }
+    ensures fault { IfErr result (IsRefusedReading K.key_at O.GREATEST bytes.now (map O.number offsets.now) (made_to_read limits bytes.now)) }
 {
     let capacity = Capacity::new(offsets.len(), first_bucket(bytes, limits));
     let Ok(mut rodeo) = Rodeo::with_capacity_memory_limits_and_hasher(
@@ -86,7 +85,7 @@ pub fn append_dictionary<K: Key, S: BuildHasher, A: Allocator + Clone, O: Offset
     bytes: &[u8],
     offsets: &[O],
 ) -> Result<(), ReadError>
-    ensures list { extend K.key_at rodeo.old (take (appended rodeo.old.texts rodeo.new.texts) (layout_texts bytes.now (map O.number offsets.now))) (Ok tt) rodeo.new }
+    ensures list { InternsAppended K.key_at rodeo.old (layout_texts bytes.now (map O.number offsets.now)) rodeo.new }
     ensures texts { rodeo.new.texts ≡ rodeo.old.texts ++ take (appended rodeo.old.texts rodeo.new.texts) (layout_texts bytes.now (map O.number offsets.now)) }
     ensures whole { OnOk result (rodeo.new.texts ≡ rodeo.old.texts ++ layout_texts bytes.now (map O.number offsets.now)) }
     ensures good { OnOk result (layout_fault O.GREATEST bytes.now (map O.number offsets.now) ≡ None) }

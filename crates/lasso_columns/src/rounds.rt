@@ -1,6 +1,6 @@
 //! Puts encoded blocks into an interner, in their order.
 ghost use Rattle.std.specs.Prelude.{◌≡◌, ◌+◌, ◌≤◌, [], Some, OnOk, IfErr, IfSome, IsTrue, length, map, slice_get, vec_capacity, vec_len};
-ghost use Rattle.lasso_columns.specs.Blocks.{AddsPlaced, IsBlockFor, StopsInRound, block_end, numbered, placed};
+ghost use Rattle.lasso_columns.specs.Blocks.{AddsPlaced, IsBlockToPut, StopsInRound, block_end, numbered, placed};
 ghost use Rattle.lasso_columns.specs.Rows.{word_of, EncodesRows, StopsAtRow};
 ghost use Rattle.lasso_columns.specs.Streams.{AreBlocksFor, lines_in};
 ghost use Rattle.lasso_input.specs.Lines.{lines_of};
@@ -70,7 +70,7 @@ pub fn put_block<S: BuildHasher, A: Allocator + Clone>(
     null: Option<&[u8]>,
     entries: &mut Vec<u32>,
 ) -> Result<(), LineError>
-    requires { IfSome made (λ block. IsBlockFor (word_of null) rodeo.old.texts (lines_of bytes.now) block.now.base block.now.added block.now.entries.items block.now.is_complete) }
+    requires { IfSome made (λ block. IsBlockToPut (word_of null) rodeo.old.texts bytes.now block.now) }
     ensures rows { OnOk result (EncodesRows (word_of null.entry) rodeo.old (lines_of bytes.now) [] entries.old.items rodeo.new entries.new.items) }
     ensures stops { IfErr result (StopsAtRow (word_of null.entry) rodeo.old (lines_of bytes.now) entries.old.items rodeo.new entries.new) }
 {

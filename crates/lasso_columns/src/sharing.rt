@@ -1,12 +1,12 @@
 //! Encodes texts to codes by several threads over one interner.
 ghost use Rattle.std.specs.Prelude.{◌≡◌, ◌-◌, ◌++◌, [], OnOk, OnErr, IfOk, IfErr, map};
 ghost use Rattle.lasso_parts.specs.declared.util.LassoErrorKind.TheVariants.{FailedAllocation};
-ghost use Rattle.lasso_log.specs.History.{History, IsLegal};
+ghost use Rattle.lasso_log.specs.History.{IsLegal};
 ghost use Rattle.lasso_log.specs.Notes.{Since};
 ghost use Rattle.lasso_log.specs.Views.{PassView, InternerId, IsSamePass, list_of, seen};
 ghost use Rattle.lasso_single.specs.Codes.{AreCodes, AddsCodes};
 ghost use Rattle.lasso_single.specs.Coding.{spur_at};
-ghost use Rattle.lasso_columns.specs.Sharing.{AddsSharedCodes, IsPartOf, IsRefusalIn};
+ghost use Rattle.lasso_columns.specs.Sharing.{AddsSharedCodes, IsPartOf, IsRefusalIn, IsRefusalOnce};
 
 use lasso_log::log::{Pass, Snapshot};
 use lasso_parts::keys::Spur;
@@ -49,7 +49,7 @@ where
     S::Hasher: Send,
     ensures codes { OnOk result (AddsSharedCodes rodeo.now.opening (map (λ t. t.now) texts.now) codes.old.items codes.new.items) }
     ensures refused { OnErr result (codes.new.items ≡ codes.old.items) }
-    ensures reason { IfErr result (λ error. (past : History) × IsLegal spur_at rodeo.now.opening past × IsRefusalIn rodeo.now.opening past (map (λ t. t.now) texts.now) error) }
+    ensures reason { IfErr result (λ error. IsRefusalOnce rodeo.now.opening (map (λ t. t.now) texts.now) error) }
 {
     let mut pass = rodeo.pass();
     pass.prove_legal();

@@ -1,7 +1,8 @@
 //! Encodes the lines of a stream by rounds over blocks of it.
 ghost use Rattle.std.specs.Prelude.{◌≡◌, ◌<◌, ℕ, List, [], Some, Ok, true, OnOk, IfErr, length};
 ghost use Rattle.lasso_columns.specs.Rows.{word_of, EncodesRows};
-ghost use Rattle.lasso_columns.specs.Streams.{AddsLast, AreBlocksFor, AreBytesBy, EndsRound, IsLastFor, ReadsTexts, StopsInStream, StopsInStreamBy, lines_in};
+ghost use Rattle.lasso_columns.specs.Streams.{AddsLast, AreBlocksFor, AreBytesBy, EndsRound, IsLastFor, ReadsMore, ReadsTexts};
+ghost use Rattle.lasso_columns.specs.Streams.{StopsInStream, StopsInStreamBy, lines_in};
 ghost use Rattle.lasso_columns.specs.Texts.{texts_by};
 ghost use Rattle.lasso_input.specs.Lines.{lines_of};
 
@@ -264,7 +265,7 @@ fn encode_and_read<R: AllocGlobal + Threads + Sync, I: BufRead>(
 ) -> (Vec<Option<Block>>, Blocks)
     requires { 0 < length chunk.old }
     ensures made { AreBlocksFor (word_of null.entry) rodeo.now.texts now.now.blocks.items result.0.items }
-    ensures next { now.now.more ≡ Ok true → ReadsTexts by (I.remaining input.old) (I.remaining input.new) result.1.blocks.items result.1.more }
+    ensures next { ReadsMore now.now.more by (I.remaining input.old) (I.remaining input.new) result.1.blocks.items result.1.more }
     ensures kept { ¬ (now.now.more ≡ Ok true) → I.remaining input.new ≡ I.remaining input.old }
 {
     if !plan.is_round || now.blocks.len() < 2 {
@@ -278,7 +279,7 @@ fn encode_and_read<R: AllocGlobal + Threads + Sync, I: BufRead>(
     { encode_others(rt, rodeo, now, null) };
     let mut read = || -> Turn
         requires { 0 < length chunk.now }
-        ensures next { now.entry.now.more ≡ Ok true → ReadsTexts by (I.remaining input.entry.now) (I.remaining input.exit.now) result.next.blocks.items result.next.more }
+        ensures next { ReadsMore now.entry.now.more by (I.remaining input.entry.now) (I.remaining input.exit.now) result.next.blocks.items result.next.more }
         ensures kept { ¬ (now.entry.now.more ≡ Ok true) → I.remaining input.exit.now ≡ I.remaining input.entry.now }
         ensures last { IsLastFor (word_of null.entry) rodeo.entry.now.texts now.entry.now.blocks.items result.last }
     {
@@ -361,7 +362,7 @@ fn read_next<I: BufRead>(
     by: LineTexts,
 ) -> Blocks
     requires { 0 < length chunk.old }
-    ensures next { now.now.more ≡ Ok true → ReadsTexts by (I.remaining input.old) (I.remaining input.new) result.blocks.items result.more }
+    ensures next { ReadsMore now.now.more by (I.remaining input.old) (I.remaining input.new) result.blocks.items result.more }
     ensures kept { ¬ (now.now.more ≡ Ok true) → I.remaining input.new ≡ I.remaining input.old }
 {
     if let Ok(true) = now.more {

@@ -1,9 +1,9 @@
 -- What a pass has in hand that offers a note of a turn: the log that it has seen, the offer, and its ticket's pen.
-use Rattle.std.specs.Prelude.{◌≡◌, ℕ, List, Option}
+use Rattle.std.specs.Prelude.{◌≡◌, ℕ, Bool, List, Option, MatchBool}
 use mathlib.Core.List.{IsPrefix}
 use Rattle.logbook.specs.Pages.{Book, Nib, may_write}
 use Rattle.lasso_log.specs.Notes.{NoteView, first_note, IsOpened, IsWord, opening_of, notes_of, ticket_of}
-use Rattle.lasso_log.specs.Book.{Moving, May, Lets}
+use Rattle.lasso_log.specs.Book.{IsIn, Moving, May, Lets}
 use Rattle.lasso_log.specs.declared.log.charging.Bid.{Bid}
 
 -- What a pass has in hand that offers a bucket while the turn word has another value than the one that it
@@ -26,3 +26,12 @@ pub record IsBid {Key : Type 0} (keys : ℕ → Option Key) (before given : List
 -- the same, of the parts of what is in hand
 abbrev pub Serves : {A Key : Type 0} → (ℕ → Option Key) → (before given : List NoteView) → (old : ℕ) → Bid A → Type 0
 Serves keys before given old b = IsBid keys before given old b.seen.log b.seen.book b.seen.names b.pen.book b.pen.nib b.offer.names b.offer.ask b.offer.state
+
+-- the bid is the same one, and has seen no less
+abbrev pub IsSameBid : {A : Type 0} → (before after : Bid A) → Type 0
+IsSameBid before after = (after.seen.book ≡ before.seen.book) × (after.seen.names ≡ before.seen.names) × (after.offer.ask ≡ before.offer.ask) × IsPrefix before.seen.log after.seen.log
+
+-- what a try of the bid leaves: the note is in if the try was done, and otherwise the bid still serves
+abbrev pub IsTried : {A Key : Type 0} → (ℕ → Option Key) → (before given : List NoteView) → (old : ℕ) → Bid A → (done : Bool) → (tried : Bid A) → Type 0
+IsTried keys before given old bid done tried =
+    MatchBool done (IsIn keys (opening_of before) before given tried.seen.log bid.offer.ask 1 1 old) (Serves keys before given old tried)

@@ -1,5 +1,5 @@
 -- The rule of the book, the log rule: what holds between any two steps of any threads, and what each step
--- shows the one who takes it. `cells` are the values that the book holds.
+-- shows the one who takes it. `cells` are the values of words that the book holds.
 --
 -- Beside it the rule keeps, for each position below the list's length, that its cell is filled with its text,
 -- which is there as long as the era, for good; and for each bucket the one right to its bytes that nobody
@@ -15,7 +15,7 @@ use Rattle.lasso_log.specs.Notes.{NoteView, history, state, Chained, words_of, w
 use Rattle.lasso_log.specs.Chunks.{PutsLastAt}
 use Rattle.lasso_log.specs.LentBuckets.{TakesBytesAt, AddsBucket}
 
--- the cell is at home: the book holds its value
+-- the word with this key is at home: the book holds its value
 abbrev pub IsHome : List Cell → ℕ → Type 0
 IsHome cells k = (cell cells k).1 ≡ true
 
@@ -29,7 +29,7 @@ abbrev pub IsUsed : ℕ → List NoteView → Type 0
 IsUsed k [] = ⊥
 IsUsed k (e ∷ es) = (e.ticket ≡ k) ⊎ IsUsed k es
 
--- the word of the cell with this key
+-- the word of the book with this key
 abbrev pub word_of : Book → ℕ → Named
 word_of b k = record { tracked = true; key = k; book = b }
 
@@ -37,7 +37,7 @@ word_of b k = record { tracked = true; key = k; book = b }
 abbrev pub IsUsedWord : Book → List NoteView → Named → Type 0
 IsUsedWord b notes word = (word ≡ word_of b word.key) × IsUsed word.key notes
 
--- the cells of these words are at home with their values
+-- these words are at home with their values
 abbrev pub Words : List Cell → List (ℕ × ℕ) → Type 0
 Words cells [] = Unit {0}
 Words cells (w ∷ ws) = (cell cells w.0 ≡ (w.1, true)) × Words cells ws
@@ -57,8 +57,8 @@ abbrev pub IsShort : Totals → Type 0
 IsShort s = length s.texts < 2 ^ 64
 
 -- the rule: what stood at the opening is an opening; each used ticket is at home, and each note used the
--- ticket that its pass then had; each word's cell is at home with the word's value, and no two words have one
--- cell; the history is legal; and the number of texts is one that a word can have
+-- ticket that its pass then had; each word is at home with its value, and no two words have one key; the
+-- history is legal; and the number of texts is one that a word can have
 pub record KeepsRule {Key : Type 0} (keys : ℕ → Option Key) (cells : List Cell) (opening : Totals) (notes : List NoteView) : Type 0 where
   pub opened : IsOpening keys opening
   pub used : Used cells notes
@@ -84,6 +84,18 @@ head_of b = word_of b 0
 -- that of the turns
 abbrev pub turn_of : Book → Named
 turn_of b = word_of b 1
+
+-- the rule holds of the log and of values of the words, of which the one with this key has this value
+abbrev pub HasValue : {Key : Type 0} → (ℕ → Option Key) → (log : List NoteView) → (key value : ℕ) → Type 0
+HasValue keys log key value = (cells : List Cell) × LogKeepsRule keys cells log × ((cell cells key).0 ≡ value)
+
+-- a rule holds of the log and of values of the words, of which the one with this key is not at home
+abbrev pub IsOutAt : {E : Type 0} → (holds : List Cell → List E → Type 0) → (log : List E) → (key : ℕ) → Type 0
+IsOutAt holds log key = (cells : List Cell) × holds cells log × ((cell cells key).1 ≡ false)
+
+-- the three words of a new book: that of the list's length, that of the turns, and that of the first bucket
+abbrev pub AreFirstWords : Book → (head turns bucket : Named) → Type 0
+AreFirstWords b head turns bucket = (head ≡ head_of b) × (turns ≡ turn_of b) × (bucket ≡ word_of b 2)
 
 -- a step that looks: the word had this value at the end of the log that was then seen
 abbrev pub Peeks : {Key : Type 0} → (ℕ → Option Key) → Step NoteView → View NoteView ℕ → ℕ → View NoteView ℕ → Type 0
@@ -117,6 +129,12 @@ Adds keys s v found w = IsAdded keys s v found w
 abbrev pub IsTicket : Book → Named → Pen → Type 0
 IsTicket b word pen = (word ≡ word_of b pen.nib.key) × (pen.book ≡ b) × (pen.nib.right ≡ may_write) × (pen.nib.value ≡ 0)
 
+-- two pens are as they were, and are of different words
+abbrev pub PensDiffer : (one_before one_after other_before other_after : Pen) → Type 0
+PensDiffer one_before one_after other_before other_after =
+    (one_after.book ≡ one_before.book) × (one_after.nib ≡ one_before.nib) × (other_after.book ≡ other_before.book) × (other_after.nib ≡ other_before.nib)
+    × (one_before.nib.key ≢ other_before.nib.key)
+
 -- the words after an event that moves the one at this position, and maybe makes its ticket one more
 abbrev pub Bumps : List (ℕ × ℕ) → List (ℕ × ℕ) → ℕ → ℕ → ℕ → ℕ → Type 0
 Bumps words more position n ticket value = (more ≡ bumped position n words) ⊎ (more ≡ bumped position n words ++ (ticket, value) ∷ [])
@@ -131,6 +149,10 @@ abbrev pub May : {Key : Type 0} → (ℕ → Option Key) → Totals → List Not
 May keys o notes position key old e =
     (cells : List Cell) (log : List NoteView) → KeepsRule keys cells o log → IsPrefix notes log → IsWordWith log position key old
     → MayFollow keys (state o log) e × IsShort (counted (state o log) e)
+
+-- the event moves the word at this position by one, and may follow while the word has its old value
+abbrev pub MayMove : {Key : Type 0} → (ℕ → Option Key) → Totals → List NoteView → ℕ → ℕ → ℕ → Event → Type 0
+MayMove keys o notes position key old e = ((ticket : ℕ) → Moving ticket e position 1 0) × May keys o notes position key old e
 
 -- what the exchange of a word shows that has added an event: what was given begins the log before it, the
 -- word had its old value there, and the event is the only one of the pass p past what the pass had seen

@@ -1,7 +1,9 @@
 -- Buckets whose bytes are lent for an era: where they are, and what the book keeps of each, the right to the bytes that nobody has taken.
 use Rattle.std.specs.Prelude.{◌≡◌, ℕ, ◌+◌, ◌-◌, ◌≤◌, List, [], ◌∷◌, ◌++◌, Some, slice_get}
 use base.Fml.{Fml, ftrue, fsep}
+use Rattle.lasso_parts.specs.Texts.{Text}
 use Rattle.lasso_log.specs.Buckets.{changed_at}
+use Rattle.lasso_log.specs.Chunks.{PutsLastAt}
 use Rattle.lasso_log.specs.Eras.{free}
 use Rattle.lasso_log.specs.declared.shared_memory.rights.Free.{Free}
 
@@ -43,6 +45,25 @@ pub record TakesBytesAt {E : Type 0} (buckets : List E → List LentBucket) (pos
 -- the bucket b is put last
 abbrev pub AddsBucket : {E : Type 0} → (List E → List LentBucket) → LentBucket → List E → List E → Type 0
 AddsBucket buckets b before after = buckets after ≡ buckets before ++ b ∷ []
+
+-- each move of an update for this note puts its text last, at its position, and leaves the buckets as they are
+abbrev pub OnlyPutsText : {E : Type 0} → (moves : E → List E → List E → Type 0) → (texts : List E → List Text) → (buckets : List E → List LentBucket) → (position_of : E → ℕ) → (text_of : E → Text) → E → Type 0
+OnlyPutsText {E} moves texts buckets position_of text_of note =
+    (before after : List E) → moves note before after → PutsLastAt texts (position_of note) (text_of note) before after × (buckets after ≡ buckets before)
+
+-- each takes the next bytes of its bucket, at this position, and leaves the texts as they are
+abbrev pub OnlyTakesBytes : {E : Type 0} → (moves : E → List E → List E → Type 0) → (texts : List E → List Text) → (buckets : List E → List LentBucket) → (bucket_of : E → LentBucket) → (bytes_of : E → ℕ) → E → (position : ℕ) → Type 0
+OnlyTakesBytes {E} moves texts buckets bucket_of bytes_of note position =
+    (before after : List E) → moves note before after → (texts after ≡ texts before) × TakesBytesAt buckets position (bucket_of note) (bytes_of note) before after
+
+-- each puts its bucket last, and leaves the texts as they are
+abbrev pub OnlyAddsBucket : {E : Type 0} → (moves : E → List E → List E → Type 0) → (texts : List E → List Text) → (buckets : List E → List LentBucket) → (bucket_of : E → LentBucket) → E → Type 0
+OnlyAddsBucket {E} moves texts buckets bucket_of note =
+    (before after : List E) → moves note before after → (texts after ≡ texts before) × AddsBucket buckets (bucket_of note) before after
+
+-- what is left of the right to fill places once that to the first n is taken from it
+abbrev pub LeavesRest : (before after : Free) → ℕ → Type 0
+LeavesRest before after n = (after.era ≡ before.era) × (after.block ≡ before.block) × (after.start ≡ before.start + n) × (after.len + n ≡ before.len)
 
 -- the right is to the next n bytes of the bucket
 pub record IsRightTo (r : Free) (b : LentBucket) (n : ℕ) : Type 0 where

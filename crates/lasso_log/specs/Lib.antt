@@ -17,3 +17,6 @@ pub mod Turns
 pub mod Bids
 pub mod Charges
 pub mod NewBuckets
+pub mod Parts
+pub mod Exchanges
+pub mod Proposals

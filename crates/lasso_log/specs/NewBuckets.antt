@@ -13,6 +13,10 @@ IsNextOf b n r = (r.era ≡ b.site.era) × (r.block ≡ b.site.block) × (r.star
 abbrev pub TakesNext : (before after : LentBucket) → ℕ → Type 0
 TakesNext before after n = (after.site ≡ before.site) × (after.size ≡ before.size) × (after.used ≡ before.used + n)
 
+-- the shared bucket is where the new one b is and has its size, at this position of the interner's history
+abbrev pub IsSharedAt : InternerId → (position : ℕ) → LentBucket → SharedView → Type 0
+IsSharedAt of position b s = (s.of ≡ of) × (s.position ≡ position) × (s.site ≡ b.site) × (s.size ≡ b.size)
+
 -- the shared bucket is the new one b, at this position of the interner's history; `base` of its bytes were taken before
 abbrev pub IsSharedAs : InternerId → (position : ℕ) → LentBucket → (base : ℕ) → SharedView → Type 0
 IsSharedAs of position b base s = (s.of ≡ of) × (s.position ≡ position) × (s.site ≡ b.site) × (s.size ≡ b.size) × (s.base ≡ base)

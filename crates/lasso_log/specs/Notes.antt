@@ -18,7 +18,7 @@ pub record NoteView : Type 0 where
   pub event : Event
   -- the position of an appended text in the list
   pub position : ℕ
-  -- the ticket that the event used up: a cell of the book
+  -- the ticket that the event used up: the key of a word of the book
   pub ticket : ℕ
   -- the ticket that its pass has after it
   pub next : ℕ
@@ -168,7 +168,7 @@ abbrev pub Chained : List NoteView → List NoteView → Type 0
 Chained before [] = Unit {0}
 Chained before (e ∷ es) = (e.ticket ≡ ticket_of e.by before) × Chained (before ++ e ∷ []) es
 
--- the words, each with its cell's key and its value, with n more at this position
+-- the words, each with its key and its value, with n more at this position
 abbrev pub bumped : ℕ → ℕ → List (ℕ × ℕ) → List (ℕ × ℕ)
 bumped position n words = changed_at position (λ w. (w.0, w.1 + n)) words
 

@@ -10,7 +10,7 @@ use Rattle.lasso_log.specs.Chunks.{era_named}
 use Rattle.lasso_log.specs.Events.{site_at, bucket_at}
 use Rattle.lasso_log.specs.LentBuckets.{Site, LentBucket, IsRightTo}
 use Rattle.lasso_log.specs.Pieces.{RangeView}
-use Rattle.lasso_log.specs.Views.{InternerId}
+use Rattle.lasso_log.specs.Views.{InternerId, PassView, interner_seen}
 use Rattle.lasso_log.specs.declared.shared_memory.rights.Free.{Free}
 use Rattle.lasso_log.specs.declared.shared_memory.rights.Owed.{Owed}
 
@@ -21,6 +21,10 @@ bucket_owed r = record { site = record { era = r.era; block = r.block; start = r
 -- its bytes are lent for this era
 abbrev pub IsOfEra : ℕ → LentBucket → Type 0
 IsOfEra era b = b.site.era ≡ era
+
+-- the bucket of this size that is where these numbers say is put last: its bytes are lent for the era, and fewer than 2 ^ 63
+abbrev pub AddsLent : (before after : List LentBucket) → (numbers : List ℕ) → (size era : ℕ) → Type 0
+AddsLent before after numbers size era = (after ≡ before ++ bucket_at numbers size 0 ∷ []) × ((site_at numbers).era ≡ era) × (size < 2 ^ 63)
 
 -- a holding, what is owned of a bucket: these are the words of the right to have its bytes back, and what the
 -- right to free it is for
@@ -63,6 +67,17 @@ pub record SharedView : Type 0 where
   pub site : Site
   pub size : ℕ
   pub base : ℕ
+
+-- a bucket of a log that was seen
+abbrev pub shared_seen : Book → (names : List ℕ) → (log : List NoteView) → (position : ℕ) → Site → (size base : ℕ) → SharedView
+shared_seen book names log position site size base =
+    record {
+      of = interner_seen book names log;
+      position = position;
+      site = site;
+      size = size;
+      base = base;
+    }
 
 -- these are the parts of a bucket of a log that was seen
 pub record IsShared (book : Book) (names : List ℕ) (log : List NoteView) (word : Named) (ptr : Ptr) (position base size : ℕ) (numbers : List ℕ) : Type 0 where
@@ -107,6 +122,12 @@ pub record IsReserved (b : SharedView) (p : ℕ) (before after : List NoteView) 
   pub event : Since p before after (Reserve b.position bytes ∷ [])
   pub note : IsNoteOf p after (Reserve b.position bytes) b.site
   pub range : IsRangeOf b after r bytes
+
+-- the range has the bytes that a reservation took of a bucket of the interner, one of the first `count`; the reservation is the one event that the
+-- pass added
+abbrev pub ReservesAmong : InternerId → (count : ℕ) → (before after : PassView) → RangeView → (bytes : ℕ) → Type 0
+ReservesAmong of count before after r bytes =
+    (b : SharedView) × (b.of ≡ of) × (b.position < count) × IsReserved b before.number before.notes after.notes r bytes
 
 -- where a bucket is whose first bytes the range has
 abbrev pub site_of : RangeView → Site

@@ -1,5 +1,5 @@
 -- What a command returns and leaves, and whole runs of commands.
-use Rattle.std.specs.Prelude.{◌≡◌, ◌⊎◌, ℕ, List, [], ◌∷◌, length, map, Option, IsSome, is_some, option_map, slice_get, nat_lt, true, Result, Ok, Err}
+use Rattle.std.specs.Prelude.{◌≡◌, ◌⊎◌, ◌≤◌, ◌+◌, ◌*◌, ℕ, List, [], ◌∷◌, length, map, Option, IsSome, is_some, option_map, slice_get, nat_lt, true, false, All, Result, Ok, Err}
 use Rattle.std.specs.Prelude.{String, string_bytes}
 use Rattle.std.specs.declared.alloc.Global.{Global}
 use Rattle.lasso_parts.specs.Account.{clear, with_limit}
@@ -60,3 +60,8 @@ abbrev pub IsUncleared : {K S A H : Type 0} → Command K S A H → Type 0
 IsUncleared Clear = ⊥
 IsUncleared (CloneFrom source) = ⊥
 IsUncleared _ = Unit {0}
+
+-- if nothing was cleared before, and none of the commands clears, the buckets take at most the first bucket and
+-- four times the bytes copied in
+abbrev pub StaysThrifty : {K S A H : Type 0} → List (Command K S A H) → (before after : InternerView) → Type 0
+StaysThrifty commands before after = All IsUncleared commands → before.is_cleared ≡ false → after.account.usage ≤ before.first + 4 * after.copied

@@ -45,6 +45,13 @@ StopsAt first account texts j error stopped =
     (store_all first account (take j texts) ≡ Some stopped) × (((error ≡ FailedAllocation) × ((j ≡ 0) ⊎ ((text : Text) × (slice_get texts j ≡ Some text) × IsSome (store first stopped (length text)))))
     ⊎ ((error ≡ MemoryLimitReached) × ((text : Text) × (slice_get texts j ≡ Some text) × (store first stopped (length text) ≡ None))))
 
+-- copying the texts into an interner stopped at one of them, as `StopsAt` says: the bytes of those before it
+-- are counted as copied
+abbrev pub StopsCopying : InternerView → List Text → LassoError → InternerView → Type 0
+StopsCopying old texts error new =
+    (j : ℕ) × StopsAt old.first old.account texts j error new.account
+    × (new.copied ≡ old.copied + bytes_of (take j texts))
+
 -- copying the texts into an interner, which is cleared before, leaves just them, under its own account; or it
 -- stops at one of them, and then leaves no text and the account that was reached, cleared. What was copied
 -- counts as after a clear, and so among the bytes in between two clears.

@@ -2,6 +2,8 @@
 use Rattle.std.specs.Prelude.{◌≡◌, ◌*◌, ◌^◌, ◌<◌, ◌≤◌, ℕ, Bool, false, List, [], length, max, is_some, if◌then◌else◌}
 use Rattle.lasso_parts.specs.Texts.{Text, position_of}
 use Rattle.lasso_parts.specs.Account.{Account, fresh}
+use Rattle.lasso_parts.specs.Arena.{Regions, account_of, copied_of, first_of}
+use Rattle.lasso_parts.specs.Waste.{IsThrifty}
 
 -- an interner
 pub record InternerView : Type 0 where
@@ -23,6 +25,22 @@ pub record InternerView : Type 0 where
 -- one count too. Copying over an interner counts as a clear, and its copies as after it
 abbrev pub most_copied : InternerView → ℕ
 most_copied i = max i.most i.copied
+
+-- an interner with these texts, whose copied texts are in this arena
+abbrev pub interner_over : List Text → Regions → (is_cleared : Bool) → InternerView
+interner_over texts arena is_cleared =
+    record {
+      texts = texts;
+      account = account_of arena;
+      first = first_of arena;
+      copied = copied_of arena;
+      most = arena.most;
+      is_cleared = is_cleared;
+    }
+
+-- unless the interner was ever cleared, its arena wastes little, as `IsThrifty` of `lasso_parts` says
+abbrev pub IsThriftyUnlessCleared : (is_cleared : Bool) → Regions → Type 0
+IsThriftyUnlessCleared is_cleared arena = is_cleared ≡ false → IsThrifty (first_of arena) (copied_of arena) (account_of arena)
 
 -- a new interner, with that first bucket's size and that limit
 abbrev pub made_with : ℕ → ℕ → InternerView

@@ -18,6 +18,10 @@ AreKeys key_at list texts keys = map (key_of key_at list) texts ≡ map Some key
 abbrev pub AddsKeys : {K : Type 0} → (ℕ → Option K) → List Text → List Text → List K → List K → Type 0
 AddsKeys {K} key_at list texts before after = (keys : List K) × (after ≡ before ++ keys) × AreKeys key_at list texts keys
 
+-- the same of the first of these texts, one for each added key
+abbrev pub AddsKeysOfFirst : {K : Type 0} → (ℕ → Option K) → List Text → List Text → List K → List K → Type 0
+AddsKeysOfFirst key_at list texts before after = AddsKeys key_at list (keyed_texts before after texts) before after
+
 -- the text after those that have keys was refused as a text alone is
 abbrev pub IsNextRefused : {K : Type 0} → (ℕ → Option K) → InternerView → List K → List K → List Text → LassoError → Type 0
 IsNextRefused {K} key_at now before after texts error =

@@ -1,6 +1,7 @@
 //! Texts as codes: interns a text, and returns its position in the interner's list in 32 bits. The calls hash with
 //! their interner's hasher, which may be any.
-ghost use Rattle.std.specs.Prelude.{◌≡◌, ℕ, ◌+◌, ◌<◌, ◌≤◌, ◌∷◌, ◌++◌, [], Some, Ok, OnOk, IfOk, IfErr, MatchResult, length, map, vec_len, vec_capacity};
+ghost use Rattle.std.specs.Prelude.{◌≡◌, ℕ, ◌+◌, ◌<◌, ◌≤◌, ◌∷◌, ◌++◌, [], Some, Ok, OnOk, IfOk, IfErr};
+ghost use Rattle.std.specs.Prelude.{MatchResult, length, map, vec_len, vec_capacity};
 ghost use Rattle.lasso_parts.specs.Texts.{position_of};
 ghost use Rattle.lasso_single.specs.Filling.{extend};
 ghost use Rattle.lasso_single.specs.Intern.{InternsIn};

@@ -1,7 +1,7 @@
 //! Commands of a `Rodeo`, their replies, and runs of many. It is for callers alone: no interner runs them.
-ghost use Rattle.std.specs.Prelude.{◌≡◌, ◌+◌, ◌*◌, ◌<◌, ◌≤◌, false, All, map, option_map, IfErr, IfOk, OnOk, length};
+ghost use Rattle.std.specs.Prelude.{◌≡◌, ◌+◌, ◌*◌, ◌<◌, ◌≤◌, map, option_map, IfErr, IfOk, OnOk, length};
 ghost use Rattle.lasso_parts.specs.declared.util.LassoErrorKind.TheVariants.{FailedAllocation};
-ghost use Rattle.lasso_single.specs.Command.{intern_reply, done_reply, resolves_to, replies_to, run_of, IsUncleared};
+ghost use Rattle.lasso_single.specs.Command.{intern_reply, done_reply, resolves_to, replies_to, run_of, StaysThrifty};
 ghost use Rattle.lasso_single.specs.Filling.{extend};
 ghost use Rattle.lasso_single.specs.Interner.{most_copied};
 
@@ -83,7 +83,7 @@ pub fn run_commands<K: Key, S: BuildHasher + Clone, A: Allocator + Clone>(
     ensures run { IfOk result (λ replies. run_of K.key_at K.number rodeo.old commands.now replies.items rodeo.new) }
     ensures refused { IfErr result (λ error. (error ≡ FailedAllocation) × (0 < length commands.now) × (rodeo.new ≡ rodeo.old)) }
     ensures bound { OnOk result (rodeo.new.account.usage ≤ rodeo.old.first + 8 * most_copied rodeo.new) }
-    ensures waste { OnOk result (All IsUncleared commands.now → rodeo.old.is_cleared ≡ false → rodeo.new.account.usage ≤ rodeo.old.first + 4 * rodeo.new.copied) }
+    ensures waste { OnOk result (StaysThrifty commands.now rodeo.old rodeo.new) }
 {
     let mut replies = Vec::with_capacity(alloc, commands.len())?;
     for command in commands {

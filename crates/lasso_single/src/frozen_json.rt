@@ -1,12 +1,10 @@
 //! The frozen forms as JSON: the array of their texts, in the order of their keys. That of a `Rodeo` is in
 //! `rodeo/json.rt`.
-ghost use Rattle.std.specs.Prelude.{◌≡◌, ◌≤◌, ◌<◌, ◌^◌, List, Ok, Err, IfOk, IfErr, length, true, false};
+ghost use Rattle.std.specs.Prelude.{◌≡◌, ◌<◌, IfOk, IfErr, length, true, false};
 ghost use Rattle.serde_json.specs.View.{view};
-ghost use Rattle.lasso_parts.specs.Json.{json_array, read_array};
-ghost use Rattle.lasso_parts.specs.Texts.{Text};
+ghost use Rattle.lasso_parts.specs.Json.{json_array};
 ghost use Rattle.lasso_parts.specs.declared.util.LassoErrorKind.TheVariants.{FailedAllocation};
-ghost use Rattle.lasso_single.specs.Copies.{bytes_of};
-ghost use Rattle.lasso_single.specs.Json.{ReadsInto};
+ghost use Rattle.lasso_single.specs.Json.{ReadsInto, RefusesUncountableBytes};
 
 use crate::reader::RodeoReader;
 use crate::resolver::RodeoResolver;
@@ -34,7 +32,7 @@ impl<K: Key, S: BuildHasher + Default + Drop, A: Allocator + Clone> RodeoReader<
     /// reads, and refused as that is.
     pub fn deserialize(alloc: A, value: &Value) -> Result<Self, JsonError>
         ensures read { ReadsInto K.key_at true (view value.now) result }
-        ensures overflow { (texts : List Text) → read_array K.key_at true (view value.now) ≡ Ok texts → 2 ^ 64 ≤ bytes_of texts → result ≡ Err (JsonError.Lasso FailedAllocation) }
+        ensures overflow { RefusesUncountableBytes K.key_at true (view value.now) result }
     {
         match Rodeo::<K, S, A>::deserialize(alloc, value) {
             Ok(rodeo) => Ok(rodeo.into_reader()),
@@ -63,7 +61,7 @@ impl<K: Key, A: Allocator + Clone> RodeoResolver<K, A> {
     /// bytes.
     pub fn deserialize(alloc: A, value: &Value) -> Result<Self, JsonError>
         ensures read { ReadsInto K.key_at false (view value.now) result }
-        ensures overflow { (texts : List Text) → read_array K.key_at false (view value.now) ≡ Ok texts → 2 ^ 64 ≤ bytes_of texts → result ≡ Err (JsonError.Lasso FailedAllocation) }
+        ensures overflow { RefusesUncountableBytes K.key_at false (view value.now) result }
     {
         let texts = read_array::<K, A>(alloc, value, false)?;
         let alloc = texts.allocator().clone()?;

@@ -1,7 +1,7 @@
 //! Copying a list of texts, one after another, to the end of an empty list.
 ghost use Rattle.std.specs.Prelude.{◌≡◌, ◌+◌, ℕ, List, [], Some, OnOk, IfErr, length, take, slice_get};
 ghost use Rattle.lasso_parts.specs.Texts.{Text};
-ghost use Rattle.lasso_single.specs.Copies.{bytes_of, store_all, CopiesOne, StopsAt};
+ghost use Rattle.lasso_single.specs.Copies.{bytes_of, store_all, CopiesOne, StopsCopying};
 ghost use Rattle.lasso_single.specs.Interner.{InternerView, KeepsOrigin};
 
 use lasso_parts::index::Texts;
@@ -36,8 +36,7 @@ pub(crate) fn copy_all<C: CopyTarget, T: Texts>(
     ensures account { OnOk result (store_all (C.holds target.old).first (C.holds target.old).account (T.list texts.now) ≡ Some (C.holds target.new).account) }
     ensures copied { OnOk result ((C.holds target.new).copied ≡ (C.holds target.old).copied + bytes_of (T.list texts.now)) }
     ensures origin { KeepsOrigin (C.holds target.old) (C.holds target.new) }
-    ensures stopped { IfErr result (λ error. (j : ℕ) × StopsAt (C.holds target.old).first (C.holds target.old).account (T.list texts.now) j error (C.holds target.new).account
-        × ((C.holds target.new).copied ≡ (C.holds target.old).copied + bytes_of (take j (T.list texts.now)))) }
+    ensures stopped { IfErr result (λ error. StopsCopying (C.holds target.old) (T.list texts.now) error (C.holds target.new)) }
 {
     for position in 0..len {
         target.copy_text(texts.text_at(position))?;

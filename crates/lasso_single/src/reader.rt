@@ -1,5 +1,6 @@
 //! `RodeoReader`, a frozen interner that still finds the keys of texts.
-ghost use Rattle.std.specs.Prelude.{◌≡◌, ◌==◌, ◌+◌, ◌<◌, length, map, Some, is_some, IsTrue, IfErr, OnErr, OnOk, ◌↔◌, slice_get, option_map, vec_len};
+ghost use Rattle.std.specs.Prelude.{◌≡◌, ◌==◌, ◌+◌, ◌<◌, ◌↔◌, length, map, Some, is_some};
+ghost use Rattle.std.specs.Prelude.{IsTrue, IfErr, OnErr, OnOk, slice_get, option_map, vec_len};
 ghost use Rattle.std.specs.Vec.{vec_capacity};
 ghost use Rattle.lasso_parts.specs.declared.util.LassoErrorKind.TheVariants.{FailedAllocation};
 ghost use Rattle.lasso_parts.specs.Texts.{position_of, key_of, IsDistinct, Fits};

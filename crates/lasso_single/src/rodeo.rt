@@ -1,5 +1,6 @@
 //! `Rodeo`, the interner for one thread.
-ghost use Rattle.std.specs.Prelude.{◌≡◌, ◌==◌, ◌+◌, ◌*◌, ◌<◌, ◌≤◌, false, length, Some, is_some, IsTrue, ◌↔◌, slice_get, option_map};
+ghost use Rattle.std.specs.Prelude.{◌≡◌, ◌==◌, ◌+◌, ◌*◌, ◌<◌, ◌≤◌, ◌↔◌, false, length, Some};
+ghost use Rattle.std.specs.Prelude.{is_some, IsTrue, slice_get, option_map};
 ghost use Rattle.lasso_parts.specs.Texts.{position_of, key_of, IsDistinct, Fits};
 ghost use Rattle.lasso_single.specs.Interner.{HaveEntriesOf, most_copied};
 

@@ -1,5 +1,6 @@
 //! `TextList`: the texts of an interner in order, over the memory that holds them.
-ghost use Rattle.std.specs.Prelude.{◌≡◌, ◌+◌, ◌*◌, ◌^◌, ◌<◌, ◌≤◌, ◌++◌, [], ◌∷◌, true, false, length, IsTrue, ◌↔◌, IsSome, Some, Err, IfOk, IfErr, OnOk, OnErr, slice_get, option_map, map};
+ghost use Rattle.std.specs.Prelude.{◌≡◌, ◌+◌, ◌*◌, ◌^◌, ◌<◌, ◌≤◌, ◌↔◌, ◌++◌, [], ◌∷◌, true, false, length};
+ghost use Rattle.std.specs.Prelude.{IsTrue, IsSome, Some, Err, IfOk, IfErr, OnOk, OnErr, slice_get, option_map, map};
 ghost use Rattle.std.specs.List.{enumerate_from};
 ghost use Rattle.std.specs.Vec.{vec_len, vec_capacity};
 ghost use Rattle.lasso_parts.specs.Entries.{Inside};
@@ -40,17 +41,14 @@ pub(crate) struct TextList<A: Allocator> {
 }
 
 impl<A: Allocator> Model for TextList<A> {
-    ghost use Rattle.std.specs.Prelude.{◌≡◌, false};
-    ghost use Rattle.lasso_parts.specs.Arena.{account_of, copied_of, first_of};
     ghost use Rattle.lasso_parts.specs.Entries.{texts_of, AllThere};
-    ghost use Rattle.lasso_parts.specs.Waste.{IsThrifty};
-    ghost use Rattle.lasso_single.specs.Interner.{InternerView};
+    ghost use Rattle.lasso_single.specs.Interner.{InternerView, interner_over, IsThriftyUnlessCleared};
 
     ghost Value = { InternerView };
 
-    ghost view = { λ l. record { texts = texts_of l.arena.all l.vast.items l.entries.items; account = account_of l.arena; first = first_of l.arena; copied = copied_of l.arena; most = l.arena.most; is_cleared = l.is_cleared } };
+    ghost view = { λ l. interner_over (texts_of l.arena.all l.vast.items l.entries.items) l.arena l.is_cleared };
 
-    ghost invariant = { λ l. AllThere l.arena.all l.vast.items l.entries.items × (l.is_cleared ≡ false → IsThrifty (first_of l.arena) (copied_of l.arena) (account_of l.arena)) };
+    ghost invariant = { λ l. AllThere l.arena.all l.vast.items l.entries.items × IsThriftyUnlessCleared l.is_cleared l.arena };
 }
 
 impl<A: Allocator> Texts for TextList<A> {

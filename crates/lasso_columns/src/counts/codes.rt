@@ -1,8 +1,6 @@
 //! Counts texts by their codes.
-ghost use Rattle.std.specs.Prelude.{◌≡◌, ◌+◌, ◌-◌, ◌^◌, ◌<◌, List, length, sum};
-ghost use Rattle.lasso_parts.specs.Texts.{Text};
-ghost use Rattle.lasso_single.specs.Codes.{AreCodes};
-ghost use Rattle.lasso_columns.specs.Adding.{AddsCounts};
+ghost use Rattle.std.specs.Prelude.{◌≡◌, ◌+◌, ◌-◌, ◌^◌, ◌<◌, length, sum};
+ghost use Rattle.lasso_columns.specs.Adding.{CountsCodes};
 ghost use Rattle.lasso_columns.specs.Counts.{raised, raised_by};
 
 /// Adds one to the count of each code. A code without a count is passed over.
@@ -17,7 +15,7 @@ ghost use Rattle.lasso_columns.specs.Counts.{raised, raised_by};
 /// ```
 pub fn count_codes(codes: &[u32], counts: &mut Vec<u64>)
     requires { sum counts.old.items + length codes.now < 2 ^ 64 }
-    ensures counts { (list texts : List Text) → length counts.old.items ≡ length list → AreCodes list texts codes.now → AddsCounts texts list counts.old.items list counts.new.items }
+    ensures counts { CountsCodes codes.now counts.old.items counts.new.items }
     ensures each { counts.new.items ≡ raised_by counts.old.items codes.now }
     ensures len { length counts.new.items ≡ length counts.old.items }
 {

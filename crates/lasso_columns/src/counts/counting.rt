@@ -1,11 +1,12 @@
 //! Interns texts and counts them.
-ghost use Rattle.std.specs.Prelude.{◌≡◌, ◌+◌, ◌-◌, ◌^◌, ◌<◌, ◌≤◌, ◌++◌, ◌∷◌, [], ℕ, List, Ok, OnOk, OnErr, IfErr, IsSomeAnd, length, map, slice_get, sum, vec_len, vec_capacity};
-ghost use Rattle.lasso_parts.specs.Texts.{Text, position_of};
+ghost use Rattle.std.specs.Prelude.{◌≡◌, ◌+◌, ◌-◌, ◌^◌, ◌<◌, ◌≤◌, ℕ, Ok, OnOk, OnErr, IfErr};
+ghost use Rattle.std.specs.Prelude.{length, map, sum, vec_len, vec_capacity};
+ghost use Rattle.lasso_parts.specs.Texts.{position_of};
 ghost use Rattle.lasso_single.specs.Intern.{InternsIn};
 ghost use Rattle.lasso_single.specs.Coding.{spur_at, IsRefused};
 ghost use Rattle.lasso_single.specs.Filling.{extend};
-ghost use Rattle.lasso_columns.specs.Counts.{AreCounts, counted, added};
-ghost use Rattle.lasso_columns.specs.Adding.{AddsCounts, CountsText, KeepsRoom, RefusesNew, counted_of};
+ghost use Rattle.lasso_columns.specs.Counts.{CountsOneMore, counted, added};
+ghost use Rattle.lasso_columns.specs.Adding.{AddsCounts, CountsText, IsRefusedAmong, KeepsRoom, RefusesNew, RefusesNewAmong, counted_of};
 
 use crate::counts::error::CountError;
 use lasso_parts::keys::{Key, Spur};
@@ -41,7 +42,7 @@ pub fn count_text<S: BuildHasher, A: Allocator + Clone>(
     ensures interns { OnOk result ((key : ℕ) × InternsIn {K = ℕ} spur_at rodeo.old text.now (Ok key) rodeo.new) }
     ensures step { OnOk result (counts.new.items ≡ counted counts.old.items (position_of rodeo.old.texts text.now)) }
     ensures lengths { vec_len counts.new ≡ length rodeo.new.texts }
-    ensures counts { OnOk result ((texts : List Text) → AreCounts texts rodeo.old.texts counts.old.items → AreCounts (texts ++ text.now ∷ []) rodeo.new.texts counts.new.items) }
+    ensures counts { OnOk result (CountsOneMore text.now rodeo.old.texts counts.old.items rodeo.new.texts counts.new.items) }
     ensures total { OnOk result (sum counts.new.items ≡ sum counts.old.items + 1) }
     ensures kept { OnErr result (rodeo.new ≡ rodeo.old) }
     ensures kept_counts { OnErr result (counts.new.items ≡ counts.old.items) }
@@ -66,7 +67,7 @@ pub fn count_next<S: BuildHasher, A: Allocator + Clone>(
     ensures interns { OnOk result ((key : ℕ) × InternsIn {K = ℕ} spur_at rodeo.old text.now (Ok key) rodeo.new) }
     ensures step { OnOk result (counts.new.items ≡ counted counts.old.items (position_of rodeo.old.texts text.now)) }
     ensures lengths { vec_len counts.new ≡ length rodeo.new.texts }
-    ensures counts { OnOk result ((texts : List Text) → AreCounts texts rodeo.old.texts counts.old.items → AreCounts (texts ++ text.now ∷ []) rodeo.new.texts counts.new.items) }
+    ensures counts { OnOk result (CountsOneMore text.now rodeo.old.texts counts.old.items rodeo.new.texts counts.new.items) }
     ensures total { OnOk result (sum counts.new.items ≡ sum counts.old.items + 1) }
     ensures kept { OnErr result (rodeo.new ≡ rodeo.old) }
     ensures kept_counts { OnErr result (counts.new.items ≡ counts.old.items) }
@@ -146,8 +147,8 @@ pub fn count_texts<S: BuildHasher, A: Allocator + Clone>(
     requires fits { sum counts.old.items + length texts.now < 2 ^ 64 }
     ensures list { extend spur_at rodeo.old (counted_of result (map (λ t. t.now) texts.now)) (Ok tt) rodeo.new }
     ensures counts { AddsCounts (counted_of result (map (λ t. t.now) texts.now)) rodeo.old.texts counts.old.items rodeo.new.texts counts.new.items }
-    ensures refused { IfErr result (λ error. IsSomeAnd (slice_get (map (λ t. t.now) texts.now) error.position) (λ text. IsRefused rodeo.new text error.error)) }
-    ensures memory { IfErr result (λ error. IsSomeAnd (slice_get (map (λ t. t.now) texts.now) error.position) (λ text. RefusesNew rodeo.new counts.new text error.error)) }
+    ensures refused { IfErr result (λ error. IsRefusedAmong rodeo.new (map (λ t. t.now) texts.now) error) }
+    ensures memory { IfErr result (λ error. RefusesNewAmong rodeo.new counts.new (map (λ t. t.now) texts.now) error) }
     ensures room { vec_capacity counts.old ≤ vec_capacity counts.new }
 {
     let mut batch = Batch::new();

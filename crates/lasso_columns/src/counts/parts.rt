@@ -1,13 +1,11 @@
 //! Counts texts in parts. A thread counts each part with its own interner.
-ghost use Rattle.std.specs.Prelude.{◌≡◌, ℕ, List, [], ◌+◌, ◌-◌, ◌^◌, ◌<◌, ◌≤◌, ◌++◌, Ok, IfErr, IfSome, IsSome, IsSomeAnd, All, length, map, None, replicate, slice_get, sum, take, vec_len, vec_capacity};
-ghost use Rattle.lasso_parts.specs.Texts.{IsDistinct, Text, key_of, position_of};
+ghost use Rattle.std.specs.Prelude.{◌≡◌, ◌+◌, ◌-◌, ◌^◌, ◌<◌, ◌≤◌, ◌++◌, Ok, IfErr, IfSome, IsSome, All};
+ghost use Rattle.std.specs.Prelude.{length, map, None, replicate, slice_get, sum, take, vec_len, vec_capacity};
+ghost use Rattle.lasso_parts.specs.Texts.{key_of, position_of};
 ghost use Rattle.lasso_single.specs.Filling.{extend};
-ghost use Rattle.lasso_single.specs.Interner.{InternerView};
-ghost use Rattle.lasso_single.specs.Codes.{AreCodes};
-ghost use Rattle.lasso_single.specs.Coding.{spur_at, IsRefused};
-ghost use Rattle.lasso_columns.specs.Parts.{new_texts};
+ghost use Rattle.lasso_single.specs.Coding.{spur_at};
 ghost use Rattle.lasso_columns.specs.Counts.{AreCounts};
-ghost use Rattle.lasso_columns.specs.Adding.{AddsAmounts, AddsCounts, RefusesNew, counted_of};
+ghost use Rattle.lasso_columns.specs.Adding.{AddsAmountsAt, AddsCounts, InternsRest, IsRefusedAmong, RefusesNewAmong, counted_of};
 
 use crate::counts::counting::count_texts;
 use crate::counts::error::CountError;
@@ -49,8 +47,8 @@ pub fn count_in_parts<R: AllocGlobal + Threads + Sync, S: BuildHasher, A: Alloca
     requires fits { sum counts.old.items + length texts.now < 2 ^ 64 }
     ensures list { extend spur_at rodeo.old (counted_of result (map (λ t. t.now) texts.now)) (Ok tt) rodeo.new }
     ensures counts { AddsCounts (counted_of result (map (λ t. t.now) texts.now)) rodeo.old.texts counts.old.items rodeo.new.texts counts.new.items }
-    ensures refused { IfErr result (λ error. IsSomeAnd (slice_get (map (λ t. t.now) texts.now) error.position) (λ text. IsRefused rodeo.new text error.error)) }
-    ensures memory { IfErr result (λ error. IsSomeAnd (slice_get (map (λ t. t.now) texts.now) error.position) (λ text. RefusesNew rodeo.new counts.new text error.error)) }
+    ensures refused { IfErr result (λ error. IsRefusedAmong rodeo.new (map (λ t. t.now) texts.now) error) }
+    ensures memory { IfErr result (λ error. RefusesNewAmong rodeo.new counts.new (map (λ t. t.now) texts.now) error) }
     ensures room { vec_capacity counts.old ≤ vec_capacity counts.new }
 {
     if workers < 2 {
@@ -113,8 +111,8 @@ fn put_part<S: BuildHasher, A: Allocator + Clone>(
     requires counted { IfSome part.now (λ counted. AreCounts (map (λ t. t.now) texts.now) counted.list counted.counts.items) }
     ensures list { extend spur_at rodeo.old (counted_of result (map (λ t. t.now) texts.now)) (Ok tt) rodeo.new }
     ensures counts { AddsCounts (counted_of result (map (λ t. t.now) texts.now)) rodeo.old.texts counts.old.items rodeo.new.texts counts.new.items }
-    ensures refused { IfErr result (λ error. IsSomeAnd (slice_get (map (λ t. t.now) texts.now) error.position) (λ text. IsRefused rodeo.new text error.error)) }
-    ensures memory { IfErr result (λ error. IsSomeAnd (slice_get (map (λ t. t.now) texts.now) error.position) (λ text. RefusesNew rodeo.new counts.new text error.error)) }
+    ensures refused { IfErr result (λ error. IsRefusedAmong rodeo.new (map (λ t. t.now) texts.now) error) }
+    ensures memory { IfErr result (λ error. RefusesNewAmong rodeo.new counts.new (map (λ t. t.now) texts.now) error) }
     ensures room { vec_capacity counts.old ≤ vec_capacity counts.new }
 {
     let Some(part) = part else {
@@ -152,7 +150,7 @@ fn add_counts(counts: &mut Vec<u64>, places: &[u32], amounts: &[u64])
     requires each { length places.now ≡ length amounts.now }
     requires fits { sum counts.old.items + sum amounts.now < 2 ^ 64 }
     ensures capacity { vec_capacity counts.new ≡ vec_capacity counts.old }
-    ensures added { (list from : List Text) → length counts.old.items ≡ length list → IsDistinct from → AreCodes list from places.now → AddsAmounts list from amounts.now counts.old.items counts.new.items }
+    ensures added { AddsAmountsAt places.now amounts.now counts.old.items counts.new.items }
 {
     for position in 0..places.len() {
         counts[places[position] as usize] += amounts[position];
@@ -167,10 +165,10 @@ fn count_rest<S: BuildHasher, A: Allocator + Clone>(
 ) -> Result<(), CountError>
     requires lengths { vec_len counts.old ≡ length rodeo.old.texts }
     requires fits { sum counts.old.items + length texts.now < 2 ^ 64 }
-    ensures list { (before : InternerView) (n : ℕ) → extend spur_at before (take n (new_texts [] (map (λ t. t.now) texts.now))) (Ok tt) rodeo.old → extend spur_at before (counted_of result (map (λ t. t.now) texts.now)) (Ok tt) rodeo.new }
+    ensures list { InternsRest rodeo.old result (map (λ t. t.now) texts.now) rodeo.new }
     ensures counts { AddsCounts (counted_of result (map (λ t. t.now) texts.now)) rodeo.old.texts counts.old.items rodeo.new.texts counts.new.items }
-    ensures refused { IfErr result (λ error. IsSomeAnd (slice_get (map (λ t. t.now) texts.now) error.position) (λ text. IsRefused rodeo.new text error.error)) }
-    ensures memory { IfErr result (λ error. IsSomeAnd (slice_get (map (λ t. t.now) texts.now) error.position) (λ text. RefusesNew rodeo.new counts.new text error.error)) }
+    ensures refused { IfErr result (λ error. IsRefusedAmong rodeo.new (map (λ t. t.now) texts.now) error) }
+    ensures memory { IfErr result (λ error. RefusesNewAmong rodeo.new counts.new (map (λ t. t.now) texts.now) error) }
     ensures room { vec_capacity counts.old ≤ vec_capacity counts.new }
 {
     let found = count_found(rodeo, texts, counts);

@@ -1,7 +1,6 @@
 //! Ranks texts by their counts.
-ghost use Rattle.std.specs.Prelude.{◌≡◌, List, IfOk, IsPermutation, IsSorted, length, map, sum, sum_by, zip};
-ghost use Rattle.lasso_parts.specs.Texts.{Text};
-ghost use Rattle.lasso_columns.specs.Counts.{AreCounts, counted_texts, ranked_cmp, pair_of};
+ghost use Rattle.std.specs.Prelude.{◌≡◌, IfOk, IsPermutation, IsSorted, length, map, sum, sum_by, zip};
+ghost use Rattle.lasso_columns.specs.Counts.{AreCountedTexts, ranked_cmp, pair_of};
 
 use lasso_parts::index::Texts;
 use lasso_parts::keys::Spur;
@@ -36,7 +35,7 @@ pub fn by_frequency<'r, S: BuildHasher, A: Allocator + Clone>(
 ) -> Result<Vec<Ranked<'r>>, AllocError>
     requires { length counts.now ≡ length rodeo.now.texts }
     ensures pairs { IfOk result (λ ranked. IsPermutation (zip counts.now rodeo.now.texts) (map pair_of ranked.items)) }
-    ensures counted { IfOk result (λ ranked. (texts : List Text) → AreCounts texts rodeo.now.texts counts.now → IsPermutation (counted_texts texts) (map pair_of ranked.items)) }
+    ensures counted { IfOk result (λ ranked. AreCountedTexts rodeo.now.texts counts.now (map pair_of ranked.items)) }
     ensures total { IfOk result (λ ranked. sum_by (λ pair. pair.0) (map pair_of ranked.items) ≡ sum counts.now) }
     ensures order { IfOk result (λ ranked. IsSorted ranked_cmp (map pair_of ranked.items)) }
 {

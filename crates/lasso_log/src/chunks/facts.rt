@@ -7,8 +7,8 @@ ghost use Rattle.std.specs.Prelude.{◌≡◌, ◌-◌, ◌<◌, ℕ, List, [], 
 ghost use base.Fml.{fsep};
 ghost use Rattle.lasso_parts.specs.Texts.{Text};
 ghost use Rattle.logbook.specs.Pages.{Calm};
-ghost use Rattle.lasso_log.specs.Chunks.{lined, IsCellAt, PutsLastAt, ListOnlyGrows, era_named, chunk_named, offset_of, name_at};
-ghost use Rattle.lasso_log.specs.LentBuckets.{LentBucket, IsRightTo, all_untaken};
+ghost use Rattle.lasso_log.specs.Chunks.{lined, IsCellAt, ListOnlyGrows, era_named, chunk_named, offset_of, name_at};
+ghost use Rattle.lasso_log.specs.LentBuckets.{LentBucket, IsRightTo, OnlyPutsText, all_untaken};
 
 use crate::chunks::rule::{HasCells, HasText, InChunks, Listed, NoGain};
 use crate::shared_memory::rights::Free;
@@ -66,7 +66,8 @@ impl<T: HasText, V: HasCells> Lines<T, V> {
         requires texts { B.texts (M.shown about.now) ≡ self.texts }
         requires bucket { (b : LentBucket) × (B.buckets (M.shown about.now) ≡ b ∷ []) × IsRightTo right b (b.size - b.used) }
         ensures start { (result.names ≡ self.names) × (result.shown ≡ M.shown about.now) }
-        ensures calm { Calm (λ (shown : List E). fsep (lined V.row T.row V.cells T.meaning T.lasts result.names 0 (B.texts shown)) (all_untaken (B.buckets shown))) }
+        ensures calm { Calm (λ (shown : List E).
+            fsep (lined V.row T.row V.cells T.meaning T.lasts result.names 0 (B.texts shown)) (all_untaken (B.buckets shown))) }
     {
         let Self { marker: _ } = self;
         let Free { marker: _ } = right;
@@ -86,7 +87,7 @@ pub fn hand_in<E, B: Listed<E>, T: HasText, V: HasCells, X, M: Plain<X, E, u64>>
     requires cell { IsCellAt seen.now.names (B.appended_at (M.ask about.now)) chunk.now.of (V.cells chunk.now.value) item.now.of }
     requires text { T.meaning item.now.value ≡ B.text (M.ask about.now) }
     requires lasts { T.lasts item.now.value (era_named seen.now.names) }
-    requires moves { (before after : List E) → B.moves (M.ask about.now) before after → PutsLastAt B.texts (B.appended_at (M.ask about.now)) (B.text (M.ask about.now)) before after × (B.buckets after ≡ B.buckets before) }
+    requires moves { OnlyPutsText B.moves B.texts B.buckets B.appended_at B.text (M.ask about.now) }
     ensures { (result.names ≡ seen.now.names) × (result.ask ≡ M.ask about.now) × (result.about ≡ []) × (result.state ≡ None) }
 {
     Offer {

@@ -1,7 +1,7 @@
 //! How a book gives out the right to bytes, and takes in the right to those of a new bucket. None of it has bytes. Used by the
 //! log's steps.
-ghost use Rattle.std.specs.Prelude.{◌≡◌, ◌-◌, List, [], ◌∷◌, None};
-ghost use Rattle.lasso_log.specs.LentBuckets.{TakesBytesAt, AddsBucket, IsRightTo};
+ghost use Rattle.std.specs.Prelude.{◌≡◌, ◌-◌, [], ◌∷◌, None};
+ghost use Rattle.lasso_log.specs.LentBuckets.{IsRightTo, OnlyAddsBucket, OnlyTakesBytes};
 
 use crate::chunks::rule::{BytesTaken, HasCells, HasText, InChunks, Listed};
 use crate::shared_memory::rights::Free;
@@ -15,7 +15,7 @@ pub fn take_bytes<E, B: Listed<E>, T: HasText, V: HasCells, X, M: Plain<X, E, u6
     about: &X,
     bucket: u64,
 ) -> Offer<E, u64, InChunks<B, T, V>, BytesTaken<B>>
-    requires moves { (before after : List E) → B.moves (M.ask about.now) before after → (B.texts after ≡ B.texts before) × TakesBytesAt B.buckets bucket (B.bucket (M.ask about.now)) (B.bytes (M.ask about.now)) before after }
+    requires moves { OnlyTakesBytes B.moves B.texts B.buckets B.bucket B.bytes (M.ask about.now) bucket }
     ensures { (result.names ≡ seen.now.names) × (result.ask ≡ M.ask about.now) × (result.about ≡ M.ask about.now ∷ []) × (result.state ≡ None) }
 {
     // The contract alone reads the position: the right to the bytes is in the book, and no memory is touched here.
@@ -33,7 +33,7 @@ pub fn add_bucket<E, B: Listed<E>, T: HasText, V: HasCells, X, M: Plain<X, E, u6
     right: Free,
 ) -> Offer<E, u64, InChunks<B, T, V>, BytesTaken<B>>
     requires right { IsRightTo right (B.bucket (M.ask about.now)) ((B.bucket (M.ask about.now)).size - (B.bucket (M.ask about.now)).used) }
-    requires moves { (before after : List E) → B.moves (M.ask about.now) before after → (B.texts after ≡ B.texts before) × AddsBucket B.buckets (B.bucket (M.ask about.now)) before after }
+    requires moves { OnlyAddsBucket B.moves B.texts B.buckets B.bucket (M.ask about.now) }
     ensures { (result.names ≡ seen.now.names) × (result.ask ≡ M.ask about.now) × (result.about ≡ []) × (result.state ≡ None) }
 {
     let Free { marker: _ } = right;

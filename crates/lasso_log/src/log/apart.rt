@@ -1,6 +1,7 @@
 //! No two passes of one interner have one number. It is for callers alone: nothing in the library calls `prove_differs`.
 ghost use Rattle.std.specs.Prelude.{◌≡◌, ◌≢◌};
 ghost use Rattle.logbook.specs.Pages.{may_write};
+ghost use Rattle.lasso_log.specs.Book.{PensDiffer};
 ghost use Rattle.lasso_log.specs.Views.{PassView};
 
 use crate::log::look::look;
@@ -11,7 +12,7 @@ use logbook::Pen;
 /// Does nothing. Contracts learn that two pens of one book, whose words are not at home, are of two words.
 fn prove_pens_differ(one: &mut Pen, other: &mut Pen)
     requires { (one.old.book ≡ other.old.book) × (one.old.nib.right ≡ may_write) × (other.old.nib.right ≡ may_write) }
-    ensures { (one.new.book ≡ one.old.book) × (one.new.nib ≡ one.old.nib) × (other.new.book ≡ other.old.book) × (other.new.nib ≡ other.old.nib) × (one.old.nib.key ≢ other.old.nib.key) }
+    ensures { PensDiffer one.old one.new other.old other.new }
 {}
 
 impl<K: Key> Pass<K> {

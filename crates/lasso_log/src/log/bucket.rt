@@ -32,13 +32,11 @@ pub struct SharedBucket<K: Key> {
 
 impl<K: Key> Model for SharedBucket<K> {
     ghost use Rattle.lasso_log.specs.Events.{site_at};
-    ghost use Rattle.lasso_log.specs.Notes.{opening_of};
-    ghost use Rattle.lasso_log.specs.SharedBuckets.{SharedView, IsShared};
-    ghost use Rattle.lasso_log.specs.Views.{interner_id};
+    ghost use Rattle.lasso_log.specs.SharedBuckets.{SharedView, IsShared, shared_seen};
 
     ghost Value = { SharedView };
 
-    ghost view = { λ b. record { of = interner_id b.seen.book b.seen.names (opening_of b.seen.log); position = b.position; site = site_at b.site.numbers; size = b.size; base = b.base } };
+    ghost view = { λ b. shared_seen b.seen.book b.seen.names b.seen.log b.position (site_at b.site.numbers) b.size b.base };
 
     ghost invariant = { λ b. IsShared b.seen.book b.seen.names b.seen.log b.word b.ptr b.position b.base b.size b.site.numbers };
 }

@@ -37,9 +37,8 @@ pub struct CellsAhead<K: Key> {
 }
 
 impl<K: Key> Model for CellsAhead<K> {
-    ghost use Rattle.std.specs.Prelude.{◌≡◌, ◌+◌, length};
-    ghost use Rattle.lasso_log.specs.Chunks.{chunk_named};
-    ghost use Rattle.lasso_log.specs.Views.{SnapshotView, snapshot_view_coded, list_of};
+    ghost use Rattle.lasso_log.specs.Parts.{AreCellsAhead};
+    ghost use Rattle.lasso_log.specs.Views.{SnapshotView, snapshot_view_coded};
 
     ghost Value = { SnapshotView };
 
@@ -47,7 +46,7 @@ impl<K: Key> Model for CellsAhead<K> {
 
     ghost view = { λ a. a.known };
 
-    ghost invariant = { λ a. (a.first.of ≡ chunk_named a.known.of.chunks (length (list_of a.known.of a.known.notes))) × (a.last.of ≡ chunk_named a.known.of.chunks (length (list_of a.known.of a.known.notes) + 15)) × (a.start ≡ length (list_of a.known.of a.known.notes)) };
+    ghost invariant = { λ a. AreCellsAhead a.known a.first.of a.last.of a.start };
 }
 
 impl<K: Key> CellsAhead<K> {

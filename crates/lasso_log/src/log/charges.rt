@@ -1,11 +1,12 @@
 //! What a spine does if no bucket has room for a text: it adds one, or the limit refuses the text.
-ghost use Rattle.std.specs.Prelude.{◌≡◌, ◌≢◌, ◌+◌, ◌<◌, ◌≤◌, ◌^◌, ◌∷◌, [], length, Some, IsSomeAnd, IfOk, IfErr, OnOk, OnErr};
+ghost use Rattle.std.specs.Prelude.{◌≡◌, ◌≢◌, ◌+◌, ◌<◌, ◌≤◌, ◌^◌, ◌∷◌, [], length, Some, IfOk, IfErr, OnOk, OnErr};
 ghost use Rattle.lasso_parts.specs.declared.util.LassoErrorKind.TheVariants.{FailedAllocation, MemoryLimitReached};
 ghost use Rattle.lasso_log.specs.Buckets.{bucket_size};
-ghost use Rattle.lasso_log.specs.Charges.{next_size, IsRefusal};
+ghost use Rattle.lasso_log.specs.Charges.{AddsCharge, AddsChargeOf, IsRefusal, NotesCharge};
 ghost use Rattle.lasso_log.specs.Chunks.{era_named};
 ghost use Rattle.lasso_log.specs.History.{Charge, IsLegal};
 ghost use Rattle.lasso_log.specs.LentBuckets.{LentBucket};
+ghost use Rattle.lasso_log.specs.NewBuckets.{IsSharedAt};
 ghost use Rattle.lasso_log.specs.Notes.{Since, state};
 ghost use Rattle.lasso_log.specs.Pieces.{RangeView};
 ghost use Rattle.lasso_log.specs.SharedBuckets.{SharedView, IsNoteOf, site_of, names_with_book};
@@ -47,9 +48,9 @@ impl<K: Key> Log<K> {
         requires some { bytes ≢ 0 }
         requires room { NoneHasRoom (state self.now.opening pass.old.notes) spine.old.turns.count bytes }
         ensures same { IsSamePass pass.new pass.old × IsSameSpine spine.new spine.old × (spine.new.kept ≡ spine.old.kept) }
-        ensures event { IfOk result (λ r. IsSomeAnd (next_size spine.old.turns bytes) (λ size. Since pass.old.number pass.old.notes pass.new.notes (Charge size bytes ∷ []))) }
+        ensures event { IfOk result (λ r. AddsCharge spine.old.turns bytes pass.old pass.new) }
         ensures range { IfOk result (λ r. (r.era ≡ era_named self.now.chunks) × (r.len ≡ bytes)) }
-        ensures bucket { IfOk result (λ r. IsSomeAnd (next_size spine.old.turns bytes) (λ size. IsNoteOf pass.old.number pass.new.notes (Charge size bytes) (site_of r))) }
+        ensures bucket { IfOk result (λ r. NotesCharge spine.old.turns bytes pass.old pass.new (site_of r)) }
         ensures turns { OnOk result ((spine.new.turns.notes ≡ pass.new.notes) × (spine.new.turns.count ≡ spine.old.turns.count + 1)) }
         ensures refused { IfErr result (IsRefusal self.now spine.old.notes pass.old.notes pass.new.notes bytes) }
         ensures err { OnErr result (Since pass.old.number pass.old.notes pass.new.notes [] × (spine.new ≡ spine.old)) }
@@ -75,7 +76,7 @@ impl<K: Key> Log<K> {
         requires some { bytes ≢ 0 }
         requires room { NoneHasRoom (state self.now.opening pass.old.notes) spine.old.turns.count bytes }
         ensures same { IsSamePass pass.new pass.old × IsSameSpine spine.new spine.old × (spine.new.kept ≡ spine.old.kept) }
-        ensures event { IfOk result (λ r. Since pass.old.number pass.old.notes pass.new.notes (Charge r.1.size bytes ∷ []) × (next_size spine.old.turns bytes ≡ Some r.1.size)) }
+        ensures event { IfOk result (λ r. AddsChargeOf spine.old.turns bytes r.1.size pass.old pass.new) }
         ensures range { IfOk result (λ r. (r.0.era ≡ era_named self.now.chunks) × (site_of r.0 ≡ r.1.site) × (r.0.len ≡ bytes)) }
         ensures note { IfOk result (λ r. IsNoteOf pass.old.number pass.new.notes (Charge r.1.size bytes) (site_of r.0)) }
         ensures bucket { IfOk result (λ r. (r.1.of ≡ self.now) × (r.1.position ≡ spine.old.turns.count)) }
@@ -138,7 +139,7 @@ impl<K: Key> Log<K> {
         ensures same { IsSamePass pass.new pass.old × IsSameSpine spine.new spine.old × (spine.new.kept ≡ spine.old.kept) }
         ensures event { Since pass.old.number pass.old.notes pass.new.notes (Charge bucket.size bucket.used ∷ []) }
         ensures note { IsNoteOf pass.old.number pass.new.notes (Charge bucket.size bucket.used) bucket.site }
-        ensures bucket { (result.of ≡ self.now) × (result.position ≡ spine.old.turns.count) × (result.site ≡ bucket.site) × (result.size ≡ bucket.size) }
+        ensures bucket { IsSharedAt self.now spine.old.turns.count bucket result }
         ensures turns { (spine.new.turns.notes ≡ pass.new.notes) × (spine.new.turns.count ≡ spine.old.turns.count + 1) }
     {
         self.wait_for_a_turn(rt, spine);

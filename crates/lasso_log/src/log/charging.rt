@@ -1,16 +1,17 @@
 //! The step that adds a bucket to a history, and hands in the right to its bytes that are not taken. Used by the spine.
-ghost use Rattle.std.specs.Prelude.{◌≡◌, ◌≢◌, ◌+◌, ◌<◌, ◌≤◌, ◌^◌, ◌∷◌, [], Some, MatchBool};
+ghost use Rattle.std.specs.Prelude.{◌≡◌, ◌≢◌, ◌+◌, ◌<◌, ◌≤◌, ◌^◌, ◌∷◌, [], Some};
 ghost use mathlib.Core.List.{IsPrefix};
-ghost use Rattle.lasso_log.specs.Bids.{Serves};
+ghost use Rattle.lasso_log.specs.Bids.{IsSameBid, IsTried, Serves};
 ghost use Rattle.lasso_log.specs.Book.{IsIn};
-ghost use Rattle.lasso_log.specs.Buckets.{bucket_size, doubling_after};
+ghost use Rattle.lasso_log.specs.Buckets.{bucket_size};
+ghost use Rattle.lasso_log.specs.Charges.{IsTurnedBy};
 ghost use Rattle.lasso_log.specs.History.{Charge};
 ghost use Rattle.lasso_log.specs.LentBuckets.{LentBucket};
 ghost use Rattle.lasso_log.specs.NewBuckets.{IsSharedAs};
 ghost use Rattle.lasso_log.specs.Notes.{Since, opening_of, state};
 ghost use Rattle.lasso_log.specs.SharedBuckets.{SharedView, IsNoteOf};
 ghost use Rattle.lasso_log.specs.Chunks.{era_named};
-ghost use Rattle.lasso_log.specs.Turns.{IsTurned, NoneHasRoom};
+ghost use Rattle.lasso_log.specs.Turns.{NoneHasRoom};
 ghost use Rattle.lasso_log.specs.Views.{PassView, InternerId, TurnsView, IsSamePass};
 
 use crate::chunks::rule::BytesTaken;
@@ -49,8 +50,8 @@ impl<K: Key> Log<K> {
         requires of { bid.seen.book ≡ self.now.book }
         requires sum { turns + 1 < 2 ^ 64 }
         requires bid { Serves K.key_at before.now.log given.now.log turns bid }
-        ensures same { (result.0.seen.book ≡ bid.seen.book) × (result.0.seen.names ≡ bid.seen.names) × (result.0.offer.ask ≡ bid.offer.ask) × IsPrefix bid.seen.log result.0.seen.log }
-        ensures done { MatchBool result.1 (IsIn K.key_at (opening_of before.now.log) before.now.log given.now.log result.0.seen.log bid.offer.ask 1 1 turns) (Serves K.key_at before.now.log given.now.log turns result.0) }
+        ensures same { IsSameBid bid result.0 }
+        ensures done { IsTried K.key_at before.now.log given.now.log turns bid result.1 result.0 }
     {
         let Bid {
             mut seen,
@@ -123,7 +124,7 @@ impl<K: Key> Log<K> {
         ensures event { Since pass.old.number pass.old.notes pass.new.notes (Charge bucket.size bucket.used ∷ []) }
         ensures note { IsNoteOf pass.old.number pass.new.notes (Charge bucket.size bucket.used) bucket.site }
         ensures bucket { IsSharedAs self.now turns.now.count bucket 0 result }
-        ensures turns { IsTurned K.key_at self.now.opening pass.new.notes (turns.now.turns + 1) (doubling_after turns.now.doubling turns.now.usage turns.now.limit bucket.used) (turns.now.usage + bucket.size) turns.now.limit (turns.now.count + 1) }
+        ensures turns { IsTurnedBy K.key_at self.now.opening pass.new.notes turns.now bucket }
     {
         let NewBucket {
             ptr,

@@ -1,9 +1,9 @@
 //! What a spine does about the memory limit of an interner: it replaces the limit, and reads it and the usage.
-ghost use Rattle.std.specs.Prelude.{◌≡◌, ◌∷◌, [], MatchBool};
-ghost use Rattle.lasso_log.specs.Charges.{SetsLimit, AreLast};
+ghost use Rattle.std.specs.Prelude.{◌≡◌, ◌∷◌, []};
+ghost use Rattle.lasso_log.specs.Charges.{AreLast, TriesLimit};
 ghost use Rattle.lasso_log.specs.History.{Limit, IsLegal};
 ghost use Rattle.lasso_log.specs.Notes.{Since, state};
-ghost use Rattle.lasso_log.specs.Views.{PassView, InternerId, SpineView, TurnsView, IsSamePass, IsSameSpine, seen};
+ghost use Rattle.lasso_log.specs.Views.{PassView, InternerId, SpineView, TurnsView, IsSamePass, IsSameSpine, KeepsUsage, seen};
 
 use crate::log::pass::Pass;
 use crate::log::shared_log::Log;
@@ -19,7 +19,7 @@ impl<K: Key> Log<K> {
         ensures same { IsSamePass pass.new pass.old × IsSameSpine spine.new spine.old × (spine.new.kept ≡ spine.old.kept) }
         ensures event { Since pass.old.number pass.old.notes pass.new.notes (Limit limit ∷ []) }
         ensures turns { (spine.new.turns.notes ≡ pass.new.notes) × (spine.new.turns.limit ≡ limit) }
-        ensures stays { (spine.new.turns.count ≡ spine.old.turns.count) × (spine.new.turns.usage ≡ spine.old.turns.usage) × (spine.new.turns.doubling ≡ spine.old.turns.doubling) }
+        ensures stays { KeepsUsage spine.old.turns spine.new.turns }
         ensures legal { IsLegal K.key_at self.now.opening (seen pass.new) }
     {
         for _ in rt.forever() {
@@ -36,7 +36,7 @@ impl<K: Key> Log<K> {
     fn try_limit(&self, spine: &mut Spine<K>, pass: &mut Pass<K>, limit: u64) -> bool
         requires { (pass.old.of ≡ self.now) × (spine.old.of ≡ self.now) }
         ensures same { IsSamePass pass.new pass.old × IsSameSpine spine.new spine.old × (spine.new.kept ≡ spine.old.kept) }
-        ensures done { MatchBool result (SetsLimit limit pass.old pass.new spine.old.turns spine.new.turns) ((pass.new ≡ pass.old) × (spine.new ≡ spine.old)) }
+        ensures done { TriesLimit limit result pass.old pass.new spine.old spine.new }
     {
         self.try_set_limit(&mut spine.turns, pass, limit)
     }

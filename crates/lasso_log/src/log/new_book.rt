@@ -1,6 +1,6 @@
 //! The book of a new log: its first note, its words, and the spine that has seen it. Used by the opening of a log.
 ghost use Rattle.std.specs.Prelude.{◌≡◌, ◌-◌, ◌<◌, ◌^◌, [], ◌∷◌, length};
-ghost use Rattle.lasso_log.specs.Book.{head_of, turn_of, word_of};
+ghost use Rattle.lasso_log.specs.Book.{AreFirstWords};
 ghost use Rattle.lasso_log.specs.LentBuckets.{IsRightTo};
 ghost use Rattle.lasso_log.specs.Openings.{OpensBook, first_bucket, first_opening, first_note_of};
 ghost use Rattle.lasso_log.specs.Views.{InternerId, SpineView, interner_id};
@@ -68,7 +68,7 @@ impl<K: Key> NewBook<K> {
         requires kept { OpensBook K.key_at (first_opening first.now) }
         ensures names { result.seen.names ≡ lines.names }
         ensures log { result.seen.log ≡ first_note_of first.now ∷ [] }
-        ensures words { (result.head ≡ head_of result.seen.book) × (result.turns ≡ turn_of result.seen.book) × (result.bucket ≡ word_of result.seen.book 2) }
+        ensures words { AreFirstWords result.seen.book result.head result.turns result.bucket }
     {
         let start = lines.start::<_, _, First<'_>, ByOpening>(first, right);
         let (seen, mut pens) = Seen::<Note, u64, LogRule<K>>::open_row::<First<'_>, ByOpening>(

@@ -50,9 +50,8 @@ pub struct OpeningTexts {
 }
 
 impl Model for OpeningTexts {
-    ghost use Rattle.std.specs.Prelude.{◌≡◌, ◌<◌, ◌^◌, length};
-    ghost use Rattle.lasso_log.specs.Chunks.{era_named};
     ghost use Rattle.lasso_log.specs.Openings.{OpeningView, opening_view_coded};
+    ghost use Rattle.lasso_log.specs.Parts.{AreOpeningTexts};
 
     ghost Value = { OpeningView };
 
@@ -60,7 +59,7 @@ impl Model for OpeningTexts {
 
     ghost view = { λ t. record { texts = t.lines.texts; bucket = t.bucket } };
 
-    ghost invariant = { λ t. (t.lines.names ≡ t.memory) × (t.known.names ≡ t.memory) × (t.known.texts ≡ t.lines.texts) × (t.len ≡ length t.lines.texts) × (length t.lines.texts < 2 ^ 64) × (t.bucket.site.era ≡ era_named t.memory) };
+    ghost invariant = { λ t. AreOpeningTexts t.memory t.lines.names t.lines.texts t.known.names t.known.texts t.len t.bucket };
 }
 
 impl OpeningTexts {

@@ -3,7 +3,7 @@ ghost use Rattle.std.specs.Prelude.{◌≡◌, ◌⊎◌, []};
 ghost use mathlib.Core.List.{IsPrefix};
 ghost use Rattle.lasso_log.specs.History.{IsLegal, IsOpening};
 ghost use Rattle.lasso_log.specs.Notes.{Since, opening_of, notes_of, IsOpened};
-ghost use Rattle.lasso_log.specs.Views.{PassView, interner_id, seen, IsSamePass};
+ghost use Rattle.lasso_log.specs.Views.{PassView, seen, IsSamePass};
 
 use crate::log::hints::Hints;
 use crate::log::look::look;
@@ -28,20 +28,17 @@ pub struct Pass<K: Key> {
 }
 
 impl<K: Key> Model for Pass<K> {
-    ghost use Rattle.std.specs.Prelude.{◌≡◌, IfSome};
-    ghost use Rattle.lasso_log.specs.History.{IsLegal, IsOpening};
-    ghost use Rattle.lasso_log.specs.Notes.{opening_of, notes_of, history, IsOpened, ticket_of};
-    ghost use Rattle.lasso_log.specs.Book.{IsTicket, IsUsedWord};
-    ghost use Rattle.lasso_log.specs.Views.{PassView, pass_view_coded, interner_id};
+    ghost use Rattle.lasso_log.specs.Views.{PassView, pass_view_coded, pass_seen};
     ghost use Rattle.lasso_log.specs.Chunks.{first_number};
+    ghost use Rattle.lasso_log.specs.Parts.{IsPass};
 
     ghost Value = { PassView };
 
     ghost coded = { pass_view_coded };
 
-    ghost view = { λ p. record { number = first_number p.number.numbers; of = interner_id p.seen.book p.seen.names (opening_of p.seen.log); notes = notes_of p.seen.log } };
+    ghost view = { λ p. pass_seen (first_number p.number.numbers) p.seen.book p.seen.names p.seen.log };
 
-    ghost invariant = { λ p. IsTicket p.seen.book p.ticket.word p.ticket.pen × IfSome p.used (IsUsedWord p.seen.book (notes_of p.seen.log)) × (p.ticket.pen.nib.key ≡ ticket_of (first_number p.number.numbers) (notes_of p.seen.log)) × IsOpened p.seen.log × IsLegal K.key_at (opening_of p.seen.log) (history (notes_of p.seen.log)) × IsOpening K.key_at (opening_of p.seen.log) × (p.hints.of ≡ interner_id p.seen.book p.seen.names (opening_of p.seen.log)) };
+    ghost invariant = { λ p. IsPass K.key_at p.seen.book p.seen.names p.seen.log p.number.numbers p.ticket.word p.ticket.pen p.used p.hints.of };
 }
 
 // One call, so that proofs of callers see nothing of the fields where a pass is let go.

@@ -1,16 +1,12 @@
 //! The log of one interner, and its steps: a look at a word, the fetching of a ticket, and the exchange that adds an
 //! event. Used by the readings of the log and by its spine.
-ghost use Rattle.std.specs.Prelude.{◌≡◌, ◌+◌, ◌<◌, ◌^◌, [], ℕ, List, length, MatchBool, MatchOption};
+ghost use Rattle.std.specs.Prelude.{◌≡◌, ◌+◌, ◌<◌, ◌^◌, [], MatchOption};
 ghost use mathlib.Core.List.{IsPrefix};
-ghost use Rattle.logbook.specs.Pages.{Cell, cell};
-ghost use Rattle.lasso_log.specs.History.{Append};
-ghost use Rattle.lasso_log.specs.Notes.{Since, IsWord, IsOpened, opening_of, notes_of};
-ghost use Rattle.lasso_log.specs.Book.{word_of, IsTicket, LogKeepsRule, Moving, May, IsDone, Reads};
-ghost use base.Fml.{Incl};
-ghost use Rattle.lasso_log.specs.Eras.{life};
-ghost use Rattle.lasso_log.specs.Chunks.{IsCellAt, era_named};
+ghost use Rattle.lasso_log.specs.Notes.{Since, IsWord, IsOpened, notes_of};
+ghost use Rattle.lasso_log.specs.Book.{word_of, HasValue, IsTicket, MayMove, Reads};
 ghost use Rattle.lasso_log.specs.Views.{InternerId, SnapshotView, IsSamePass};
 ghost use Rattle.lasso_log.specs.Events.{event_of, IsQuiet};
+ghost use Rattle.lasso_log.specs.Exchanges.{IsNextInCell, IsWordIn, TriesEvent};
 
 use crate::chunks::rule::NoGain;
 use crate::log::hints::Hints;
@@ -42,19 +38,16 @@ pub struct Log<K: Key> {
 }
 
 impl<K: Key> Model for Log<K> {
-    ghost use Rattle.std.specs.Prelude.{◌≡◌, [], length};
-    ghost use Rattle.lasso_log.specs.History.{IsOpening};
-    ghost use Rattle.lasso_log.specs.Notes.{opening_of, first_note, notes_of, IsOpened};
-    ghost use Rattle.lasso_log.specs.Book.{head_of, turn_of};
-    ghost use Rattle.lasso_log.specs.Views.{InternerId, interner_id_coded, interner_id};
+    ghost use Rattle.lasso_log.specs.Parts.{IsLog};
+    ghost use Rattle.lasso_log.specs.Views.{InternerId, interner_id_coded, interner_seen};
 
     ghost Value = { InternerId };
 
     ghost coded = { interner_id_coded };
 
-    ghost view = { λ l. interner_id l.seen.book l.seen.names (opening_of l.seen.log) };
+    ghost view = { λ l. interner_seen l.seen.book l.seen.names l.seen.log };
 
-    ghost invariant = { λ l. (l.head ≡ head_of l.seen.book) × (l.memory ≡ l.seen.names) × IsOpened l.seen.log × (notes_of l.seen.log ≡ []) × (l.first ≡ length (opening_of l.seen.log).texts) × IsOpening K.key_at (opening_of l.seen.log) × (l.turns ≡ turn_of l.seen.book) × (length (first_note l.seen.log).lent ≡ 1) };
+    ghost invariant = { λ l. IsLog K.key_at l.seen.book l.seen.names l.seen.log l.head l.turns l.memory l.first };
 }
 
 // One call, so that proofs of callers see nothing of the fields where a log is let go.
@@ -136,7 +129,8 @@ impl<K: Key> Log<K> {
     ) -> u64
         requires word { word.now ≡ word_of seen.old.book word.now.key }
         requires known { IsOpened seen.old.log × IsWord (notes_of seen.old.log) word_index word.now.key }
-        ensures { (seen.new.book ≡ seen.old.book) × (seen.new.names ≡ seen.old.names) × IsPrefix seen.old.log seen.new.log × ((cells : List Cell) × LogKeepsRule K.key_at cells seen.new.log × ((cell cells word.now.key).0 ≡ result)) }
+        ensures { (seen.new.book ≡ seen.old.book) × (seen.new.names ≡ seen.old.names) × IsPrefix seen.old.log seen.new.log
+            × HasValue K.key_at seen.new.log word.now.key result }
     {
         let mut offer: Offer<Note, u64, LogRule<K>, NoGain> = seen.plain::<NoGain, (), Nothing>(
             &(),
@@ -192,11 +186,12 @@ impl<K: Key> Log<K> {
     ) -> bool
         requires of { (pass.old.of ≡ self.now) × (given.now.book ≡ self.now.book) × (word.now ≡ word_of self.now.book word.now.key) }
         requires sum { numbers.expected + 1 < 2 ^ 64 }
-        requires known { IsOpened given.now.log × (opening_of given.now.log ≡ self.now.opening) × IsWord (notes_of given.now.log) numbers.word_index word.now.key }
-        requires may { ((ticket : ℕ) → Moving ticket (event_of change) numbers.word_index 1 0) × May K.key_at self.now.opening (notes_of given.now.log) numbers.word_index word.now.key numbers.expected (event_of change) }
-        requires cell_proof { MatchOption cell_proof (IsQuiet (event_of change)) (λ f. IsCellAt self.now.chunks numbers.position f.0.of f.0.value.items f.1.of × (event_of change ≡ Append f.1.value.text) × Incl (life (era_named self.now.chunks)) f.1.value.until × (numbers.word_index ≡ 0) × (word.now.key ≡ 0) × (numbers.position ≡ length self.now.opening.texts + numbers.expected)) }
+        requires known { IsWordIn self.now.opening given.now.log numbers.word_index word.now.key }
+        requires may { MayMove K.key_at self.now.opening (notes_of given.now.log) numbers.word_index word.now.key numbers.expected (event_of change) }
+        requires cell_proof { MatchOption cell_proof (IsQuiet (event_of change))
+            (λ f. IsNextInCell self.now (event_of change) numbers word.now.key f.0.of f.0.value.items f.1.of f.1.value) }
         ensures same { IsSamePass pass.new pass.old }
-        ensures done { MatchBool result ((ticket : ℕ) × IsDone K.key_at self.now.opening pass.old.number pass.old.notes (notes_of given.now.log) pass.new.notes (event_of change.entry) numbers.word_index word.now.key numbers.expected ticket) (pass.new ≡ pass.old) }
+        ensures done { TriesEvent K.key_at self.now.opening pass.old pass.new (notes_of given.now.log) (event_of change.entry) numbers word.now.key result }
     {
         let next = self.next_ticket(pass);
         let mut seen = self.seen.again();

@@ -1,14 +1,15 @@
 //! The spine: the numbers of the list and of the turns, which one thread at a time has, and the cells that it keeps.
-ghost use Rattle.std.specs.Prelude.{◌≡◌, ◌+◌, ◌-◌, ◌^◌, ◌<◌, ◌∷◌, ◌++◌, [], length, OnOk, OnErr, IfOk, IfErr, IfSome, IfNone, IsSome, MatchBool};
+ghost use Rattle.std.specs.Prelude.{◌≡◌, ◌+◌, ◌-◌, ◌^◌, ◌<◌, ◌∷◌, ◌++◌, [], length};
+ghost use Rattle.std.specs.Prelude.{OnOk, OnErr, IfOk, IfErr, IfSome, IfNone, IsSome};
 ghost use mathlib.Core.List.{IsPrefix};
 ghost use Rattle.lasso_parts.specs.declared.util.LassoErrorKind.TheVariants.{FailedAllocation};
 ghost use Rattle.lasso_parts.specs.Texts.{Fits};
 ghost use Rattle.lasso_log.specs.History.{Append, MayFollow, IsLegal};
 ghost use Rattle.lasso_log.specs.Notes.{Since, state, history};
-ghost use Rattle.lasso_log.specs.Views.{PassView, InternerId, SpineView, IsSamePass, IsSameSpine, IsAppended, list_of, seen};
+ghost use Rattle.lasso_log.specs.Views.{PassView, InternerId, SpineView, IsSamePass, IsSameSpine, IsAheadOf, TriesAppend, list_of, position_to_keep, seen};
 ghost use base.Fml.{Incl};
 ghost use Rattle.lasso_log.specs.Eras.{life};
-ghost use Rattle.lasso_log.specs.Chunks.{IsAhead, IsCellAt, era_named};
+ghost use Rattle.lasso_log.specs.Chunks.{IsCellAt, era_named};
 
 use crate::log::cells_ahead::CellsAhead;
 use crate::log::kept_cell::KeptCell;
@@ -38,18 +39,16 @@ pub struct Spine<K: Key> {
 }
 
 impl<K: Key> Model for Spine<K> {
-    ghost use Rattle.std.specs.Prelude.{◌≡◌, ◌+◌, ◌<◌, ◌^◌, length};
-    ghost use Rattle.lasso_log.specs.Notes.{opening_of, notes_of, IsOpened};
-    ghost use Rattle.lasso_log.specs.Book.{Reads};
-    ghost use Rattle.lasso_log.specs.Views.{SpineView, spine_view_coded, interner_id};
+    ghost use Rattle.lasso_log.specs.Parts.{IsSpine};
+    ghost use Rattle.lasso_log.specs.Views.{SpineView, spine_view_coded, spine_seen};
 
     ghost Value = { SpineView };
 
     ghost coded = { spine_view_coded };
 
-    ghost view = { λ s. record { kept = s.kept; of = interner_id s.seen.book s.seen.names (opening_of s.seen.log); notes = notes_of s.seen.log; turns = s.turns } };
+    ghost view = { λ s. spine_seen s.kept s.seen.book s.seen.names s.seen.log s.turns };
 
-    ghost invariant = { λ s. IsOpened s.seen.log × (s.first ≡ length (opening_of s.seen.log).texts) × Reads K.key_at (opening_of s.seen.log) (notes_of s.seen.log) 0 0 s.appended × (s.first + s.appended + s.kept < 2 ^ 64) × (s.turns.of ≡ interner_id s.seen.book s.seen.names (opening_of s.seen.log)) };
+    ghost invariant = { λ s. IsSpine K.key_at s.seen.book s.seen.names s.seen.log s.first s.appended s.kept s.turns };
 }
 
 // One call, so that proofs of callers see nothing of the fields where a spine is let go.
@@ -142,7 +141,7 @@ impl<K: Key> Log<K> {
         ensures same { IsSameSpine spine.new spine.old }
         ensures turns { spine.new.turns ≡ spine.old.turns }
         ensures unchanged { IfNone result (spine.new.kept ≡ spine.old.kept) }
-        ensures found { let position = length (list_of self.now spine.old.notes) + spine.old.kept in position < 2 ^ 64 - 1 → IsAhead (length (list_of ahead.now.of ahead.now.notes)) position → IsSome result }
+        ensures found { let position = position_to_keep self.now spine.old in position < 2 ^ 64 - 1 → IsAheadOf ahead.now position → IsSome result }
     {
         let position = spine.first + spine.appended + spine.kept;
         if position == u64::MAX {
@@ -234,7 +233,7 @@ impl<K: Key> Log<K> {
         requires filled { (cell_proof.1.value.text ≡ text.now) × Incl (life (era_named self.now.chunks)) cell_proof.1.value.until }
         ensures same { IsSamePass pass.new pass.old × (spine.new.of ≡ spine.old.of) }
         ensures turns { spine.new.turns ≡ spine.old.turns }
-        ensures done { MatchBool result (IsAppended self.now pass.old pass.new spine.old spine.new text.now) ((pass.new ≡ pass.old) × (spine.new ≡ spine.old)) }
+        ensures done { TriesAppend self.now result pass.old pass.new spine.old spine.new text.now }
     {
         if spine.kept == 0 {
             return false;

@@ -1,13 +1,11 @@
 //! Tickets: a pass has one for its next event, and its number is the first one's. Used by passes and by the log's steps.
 ghost use Rattle.std.specs.Prelude.{◌≡◌, [], MatchOption};
-ghost use base.Fml.{Incl};
-ghost use Rattle.lasso_log.specs.History.{Append};
-ghost use Rattle.lasso_log.specs.Eras.{life};
 ghost use Rattle.logbook.specs.Pages.{may_write, nib};
 ghost use Rattle.lasso_log.specs.Book.{word_of, IsTicket, IsUsed};
 ghost use Rattle.lasso_log.specs.Notes.{IsOpened, notes_of};
-ghost use Rattle.lasso_log.specs.Chunks.{IsCellAt, era_named, first_number};
-ghost use Rattle.lasso_log.specs.Events.{event_of, note_of, ready};
+ghost use Rattle.lasso_log.specs.Events.{event_of, ready};
+ghost use Rattle.lasso_log.specs.Exchanges.{IsInCell};
+ghost use Rattle.lasso_log.specs.Proposals.{note_proposed};
 
 use crate::chunks::Chunk;
 use crate::chunks::facts::hand_in;
@@ -19,7 +17,7 @@ use boxcar::tag::{Names, Tag};
 use lasso_parts::keys::Key;
 use logbook::{Offer, Pen, Plain, Seen, Word};
 
-/// A cell of the book that its holder alone can bring home.
+/// A word of the book that its holder alone can bring home.
 #[derive(Drop)]
 pub struct Ticket<K: Key> {
     pub word: Word<Note, u64, LogRule<K>>,
@@ -86,10 +84,9 @@ pub struct Proposal<'a, K: Key> {
 
 impl<'a, K: Key> Plain<Proposal<'a, K>, Note, u64> for Add<K> {
     ghost use Rattle.std.specs.Prelude.{Some};
-    ghost use Rattle.lasso_log.specs.Chunks.{first_number};
-    ghost use Rattle.lasso_log.specs.Events.{event_of, note_of};
+    ghost use Rattle.lasso_log.specs.Proposals.{note_proposed};
 
-    ghost ask = { λ w. note_of (first_number w.number.now.numbers) (event_of w.change) w.position w.ticket.now.pen.nib.key w.next.now.pen.nib.key };
+    ghost ask = { λ w. note_proposed w };
 
     ghost state = { λ w. Some 0 };
 }
@@ -109,11 +106,9 @@ pub struct BytesAsked<'a, K: Key> {
 
 impl<'a, K: Key> Plain<BytesAsked<'a, K>, Note, u64> for Add<K> {
     ghost use Rattle.std.specs.Prelude.{None};
-    ghost use Rattle.lasso_log.specs.Chunks.{first_number};
-    ghost use Rattle.lasso_log.specs.Events.{note_in, bucket_at};
-    ghost use Rattle.lasso_log.specs.History.{Reserve};
+    ghost use Rattle.lasso_log.specs.Proposals.{note_of_bytes};
 
-    ghost ask = { λ a. note_in (bucket_at a.site.now.numbers a.size a.used) (first_number a.number.now.numbers) (Reserve a.bucket a.bytes) a.ticket.now.pen.nib.key a.next.now.pen.nib.key };
+    ghost ask = { λ a. note_of_bytes a };
 
     ghost state = { λ a. None };
 }
@@ -131,11 +126,9 @@ pub struct BucketAsked<'a, K: Key> {
 
 impl<'a, K: Key> Plain<BucketAsked<'a, K>, Note, u64> for Add<K> {
     ghost use Rattle.std.specs.Prelude.{None};
-    ghost use Rattle.lasso_log.specs.Chunks.{first_number};
-    ghost use Rattle.lasso_log.specs.Events.{note_in, bucket_at};
-    ghost use Rattle.lasso_log.specs.History.{Charge};
+    ghost use Rattle.lasso_log.specs.Proposals.{note_of_bucket};
 
-    ghost ask = { λ a. note_in (bucket_at a.site.now.numbers a.size a.bytes) (first_number a.number.now.numbers) (Charge a.size a.bytes) a.ticket.now.pen.nib.key a.next.now.pen.nib.key };
+    ghost ask = { λ a. note_of_bucket a };
 
     ghost state = { λ a. None };
 }
@@ -149,8 +142,9 @@ pub fn offered<K: Key>(
     proposal: Proposal<'_, K>,
     cell_proof: Option<CellProof>,
 ) -> Offer<Note, u64, LogRule<K>, NoGain>
-    requires cell_proof { MatchOption cell_proof (Unit {0}) (λ f. IsCellAt seen.names proposal.position f.0.of f.0.value.items f.1.of × (event_of proposal.change ≡ Append f.1.value.text) × Incl (life (era_named seen.names)) f.1.value.until) }
-    ensures offer { (result.names ≡ seen.names) × (result.ask ≡ note_of (first_number proposal.entry.number.now.numbers) (event_of proposal.entry.change) proposal.entry.position proposal.entry.ticket.now.pen.nib.key proposal.entry.next.now.pen.nib.key) × (result.state ≡ ready cell_proof) }
+    requires cell_proof { MatchOption cell_proof (Unit {0})
+        (λ f. IsInCell seen.names (event_of proposal.change) proposal.position f.0.of f.0.value.items f.1.of f.1.value) }
+    ensures offer { (result.names ≡ seen.names) × (result.ask ≡ note_proposed proposal.entry) × (result.state ≡ ready cell_proof) }
 {
     match cell_proof {
         Some((chunk, item)) => hand_in::<_, _, _, _, Proposal<'_, K>, Add<K>>(

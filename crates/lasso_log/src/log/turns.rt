@@ -4,7 +4,6 @@ ghost use Rattle.lasso_log.specs.Buckets.{doubling_after};
 ghost use Rattle.lasso_log.specs.Charges.{next_size, SetsLimit, AreLast};
 ghost use Rattle.lasso_log.specs.History.{Limit};
 ghost use Rattle.lasso_log.specs.Notes.{Since};
-ghost use Rattle.lasso_log.specs.Turns.{IsTurned};
 ghost use Rattle.lasso_log.specs.Views.{PassView, InternerId, TurnsView, IsSamePass};
 
 use crate::log::note::{Change, Note};
@@ -28,18 +27,16 @@ pub struct Turns<K: Key> {
 }
 
 impl<K: Key> Model for Turns<K> {
-    ghost use Rattle.std.specs.Prelude.{◌<◌, ◌^◌};
-    ghost use Rattle.lasso_log.specs.Notes.{opening_of, notes_of, IsOpened};
-    ghost use Rattle.lasso_log.specs.Turns.{IsTurned};
-    ghost use Rattle.lasso_log.specs.Views.{TurnsView, turns_view_coded, interner_id};
+    ghost use Rattle.lasso_log.specs.Parts.{AreTurns};
+    ghost use Rattle.lasso_log.specs.Views.{TurnsView, turns_view_coded, turns_seen};
 
     ghost Value = { TurnsView };
 
     ghost coded = { turns_view_coded };
 
-    ghost view = { λ t. record { of = interner_id t.seen.book t.seen.names (opening_of t.seen.log); notes = notes_of t.seen.log; turns = t.turns; doubling = t.doubling; usage = t.usage; limit = t.limit; count = t.count } };
+    ghost view = { λ t. turns_seen t.seen.book t.seen.names t.seen.log t.turns t.doubling t.usage t.limit t.count };
 
-    ghost invariant = { λ t. IsOpened t.seen.log × IsTurned K.key_at (opening_of t.seen.log) (notes_of t.seen.log) t.turns t.doubling t.usage t.limit t.count × (t.limit < 2 ^ 64) };
+    ghost invariant = { λ t. AreTurns K.key_at t.seen.log t.turns t.doubling t.usage t.limit t.count };
 }
 
 impl<K: Key> Turns<K> {

@@ -4,7 +4,7 @@ ghost use Rattle.lasso_log.specs.Chunks.{era_named};
 ghost use Rattle.lasso_log.specs.History.{IsLegal};
 ghost use Rattle.lasso_log.specs.Notes.{Since, state};
 ghost use Rattle.lasso_log.specs.Pieces.{RangeView};
-ghost use Rattle.lasso_log.specs.SharedBuckets.{SharedView, IsReserved, names_with_book};
+ghost use Rattle.lasso_log.specs.SharedBuckets.{SharedView, IsReserved, ReservesAmong, names_with_book};
 ghost use Rattle.lasso_log.specs.Turns.{NoneHasRoom};
 ghost use Rattle.lasso_log.specs.Views.{PassView, InternerId, SpineView, TurnsView, IsSamePass, seen};
 
@@ -43,7 +43,7 @@ impl<K: Key> Log<K> {
         requires of { (pass.old.of ≡ self.now) × (spine.now.of ≡ self.now) × (list.now ≡ names_with_book self.now) }
         requires some { bytes ≢ 0 }
         ensures same { IsSamePass pass.new pass.old }
-        ensures event { IfSome result (λ r. (b : SharedView) × (b.of ≡ self.now) × (b.position < spine.now.turns.count) × IsReserved b pass.old.number pass.old.notes pass.new.notes r bytes) }
+        ensures event { IfSome result (λ r. ReservesAmong self.now spine.now.turns.count pass.old pass.new r bytes) }
         ensures range { IfSome result (λ r. (r.era ≡ era_named self.now.chunks) × (r.len ≡ bytes)) }
         ensures none { IfNone result (Since pass.old.number pass.old.notes pass.new.notes []) }
         ensures full { IfNone result (NoneHasRoom (state self.now.opening pass.new.notes) spine.now.turns.count bytes) }

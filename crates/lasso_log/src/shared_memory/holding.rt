@@ -1,11 +1,11 @@
 //! What is owned of buckets whose bytes are lent for an era: all of it comes back, and is freed, once the era
 //! is over. Used by the log.
-ghost use Rattle.std.specs.Prelude.{◌≡◌, ◌<◌, ◌^◌, ◌++◌, ◌∷◌, [], All, IfOk, IfErr, OnErr};
+ghost use Rattle.std.specs.Prelude.{◌≡◌, ◌<◌, ◌^◌, ◌∷◌, [], All, IfOk, IfErr, OnErr};
 ghost use denote.RawPtr.{block_ptr};
 ghost use Rattle.lasso_parts.specs.declared.util.LassoErrorKind.TheVariants.{FailedAllocation};
 ghost use Rattle.lasso_log.specs.Events.{site_at, bucket_at};
 ghost use Rattle.lasso_log.specs.LentBuckets.{LentBucket, IsRightTo};
-ghost use Rattle.lasso_log.specs.SharedBuckets.{IsOfEra};
+ghost use Rattle.lasso_log.specs.SharedBuckets.{AddsLent, IsOfEra};
 
 use crate::shared_memory::era::{Ended, Era};
 use crate::shared_memory::rights::{Free, Owed, lend};
@@ -136,7 +136,7 @@ impl Holdings {
         size: usize,
     ) -> LassoResult<(*mut u8, Tag, Free)>
         requires { 0 < size }
-        ensures added { IfOk result (λ r. (self.new ≡ self.old ++ bucket_at r.1.numbers size 0 ∷ []) × ((site_at r.1.numbers).era ≡ era.now.id) × (size < 2 ^ 63)) }
+        ensures added { IfOk result (λ r. AddsLent self.old self.new r.1.numbers size era.now.id) }
         ensures address { IfOk result (λ r. r.0 ≡ block_ptr (site_at r.1.numbers).block (site_at r.1.numbers).start) }
         ensures right { IfOk result (λ r. IsRightTo r.2 (bucket_at r.1.numbers size 0) size) }
         ensures err { OnErr result (self.new ≡ self.old) }

@@ -4,7 +4,7 @@
 //! A bucket's room is lent to the era byte by byte. `Free` is the exclusive right to fill places that nobody
 //! has taken, `Owed` the right to take them back once the era is over, and `Lent` says that bytes are
 //! somewhere until the era ends: it is lasting, so it may have any number of copies.
-ghost use Rattle.std.specs.Prelude.{◌≡◌, ℕ, ◌+◌, ◌≤◌, ◌<◌, ◌^◌, List, [], length};
+ghost use Rattle.std.specs.Prelude.{◌≡◌, ℕ, ◌≤◌, ◌<◌, ◌^◌, List, [], length};
 ghost use denote.RawPtr.{Ptr, block_ptr};
 ghost use Rattle.core.specs.Mem.Slots.{slots_items, slots_ptr, slots_len, SamePlaces, IsFull};
 ghost use base.Stored.{coded_list, coded_ℕ};
@@ -79,11 +79,13 @@ unsafe impl Send for Lent {}
 unsafe impl Sync for Lent {}
 
 impl Free {
+    ghost use Rattle.lasso_log.specs.LentBuckets.{LeavesRest};
+
     /// The right to the first `n` places, which leaves the others.
     pub fn take(&mut self, n: usize) -> Free
         requires { n ≤ self.old.len }
         ensures first { (result.era ≡ self.old.era) × (result.block ≡ self.old.block) × (result.start ≡ self.old.start) × (result.len ≡ n) }
-        ensures rest { (self.new.era ≡ self.old.era) × (self.new.block ≡ self.old.block) × (self.new.start ≡ self.old.start + n) × (self.new.len + n ≡ self.old.len) }
+        ensures rest { LeavesRest self.old self.new n }
     {
         Free {
             marker: PhantomData,

@@ -1,11 +1,12 @@
 //! Filling a `Rodeo`: from the items of an iterator, and from a list of texts, with their keys.
-ghost use Rattle.std.specs.Prelude.{◌≡◌, ◌+◌, ◌-◌, ◌^◌, ◌<◌, ◌⊎◌, ℕ, List, Ok, map, MatchResult, IfOk, IfErr, OnOk, length, vec_len};
+ghost use Rattle.std.specs.Prelude.{◌≡◌, ◌+◌, ◌-◌, ◌^◌, ◌<◌, ◌⊎◌, ℕ, List, Ok, map};
+ghost use Rattle.std.specs.Prelude.{MatchResult, IfOk, IfErr, OnOk, length, vec_len};
 ghost use Rattle.std.specs.Iterator.{IsFinite, Drains, Yields};
 ghost use Rattle.std.specs.Vec.{vec_capacity};
 ghost use Rattle.lasso_parts.specs.declared.util.LassoErrorKind.TheVariants.{FailedAllocation};
 ghost use Rattle.lasso_single.specs.Filling.{extend, StopsAtRefusal};
 ghost use Rattle.lasso_single.specs.Interner.{InternerView, made_with};
-ghost use Rattle.lasso_single.specs.KeyLists.{AddsKeys, IsNextRefused, keyed_texts};
+ghost use Rattle.lasso_single.specs.KeyLists.{AddsKeysOfFirst, IsNextRefused, keyed_texts};
 
 use super::Rodeo;
 use crate::batch::{Batch, intern_next, look_ahead};
@@ -65,7 +66,7 @@ impl<K: Key, S: BuildHasher, A: Allocator + Clone> Rodeo<K, S, A> {
         keys: &mut Vec<K, B>,
     ) -> LassoResult<()>
         ensures list { extend K.key_at self.old (keyed_texts keys.old.items keys.new.items (map (λ t. t.now) texts.now)) (Ok tt) self.new }
-        ensures keys { AddsKeys K.key_at self.new.texts (keyed_texts keys.old.items keys.new.items (map (λ t. t.now) texts.now)) keys.old.items keys.new.items }
+        ensures keys { AddsKeysOfFirst K.key_at self.new.texts (map (λ t. t.now) texts.now) keys.old.items keys.new.items }
         ensures whole { OnOk result (vec_len keys.new ≡ vec_len keys.old + length texts.now) }
         ensures refused { IfErr result (λ error.
             ((error ≡ FailedAllocation) × (self.new ≡ self.old) × (keys.new.items ≡ keys.old.items) × (vec_capacity keys.old < vec_len keys.old + length texts.now))

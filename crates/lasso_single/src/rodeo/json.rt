@@ -1,12 +1,11 @@
 //! A `Rodeo` as JSON: the array of its texts, in the order of their keys.
-ghost use Rattle.std.specs.Prelude.{◌≡◌, ◌≤◌, ◌<◌, ◌^◌, List, Ok, Err, Some, IfOk, IfErr, length, true};
+ghost use Rattle.std.specs.Prelude.{◌≡◌, ◌<◌, Some, IfOk, IfErr, length, true};
 ghost use Rattle.serde_json.specs.View.{view};
-ghost use Rattle.lasso_parts.specs.Json.{json_array, read_array, shown};
-ghost use Rattle.lasso_parts.specs.Texts.{Text};
+ghost use Rattle.lasso_parts.specs.Json.{json_array, shown};
 ghost use Rattle.lasso_parts.specs.declared.util.LassoErrorKind.TheVariants.{FailedAllocation};
 ghost use Rattle.lasso_single.specs.Copies.{bytes_of, clone_size, read_of};
 ghost use Rattle.lasso_single.specs.Interner.{IsMadeWith};
-ghost use Rattle.lasso_single.specs.Json.{ReadsInto};
+ghost use Rattle.lasso_single.specs.Json.{ReadsInto, RefusesUncountableBytes};
 
 use super::Rodeo;
 use lasso_parts::json::{JsonError, read_array, write_array};
@@ -50,7 +49,7 @@ impl<K: Key, S: BuildHasher + Default + Drop, A: Allocator + Clone> Rodeo<K, S, 
         ensures read { ReadsInto K.key_at true (view value.now) (shown (λ r. r.texts) result) }
         ensures account { IfOk result (λ r. read_of r.texts ≡ Some r.account) }
         ensures made { IfOk result (λ r. IsMadeWith (clone_size r.texts) (bytes_of r.texts) r) }
-        ensures overflow { (texts : List Text) → read_array K.key_at true (view value.now) ≡ Ok texts → 2 ^ 64 ≤ bytes_of texts → result ≡ Err (JsonError.Lasso FailedAllocation) }
+        ensures overflow { RefusesUncountableBytes K.key_at true (view value.now) result }
     {
         let texts = read_array::<K, A>(alloc, value, true)?;
         let alloc = texts.allocator().clone()?;
