@@ -3,14 +3,14 @@
 
 usage: bench/peak.py FILE COMMAND..
 
-Every two seconds it adds up the memory of all processes in its own mount namespace: so run it in a new one. Pages
+Every ten seconds it adds up the memory of all processes in its own mount namespace: so run it in a new one. Pages
 that several of them share count once. Ends with the command's status.
 """
 import os
 import subprocess
 import sys
 
-SECONDS_BETWEEN = 2
+SECONDS_BETWEEN = 10
 
 
 def namespace(process):
