@@ -3,7 +3,7 @@ ghost use Rattle.std.specs.Prelude.{◌≡◌, ◌+◌, ◌<◌, ◌++◌, None,
 ghost use Rattle.std.specs.List.{slice_range};
 ghost use Rattle.lasso_parts.specs.declared.util.LassoErrorKind.TheVariants.{FailedAllocation};
 ghost use Rattle.lasso_single.specs.Filling.{extend};
-ghost use Rattle.lasso_columns.specs.Dictionaries.{AppendsNew, AppendsUnless, InternsAppended, IsFaultAfter, IsRefusedReading, appended, made_to_read};
+ghost use Rattle.lasso_columns.specs.Dictionaries.{AppendsNew, AppendsUnless, InternsAppended, IsFaultAfter, IsRefusedReading, appended, first_bucket, made_to_read};
 ghost use Rattle.lasso_parts.specs.Layout.{layout_texts};
 ghost use Rattle.lasso_columns.specs.Layout.{layout_fault, text_fault};
 
