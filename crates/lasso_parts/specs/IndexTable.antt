@@ -25,7 +25,11 @@ AreTextsFrom texts xs first size found = (i n : ℕ) → i < size → slot xs (f
 abbrev pub AreHashesFrom : (Text → ℕ) → List Text → List (Option ℕ) → (first size : ℕ) → List ℕ → Type 0
 AreHashesFrom hash_of texts xs first size hashes = (i n : ℕ) (text : Text) → i < size → slot xs (first + i) ≡ Some n → slice_get texts n ≡ Some text → slice_index_or hashes i 0 ≡ hash_of text
 
--- the same, of at most 32 slots
+-- this is the hash of the text of slot j, if that is not empty
+abbrev pub IsHashAt : (Text → ℕ) → List Text → List (Option ℕ) → (j hash : ℕ) → Type 0
+IsHashAt hash_of texts xs j hash = (n : ℕ) (text : Text) → slot xs j ≡ Some n → slice_get texts n ≡ Some text → hash ≡ hash_of text
+
+-- the hashes of at most 32 slots, as above
 pub record KnowsHashes (hash_of : Text → ℕ) (texts : List Text) (xs : List (Option ℕ)) (first size : ℕ) (each : List ℕ) : Type 0 where
   pub all : length each ≡ 32
   pub few : size ≤ 32

@@ -16,7 +16,7 @@ use Rattle.lasso_log.specs.Calls.{events_of, Stores, StoresAndAppends, Makes, Ma
 use Rattle.lasso_log.proofs.Histories.{events_append}
 use Rattle.lasso_log.proofs.Legal.{totals_append}
 use Rattle.lasso_log.proofs.Tickets.{by_cases}
-use Rattle.lasso_shared.specs.Machine.{Phase, Missing, Stored, Appended, Call, State, Step, Take, Reserve, Charge, Append, Release, Refuse, Read, SetLimit, IsInFlight, IsReady, NeedsNone, MayStep, MayRefuse, MayRead, put, new_call, taken, in_phase, after, events, replied, found_reply, read, reply, sums}
+use Rattle.lasso_shared.specs.Machine.{Phase, Missing, Stored, Appended, Call, State, Step, Take, Reserve, Charge, Append, Release, Refuse, Read, SetLimit, IsInFlight, IsReady, NeedsNone, MayStep, MayRefuseCall, MayRead, put, new_call, taken, in_phase, after, events, replied, found_reply, read, reply, sums}
 use Rattle.lasso_shared.specs.Walks.{pairs_from}
 use Rattle.lasso_shared.specs.Runs.{IsStart, IsRun, HoldsInRun, run, run_history}
 use Rattle.lasso_shared.specs.MachineCalls.{IsOneStepCall, IsAmidCall, AreAmidCall, EndsCall, IsLongCall, EachCallIsACall}
@@ -253,7 +253,7 @@ module _ {K : Type 0} (key_at : ℕ → Option K) (shard : Text → ℕ) where
       (k, sym (ap (λ (x : Question × Reply K). x.0) same), sym (ap (λ (x : Question × Reply K). x.1) same))
 
   -- a refusal's events
-  refused_makes : (s : State) (c : Call) (es : List Event) (why : LassoErrorKind) → MayRefuse key_at s c why → HasAdded c.phase c.keeping c.text es → Makes {K = K} (Intern c.keeping c.text) (Interned (Err why)) es
+  refused_makes : (s : State) (c : Call) (es : List Event) (why : LassoErrorKind) → MayRefuseCall key_at s c why → HasAdded c.phase c.keeping c.text es → Makes {K = K} (Intern c.keeping c.text) (Interned (Err why)) es
   refused_makes s c es MemoryLimitReached may added = subst (λ (p : Phase). HasAdded p c.keeping c.text es) may.0 added
   refused_makes s c es KeySpaceExhaustion may added = ready_stores c es may.0 added
   refused_makes s c es FailedAllocation may added = subst (λ (p : Phase). HasAdded p c.keeping c.text es) may added

@@ -16,7 +16,7 @@ use Rattle.lasso_parts.proofs.IndexLaws.{position_of_at}
 use Rattle.lasso_log.specs.Buckets.{CountedBucket, with_taken, changed_at, doubling_after}
 use Rattle.lasso_log.specs.History.{Totals, totals, IsLegal}
 use Rattle.lasso_log.specs.Replies.{Keeping, Question, Intern, Get, Contains, ContainsKey, Resolve, Len, IsEmpty, Usage, MaxUsage, Iterate, Strings, Serialize, Freeze, Interned, MayReply}
-use Rattle.lasso_shared.specs.Machine.{RangedBucket, Phase, Missing, Stored, Appended, Call, State, Step, Take, Reserve, Charge, Append, Release, Refuse, Read, SetLimit, IsInFlight, IsFree, IsReady, MayRefuse, MayRead, MayStep, new_call, taken, after, events, replied, found_reply, read, reply, sums, reserved, charged}
+use Rattle.lasso_shared.specs.Machine.{RangedBucket, Phase, Missing, Stored, Appended, Call, State, Step, Take, Reserve, Charge, Append, Release, Refuse, Read, SetLimit, IsInFlight, IsFree, IsReady, MayRefuseCall, MayRead, MayStep, new_call, taken, after, events, replied, found_reply, read, reply, sums, reserved, charged}
 use Rattle.lasso_shared.specs.Runs.{IsFilled, StandsBy, IsGood, IsStart, IsRun, run, run_history, OwesReply, IsSoundStep, HoldsInRun}
 use Rattle.lasso_log.proofs.Legal.{totals_append, legal_append, bucket_fits}
 use Rattle.lasso_shared.proofs.Walked.{walk_from}
@@ -34,7 +34,7 @@ stored_none c stored position appended = grind arith
 ready_none : (c : Call) → IsReady c → HasAppendedNone c
 ready_none c ready = ⊎_elim (λ (e : c.phase ≡ Stored). stored_none c e) (λ e. missing_none c e.0) ready
 
-refused_none : {K : Type 0} (key_at : ℕ → Option K) (s : State) (c : Call) (why : LassoErrorKind) → MayRefuse key_at s c why → HasAppendedNone c
+refused_none : {K : Type 0} (key_at : ℕ → Option K) (s : State) (c : Call) (why : LassoErrorKind) → MayRefuseCall key_at s c why → HasAppendedNone c
 refused_none key_at s c MemoryLimitReached may = missing_none c may.0
 refused_none key_at s c KeySpaceExhaustion may = ready_none c may.0
 refused_none key_at s c FailedAllocation may = missing_none c may
@@ -114,7 +114,7 @@ module _ {K : Type 0} (key_at : ℕ → Option K) (shard : Text → ℕ) (s : St
   own_key c position flies appended =
       ap (option_and_then key_at) (position_of_at s.texts c.text position good.distinct (subst (λ (p : Phase). StandsBy s c.text p) appended (good.stands c flies)))
 
-  refusal_explained : (c : Call) (why : LassoErrorKind) → IsInFlight s c → MayRefuse key_at s c why → MayReply key_at (sums s) (Intern c.keeping c.text) (Interned (Err why))
+  refusal_explained : (c : Call) (why : LassoErrorKind) → IsInFlight s c → MayRefuseCall key_at s c why → MayReply key_at (sums s) (Intern c.keeping c.text) (Interned (Err why))
   refusal_explained c MemoryLimitReached flies may = (lacks_own key_at shard s good c flies (missing_none c may.0), may.1.0, may.1.1, may.2, may.3)
   refusal_explained c KeySpaceExhaustion flies may = (lacks_own key_at shard s good c flies (ready_none c may.0), may.1)
   refusal_explained c FailedAllocation flies may = lacks_own key_at shard s good c flies (missing_none c may)

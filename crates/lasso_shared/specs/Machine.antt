@@ -101,11 +101,11 @@ abbrev pub buckets_of : State → List CountedBucket
 buckets_of s = map (λ (b : RangedBucket). b.bucket) s.buckets
 
 -- whether a call may be refused like this
-abbrev pub MayRefuse : {K : Type 0} → (ℕ → Option K) → State → Call → LassoErrorKind → Type 0
-MayRefuse key_at s c MemoryLimitReached =
+abbrev pub MayRefuseCall : {K : Type 0} → (ℕ → Option K) → State → Call → LassoErrorKind → Type 0
+MayRefuseCall key_at s c MemoryLimitReached =
     (c.phase ≡ Missing) × NeedsBytes c × HasNoRoom (buckets_of s) (length c.text) × (s.limit < s.usage + length c.text)
-MayRefuse key_at s c KeySpaceExhaustion = IsReady c × (key_at (length s.texts) ≡ None)
-MayRefuse key_at s c FailedAllocation = c.phase ≡ Missing
+MayRefuseCall key_at s c KeySpaceExhaustion = IsReady c × (key_at (length s.texts) ≡ None)
+MayRefuseCall key_at s c FailedAllocation = c.phase ≡ Missing
 
 -- whether this may be read: an index only while no call holds its shard
 abbrev pub MayRead : (Text → ℕ) → State → Question → Type 0
@@ -129,7 +129,7 @@ MayStep key_at shard s (Charge c size) =
     × (bucket_size s.doubling s.usage s.limit (length c.text) ≡ Some size)
 MayStep key_at shard s (Append c) = IsInFlight s c × IsReady c × IsSome (key_at (length s.texts))
 MayStep key_at shard s (Release c position) = IsInFlight s c × (c.phase ≡ Appended position)
-MayStep key_at shard s (Refuse c why) = IsInFlight s c × MayRefuse key_at s c why
+MayStep key_at shard s (Refuse c why) = IsInFlight s c × MayRefuseCall key_at s c why
 MayStep key_at shard s (Read question) = MayRead shard s question
 MayStep key_at shard s (SetLimit number limit) = Unit {0}
 

@@ -6,8 +6,7 @@
 ghost use Rattle.std.specs.Prelude.{◌≡◌, ◌+◌, ◌<◌, ◌≤◌, ℕ, Some, length, map, slice_get};
 ghost use Rattle.lasso_parts.specs.Hashing.{hash_by};
 ghost use Rattle.lasso_parts.specs.Index.{slot};
-ghost use Rattle.lasso_parts.specs.IndexTable.{AllInList, AreTextsFrom, KnowsHashes};
-ghost use Rattle.lasso_parts.specs.Texts.{Text};
+ghost use Rattle.lasso_parts.specs.IndexTable.{AllInList, AreTextsFrom, IsHashAt, KnowsHashes};
 
 use crate::index::hashing::hash_text;
 use crate::index::key_slots::KeySlots;
@@ -53,7 +52,7 @@ impl HashesAhead {
         requires inside { j < length old.now.slots }
         requires known { KnowsHashes (hash_by S.BuildHasher S.Hasher.Hasher hasher.now) (T.list texts.now) old.now.slots self.old.first self.old.size self.old.each }
         ensures known { KnowsHashes (hash_by S.BuildHasher S.Hasher.Hasher hasher.now) (T.list texts.now) old.now.slots self.new.first self.new.size self.new.each }
-        ensures hash { (n : ℕ) (text : Text) → slot old.now.slots j ≡ Some n → slice_get (T.list texts.now) n ≡ Some text → result ≡ hash_by S.BuildHasher S.Hasher.Hasher hasher.now text }
+        ensures hash { IsHashAt (hash_by S.BuildHasher S.Hasher.Hasher hasher.now) (T.list texts.now) old.now.slots j result }
     {
         if j >= self.first && j - self.first < self.size {
             return self.each[j - self.first];
