@@ -9,3 +9,4 @@ pub mod KeyLists
 pub mod KeywordLists
 pub mod Codes
 pub mod Coding
+pub mod Hashes

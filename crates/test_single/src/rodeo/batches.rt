@@ -1,6 +1,8 @@
-//! Lists of texts and of keys that are looked up by one call. The texts have 16,360 bytes each: a text of
-//! that length is far from position 64 on, since 64 times 16,384 bytes are 1,048,576. A batch of 32 is
-//! looked ahead at if at least 8 texts of the one before were present and far.
+//! Lists of texts and of keys that are looked up by one call, and texts that are taken one after another. The
+//! texts have 16,360 bytes each: a text of that length is far from position 64 on, since 64 times 16,384 bytes
+//! are 1,048,576. A batch of 32 that is interned or taken is looked ahead at if at least 8 texts of the one before
+//! were present and far; one that `get_all` looks up, if the text before it was present, or if the index has
+//! 4,194,304 bytes.
 
 use super::lists::stand_for;
 use crate::checks::{LIMIT, is_answer, is_kind, is_so, is_so_at, key_at, refusal_of, told};
@@ -115,13 +117,42 @@ fn finds_all<S: BuildHasher>(
     Ok(are_found(keys.as_slice(), indices, rodeo.len()))
 }
 
+// Looks for the texts of these indices one after another, and returns the same.
+fn finds_next<S: BuildHasher>(
+    rodeo: &Rodeo<Spur, S, Global>,
+    alloc: Global,
+    texts: &[&str],
+    indices: &[usize],
+) -> Result<bool, Fail> {
+    let list = picked(alloc, texts, indices)?;
+    let mut keys = Vec::new(alloc);
+    let mut batch = Batch::new();
+    for i in 0..list.len() {
+        if batch.is_due() {
+            look_ahead(rodeo, &list[i..], &mut batch);
+        }
+        keys.push(get_next(rodeo, list[i], &mut batch))?;
+    }
+    Ok(are_found(keys.as_slice(), indices, rodeo.len()))
+}
+
+// Looks for them both ways.
+fn finds<S: BuildHasher>(
+    rodeo: &Rodeo<Spur, S, Global>,
+    alloc: Global,
+    texts: &[&str],
+    indices: &[usize],
+) -> Result<bool, Fail> {
+    Ok(finds_all(rodeo, alloc, texts, indices)? && finds_next(rodeo, alloc, texts, indices)?)
+}
+
 fn interns_and_finds<S: BuildHasher>(
     rodeo: &mut Rodeo<Spur, S, Global>,
     alloc: Global,
     texts: &[&str],
     indices: &[usize],
 ) -> Result<bool, Fail> {
-    Ok(interns_all(rodeo, alloc, texts, indices)? && finds_all(rodeo, alloc, texts, indices)?)
+    Ok(interns_all(rodeo, alloc, texts, indices)? && finds(rodeo, alloc, texts, indices)?)
 }
 
 static SIZES: [usize; 8] = [0, 1, 31, 32, 33, 63, 64, 96];
@@ -149,7 +180,7 @@ fn batches<R: AllocGlobal + Abort, S: BuildHasher>(
     let absent = far(rt.alloc(), 32, &ABSENT)?;
     is_so(
         rt,
-        finds_all(rodeo, rt.alloc(), texts, absent.as_slice())?,
+        finds(rodeo, rt.alloc(), texts, absent.as_slice())?,
         "absent texts",
     );
     is_so(rt, has_count(rodeo, 96), "the texts before the turns");
@@ -374,7 +405,7 @@ fn hashes<R: AllocGlobal + Abort>(
     for row in 0..ROWS.len() {
         let indices = indices_of(rt.alloc(), &ROWS[row])?;
         let before = made.get();
-        let found = finds_all(rodeo, rt.alloc(), texts, indices.as_slice())?;
+        let found = finds_next(rodeo, rt.alloc(), texts, indices.as_slice())?;
         is_so_at(rt, found, row);
         is_so_at(rt, made.get().wrapping_sub(before) == ROWS[row].4, row);
     }
@@ -392,25 +423,76 @@ fn where_looking_ahead_begins(rt: HostRuntime) -> Result<(), Fail> {
     hashes(&rt, &rodeo, texts.as_slice(), &made)
 }
 
-// The first rows in a reader.
+// The index of a text and how often it comes, and those of another; with the absent one last, each is hashed once.
+static ONCE: [Row; 6] = [
+    (0, 0, 0, 0, 1),
+    (0, 31, 0, 0, 32),
+    (0, 32, 64, 32, 65),
+    (64, 40, 98, 40, 81),
+    (98, 40, 64, 40, 81),
+    (98, 33, 97, 63, 97),
+];
+
+fn hashes_once<R: AllocGlobal + Abort>(
+    rt: &R,
+    rodeo: &Counted<'_>,
+    texts: &[&str],
+    made: &Cell<u64>,
+) -> Result<(), Fail> {
+    for row in 0..ONCE.len() {
+        let indices = indices_of(rt.alloc(), &ONCE[row])?;
+        let before = made.get();
+        let found = finds_all(rodeo, rt.alloc(), texts, indices.as_slice())?;
+        is_so_at(rt, found, row);
+        is_so_at(rt, made.get().wrapping_sub(before) == ONCE[row].4, row);
+    }
+    Ok(())
+}
+
+#[test]
+fn texts_of_a_list_are_hashed_once(rt: HostRuntime) -> Result<(), Fail> {
+    let made = Cell::new(0);
+    let mut rodeo: Counted<'_> = Rodeo::with_hasher(rt.alloc(), CountingState::new(&made))?;
+    let texts = texts_of(rt.alloc())?;
+    for index in 0..96 {
+        is_so_at(&rt, takes_text(&mut rodeo, texts.as_slice(), index), index);
+    }
+    hashes_once(&rt, &rodeo, texts.as_slice(), &made)
+}
+
+// 700,000 texts have 1,048,576 slots of 5 bytes.
+#[test]
+fn texts_of_a_list_are_hashed_once_over_a_large_index(rt: HostRuntime) -> Result<(), Fail> {
+    let made = Cell::new(0);
+    let room = Capacity::for_strings(700_000);
+    let state = CountingState::new(&made);
+    let mut rodeo: Counted<'_> = Rodeo::with_capacity_and_hasher(rt.alloc(), room, state)?;
+    let texts = texts_of(rt.alloc())?;
+    for index in 0..96 {
+        is_so_at(&rt, takes_text(&mut rodeo, texts.as_slice(), index), index);
+    }
+    hashes_once(&rt, &rodeo, texts.as_slice(), &made)
+}
+
+// The same in a reader.
 fn reader_hashes<R: AllocGlobal + Abort>(
     rt: &R,
     reader: &RodeoReader<Spur, CountingState<'_>, Global>,
     texts: &[&str],
     made: &Cell<u64>,
 ) -> Result<(), Fail> {
-    for row in 0..5 {
-        let indices = indices_of(rt.alloc(), &ROWS[row])?;
+    for row in 0..ONCE.len() {
+        let indices = indices_of(rt.alloc(), &ONCE[row])?;
         let before = made.get();
         let found = reader_finds_all(reader, rt.alloc(), texts, indices.as_slice())?;
         is_so_at(rt, found, row);
-        is_so_at(rt, made.get().wrapping_sub(before) == ROWS[row].4, row);
+        is_so_at(rt, made.get().wrapping_sub(before) == ONCE[row].4, row);
     }
     Ok(())
 }
 
 #[test]
-fn where_looking_ahead_begins_in_a_reader(rt: HostRuntime) -> Result<(), Fail> {
+fn texts_of_a_list_are_hashed_once_in_a_reader(rt: HostRuntime) -> Result<(), Fail> {
     let made = Cell::new(0);
     let mut rodeo: Counted<'_> = Rodeo::with_hasher(rt.alloc(), CountingState::new(&made))?;
     let texts = texts_of(rt.alloc())?;
