@@ -1,26 +1,14 @@
--- Steps of the loops that test hexadecimal digits and read them back, and what is read.
-use Rattle.std.proofs.Common.{ℕ, ◌≡◌, ◌+◌, ◌*◌, ◌%◌, ◌<◌, ◌≤◌, ◌&&◌, ◌++◌, Bool, true, false, List, [], drop, length, slice_index, take, Result, Ok, Err, Some, is_ok, ap, refl, sym, ◌∙◌, arith}
+-- Steps of the loop that reads hexadecimal digits back, and what is read.
+use Rattle.std.proofs.Common.{ℕ, ◌≡◌, ◌+◌, ◌*◌, ◌%◌, ◌≤◌, ◌++◌, false, List, [], drop, length, take, Result, Ok, Err, Some, is_ok, ap, refl, sym, ◌∙◌, arith}
 use Rattle.std.specs.List.{list_all}
 use Rattle.std.specs.Result.{result_unwrap_or}
 use Rattle.std.proofs.lemmas.Bool.{false≢true}
-use Rattle.std.proofs.lemmas.List.{append-nil, drop_all, drop_more, length-append, take_all}
+use Rattle.std.proofs.lemmas.List.{append-nil, length-append, take_all}
 use Rattle.std.proofs.lemmas.List.Sums.{list_all-from_AllPass}
 use Rattle.hex.specs.declared.error.FromHexError.{FromHexError}
 use Rattle.hex.specs.Hex.{decode_of, digit_or_error, hex_digit_value, is_hex_digit, pair_value, value_at}
 use Rattle.hex.proofs.HexLemmas.{decode_of-odd, decode_of-ok}
 use Rattle.lasso_input.proofs.Ends.{end_written}
-
--- one byte more is tested
-pub test_step : (all one : Bool) (bytes : List ℕ) (i : ℕ) (whole : Bool) → i < length bytes → one ≡ is_hex_digit (slice_index bytes i)
-    → (all && list_all is_hex_digit (drop i bytes)) ≡ whole → ((all && one) && list_all is_hex_digit (drop (i + 1) bytes)) ≡ whole
-test_step true one bytes i whole inside is so_far =
-    ap (λ (t : Bool). t && list_all is_hex_digit (drop (i + 1) bytes)) is ∙ sym (ap (list_all is_hex_digit) (drop_more bytes i 0 inside)) ∙ so_far
-test_step false one bytes i whole inside is so_far = so_far
-
--- every byte is tested
-pub test_done : (all : Bool) (bytes : List ℕ) (i : ℕ) (whole : Bool) → length bytes ≤ i → (all && list_all is_hex_digit (drop i bytes)) ≡ whole → all ≡ whole
-test_done true bytes i whole past so_far = sym (ap (list_all is_hex_digit) (drop_all i bytes past)) ∙ so_far
-test_done false bytes i whole past so_far = so_far
 
 -- two digits are a byte
 pub pair_read : (a b i high low : ℕ) → hex_digit_value a ≡ Some high → hex_digit_value b ≡ Some low → pair_value a b i ≡ Ok (high * 16 + low)

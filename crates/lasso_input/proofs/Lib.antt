@@ -2,6 +2,7 @@ pub mod Ends
 pub mod Feeds
 pub mod FirstLines
 pub mod HexDigits
+pub mod LettingIn
 pub mod LineTexts
 pub mod Remaining
 pub mod Tested

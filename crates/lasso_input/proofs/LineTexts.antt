@@ -3,7 +3,7 @@
 -- A line that is its own text doesn't begin with the mark, so it is read back as itself. Another line's text begins
 -- with the mark, and its digits are read back as the bytes. The mark is a character and digits are ASCII, so both
 -- are UTF-8.
-use Rattle.std.proofs.Common.{ℕ, ◌≡◌, ◌+◌, ◌≤◌, ◌&&◌, ◌++◌, Bool, true, false, not, List, [], ◌∷◌, drop, length, take, Result, Err, Ok, is_ok, inl, inr, nat_lt, refl, sym, ap, subst, ◌∙◌, append_assoc, arith}
+use Rattle.std.proofs.Common.{ℕ, ◌≡◌, ◌+◌, ◌≤◌, ◌&&◌, ◌++◌, Bool, true, false, not, List, [], ◌∷◌, drop, length, take, Result, Err, Ok, is_ok, inl, inr, nat_lt, refl, sym, ap, subst, ◌∙◌, arith}
 use Rattle.std.proofs.lemmas.Bool.{and_parts, cases_Bool, cond-true, cond-false, false≢true, not-true}
 use Rattle.std.proofs.lemmas.Str.{IsUtf8-append, IsUtf8-from_ascii, IsUtf8-from_is_utf8, is_utf8-from_IsUtf8}
 use Rattle.std.proofs.lemmas.List.{length-append, take_all}
@@ -135,10 +135,14 @@ text_is_utf8 line = elim (cases_Bool (is_own_text line)) [
 ]
 
 -- the mark and the digits at the end of other bytes
-pub escaped_written : (old ext mid zeros written bytes : List ℕ) (m k n : ℕ) → ext ≡ old ++ mark → m ≡ length ext → mid ≡ take k ext ++ zeros → m ≤ k → n ≡ length mid → length written + m ≡ n → written ≡ encode_lower bytes
+pub escaped_written : (old mid zeros written bytes : List ℕ) (m k n : ℕ) → m ≡ length old → mid ≡ take k old ++ zeros → m ≤ k → n ≡ length mid → length written + m ≡ n → written ≡ escaped bytes
     → take n ((take m mid ++ (written ++ drop (length written) (drop m mid))) ++ drop (length (take m mid ++ (written ++ drop (length written) (drop m mid)))) mid) ≡ old ++ escaped bytes
+escaped_written old mid zeros written bytes m k n start mid_is more long fits text =
+    let is : mid ≡ old ++ zeros = mid_is ∙ ap (λ (xs : List ℕ). xs ++ zeros) (take_all k old (omega (arith, start, more))) in
+    let same : length written ≡ length zeros = omega (arith, length-append old zeros, ap length is, start, long, fits) in
+    end_written old zeros written mid m n start is long same ∙ ap (λ (xs : List ℕ). old ++ xs) text
+
+-- the mark, and then the digits
+pub escaped_parts : (bytes : List ℕ) → escaped bytes ≡ mark ++ encode_lower bytes
 unfolding escaped
-escaped_written old ext mid zeros written bytes m k n ext_is start mid_is more long fits digits =
-    let is : mid ≡ ext ++ zeros = mid_is ∙ ap (λ (xs : List ℕ). xs ++ zeros) (take_all k ext (omega (arith, start, more))) in
-    let same : length written ≡ length zeros = omega (arith, length-append ext zeros, ap length is, start, long, fits) in
-    end_written ext zeros written mid m n start is long same ∙ ap (λ (xs : List ℕ). ext ++ xs) digits ∙ ap (λ (xs : List ℕ). xs ++ encode_lower bytes) ext_is ∙ append_assoc old mark (encode_lower bytes)
+escaped_parts bytes = refl

@@ -1,5 +1,5 @@
 -- The texts of lines of any bytes.
-use Rattle.std.specs.Prelude.{ℕ, ◌≡◌, ◌&&◌, All, Bool, false, not, List, [], ◌∷◌, ◌++◌, drop, nat_eq, if◌then◌else◌}
+use Rattle.std.specs.Prelude.{ℕ, ◌≡◌, ◌&&◌, All, Bool, true, false, not, List, [], ◌∷◌, ◌++◌, drop, nat_eq, if◌then◌else◌}
 use Rattle.std.specs.List.{starts_with}
 use Rattle.std.specs.Result.{result_unwrap_or}
 use Rattle.std.specs.Str.{is_utf8, IsUtf8}
@@ -33,6 +33,11 @@ text_of line = if is_own_text line then line else escaped line
 -- digits, is the text itself
 unfoldable pub line_of : List ℕ → List ℕ
 line_of text = if is_marked text then result_unwrap_or (decode_of (drop 4 text)) text else text
+
+-- whether the line is let in: any line, or only one that is UTF-8
+abbrev pub is_let_in : Bool → List ℕ → Bool
+is_let_in false line = true
+is_let_in true line = is_utf8 line
 
 -- the line of a line's text is the line
 abbrev pub TextsGiveLines : Type 0

@@ -9,6 +9,9 @@ ghost use Rattle.hex.specs.Hex.{decode_of, decode_pairs, encode_lower, hex_digit
 use std::alloc::{AllocError, Allocator};
 use std::simd::prelude::*;
 
+// The digits.
+const DIGITS: [u8; 16] = *b"0123456789abcdef";
+
 // The number of bytes of a vector.
 const LANES: usize = 16;
 
@@ -81,11 +84,7 @@ fn digit(number: u8) -> u8
     requires { number < 16 }
     ensures { result ≡ slice_index lower_digits number }
 {
-    if number < 10 {
-        b'0' + number
-    } else {
-        b'a' - 10 + number
-    }
+    DIGITS[usize::from(number)]
 }
 
 /// Appends the bytes that have these hexadecimal digits, of both cases, two a byte. Returns whether there are two

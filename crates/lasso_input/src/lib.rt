@@ -28,6 +28,6 @@ pub use newlines::{after_newline, find_newline, first_line};
 pub use numbers::parse_digits;
 pub use stretch::Stretch;
 pub use texts::{
-    MARK, append_escaped, append_line, escape_in, is_marked, line_of, own_text, text_of,
+    MARK, append_escaped, append_line, escape_in, is_let_in, is_marked, line_of, own_text, text_of,
 };
 pub use workers::MAX_WORKERS;

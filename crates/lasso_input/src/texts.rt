@@ -2,10 +2,10 @@
 //!
 //! A line that is UTF-8 and doesn't begin with the mark is its own text. The text of any other line is the mark
 //! and then the line's bytes as digits. So an interner of texts can hold lines of any bytes.
-ghost use Rattle.std.specs.Prelude.{◌≡◌, ◌≤◌, ◌++◌, true, false, IfOk, OnOk, IsOkAnd, MatchOption, length};
+ghost use Rattle.std.specs.Prelude.{◌≡◌, ◌*◌, ◌+◌, ◌≤◌, ◌++◌, true, false, IfOk, OnOk, IsOkAnd, MatchOption, length};
 ghost use Rattle.std.specs.Cow.{cow_slice_items, cow_str_bytes, IsBorrowedSlice, IsBorrowedStr};
 ghost use Rattle.std.specs.String.{string_bytes};
-ghost use Rattle.lasso_input.specs.Texts.{escaped, is_marked, is_own_text, line_of, text_of};
+ghost use Rattle.lasso_input.specs.Texts.{escaped, is_let_in, is_marked, is_own_text, line_of, text_of};
 
 use crate::digits::{append_read, put_digits};
 use crate::line::Line;
@@ -61,6 +61,20 @@ fn begins_with_mark(line: &Line<'_>) -> bool
         return false;
     }
     is_marked(line.bytes())
+}
+
+/// Whether the line is let in: any line, or only one that is UTF-8.
+#[inline(always)]
+pub fn is_let_in(line: &Line<'_>, only_utf8: bool) -> bool
+    ensures { result ≡ is_let_in only_utf8 line.now }
+{
+    if !only_utf8 {
+        return true;
+    }
+    match line.text() {
+        Ok(_) => true,
+        Err(_) => false,
+    }
 }
 
 /// The line that has this text. After the mark, digits of both cases are read. A text that begins with the mark,
@@ -129,7 +143,7 @@ pub fn escape_in<'a, A: Allocator>(
 /// memory of just these bytes if there is none.
 ///
 /// # Errors
-/// Out of memory. What was appended is a beginning of the text.
+/// Out of memory.
 #[inline]
 pub fn append_escaped<A: Allocator>(texts: &mut Vec<u8, A>, bytes: &[u8]) -> Result<(), AllocError>
     ensures { OnOk result (texts.new.items ≡ texts.old.items ++ escaped bytes.now) }
@@ -137,15 +151,28 @@ pub fn append_escaped<A: Allocator>(texts: &mut Vec<u8, A>, bytes: &[u8]) -> Res
     let Some(digits) = bytes.len().checked_mul(2) else {
         return Err(AllocError);
     };
-    texts.reserve(digits.saturating_add(MARK_BYTES.len()))?;
-    texts.extend_from_slice(&MARK_BYTES)?;
-    let start = texts.len();
-    let Some(end) = start.checked_add(digits) else {
+    let Some(len) = digits.checked_add(MARK_BYTES.len()) else {
         return Err(AllocError);
     };
+    let start = texts.len();
+    let Some(end) = start.checked_add(len) else {
+        return Err(AllocError);
+    };
+    texts.reserve(len)?;
     texts.resize(end, 0)?;
-    put_digits(bytes, texts.slice_mut(start..));
+    put_escaped(bytes, texts.slice_mut(start..));
     Ok(())
+}
+
+// Fills `text` with the mark and then the digits of the bytes.
+#[inline(always)]
+fn put_escaped(bytes: &[u8], text: &mut [u8])
+    requires { length text.old ≡ 4 + 2 * length bytes.now }
+    ensures { text.new ≡ escaped bytes.now }
+{
+    let (mark, digits) = text.split_at_mut(MARK_BYTES.len());
+    mark.copy_from_slice(&MARK_BYTES);
+    put_digits(bytes, digits);
 }
 
 // The mark, and then the digits of the bytes.
