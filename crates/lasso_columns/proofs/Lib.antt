@@ -7,6 +7,7 @@ pub mod PlacedEntries
 pub mod StreamLines
 pub mod TextLines
 pub mod PutBlocks
+pub mod Steps
 pub mod Streamed
 pub mod EncodedLines
 pub mod Decoded

@@ -29,7 +29,7 @@ pub block_more : (null : Option Text) (old mid new : InternerView) (all rest her
 block_more null old mid new all rest here more before middle after so_far is rows =
     rows_join null old mid new all (here ++ more) more before middle after (rows_left null old mid all rest (here ++ more) before middle so_far (sym is)) (rows_wider null mid new here [] more middle after rows)
 
-renumbered : {A : Type 0} (null : Option Text) (now : InternerView) (entries : Vec ℕ A) (line : Text) (n m : ℕ) (error : LineError) → IsRowFault null now entries line n error → IsRowFault null now entries line m (numbered error m)
+pub renumbered : {A : Type 0} (null : Option Text) (now : InternerView) (entries : Vec ℕ A) (line : Text) (n m : ℕ) (error : LineError) → IsRowFault null now entries line n error → IsRowFault null now entries line m (numbered error m)
 renumbered null now entries line n m (Refused at error) fault = (refl, fault.1, fault.2)
 renumbered null now entries line n m (NotText at) fault = (refl, fault.1)
 

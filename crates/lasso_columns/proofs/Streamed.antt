@@ -1,93 +1,71 @@
 -- How far encoding a stream has come.
 --
--- The lines of the known bytes are those that were encoded, those of the blocks that were read, and those that
--- follow. Putting the blocks encodes their lines, and the next blocks are read from the bytes that are left.
-use Rattle.std.proofs.Common.{ℕ, ◌≡◌, ◌+◌, ◌-◌, Bool, true, false, List, [], ◌∷◌, ◌++◌, length, Option, Some, Result, Ok, Err, refl, sym, ap, subst, ◌∙◌, append_assoc, append-nil}
+-- The lines of the known bytes are those that were encoded, and those that are left. Each round encodes the first of
+-- those, and the others are left after it.
+use Rattle.std.proofs.Common.{ℕ, ◌≡◌, ◌+◌, ◌-◌, Bool, true, false, List, [], ◌∷◌, ◌++◌, length, Option, Some, refl, sym, ap, subst, ◌∙◌, append_assoc, append-nil}
 use Rattle.std.specs.Prelude.{Vec}
 use Rattle.lasso_parts.specs.Texts.{Text}
 use Rattle.lasso_single.specs.Interner.{InternerView}
-use Rattle.lasso_input.specs.Lines.{lines_of}
-use Rattle.lasso_columns.specs.Blocks.{StopsInRound}
+use Rattle.lasso_columns.specs.Blocks.{numbered}
 use Rattle.lasso_columns.specs.Rows.{EncodesRows, IsRowFault}
-use Rattle.lasso_columns.specs.Streams.{AreBytesBy, AreUnreadBy, EndsRound, FollowBy, ReadsTexts, StopsInStreamBy, lines_in}
+use Rattle.lasso_columns.specs.Steps.{AreLeft, AreLeftAfter, EncodesFirst, EncoderView, stream_error_at}
+use Rattle.lasso_columns.specs.Streams.{AreBytesBy, StopsInStreamBy}
 use Rattle.lasso_columns.specs.Texts.{texts_by}
 use Rattle.lasso_columns.specs.declared.line_texts.LineTexts.{LineTexts}
-use Rattle.lasso_columns.specs.declared.faults.LineError.{LineError}
 use Rattle.lasso_columns.specs.declared.stream.StreamError.{StreamError}
 use Rattle.lasso_columns.specs.declared.stream.StreamError.TheVariants.{Line, Read}
-use Rattle.lasso_columns.proofs.EncodedRows.{rows_begin, rows_join, rows_left, rows_wider}
-use Rattle.lasso_columns.proofs.PutBlocks.{block_more}
-use Rattle.lasso_columns.proofs.TextLines.{bytes_both, texts_both, unread_by}
+use Rattle.lasso_columns.proofs.EncodedRows.{rows_begin, rows_join, rows_wider}
+use Rattle.lasso_columns.proofs.PutBlocks.{renumbered}
+use Rattle.lasso_columns.proofs.TextLines.{bytes_both, bytes_none, texts_both, texts_none}
 
--- the lines before these blocks were encoded. The first lines are those and the lines of the blocks
-abbrev pub Streamed : {A E : Type 0} → LineTexts → Option Text → InternerView → List ℕ → List ℕ → InternerView → List ℕ → List (Vec ℕ A) → Result Bool E → Option (List ℕ) → Type 0
-Streamed by null old bytes before new after blocks more left =
-    (first : List (List ℕ)) × (lines : List (List ℕ)) × (lines_of bytes ≡ first ++ lines) × AreBytesBy by first × EncodesRows null old (texts_by by first) (lines_in blocks) before new after
-    × FollowBy by more left lines
+-- the first lines were encoded, and the others are left; if the last round said that none follow, there are none
+abbrev pub Streamed : Bool → LineTexts → Option Text → InternerView → List (List ℕ) → List ℕ → InternerView → List ℕ → EncoderView → Option (List ℕ) → Type 0
+Streamed goes_on by null old lines before new after encoder left = EncodesFirst by null old lines before new after (AreLeftAfter goes_on encoder left)
 
-pub ok_is : {E : Type 0} (more : Result Bool E) (b c : Bool) → more ≡ Ok b → b ≡ c → more ≡ Ok c
-ok_is more b c is same = is ∙ ap (λ x. Ok x) same
+-- no line was encoded
+pub stream_begins : (by : LineTexts) (null : Option Text) (old : InternerView) (lines : List (List ℕ)) (before : List ℕ) (encoder : EncoderView) (left : Option (List ℕ)) → AreLeft encoder left lines → Streamed true by null old lines before old before encoder left
+stream_begins by null old lines before encoder left ahead =
+    ([], lines, refl, bytes_none by, rows_begin null old (texts_by by []) [] before (sym (texts_none by)), ahead)
 
-ended_goes : {E : Type 0} (more : Result Bool E) → more ≡ Ok false → more ≡ Ok true → ⊥
-ended_goes more end goes = let no : Ok false ≡ Ok true = sym end ∙ goes in cc
+module _ (by : LineTexts) (null : Option Text) (old mid new : InternerView) (lines : List (List ℕ)) (before middle : List ℕ) where
+  -- the texts of the first lines and of those after them
+  both_rows : (first next : List (List ℕ)) (rest : List Text) (after : List ℕ) → EncodesRows null old (texts_by by first) [] before mid middle → EncodesRows null mid (texts_by by next) rest middle new after → EncodesRows null old (texts_by by (first ++ next)) rest before new after
+  both_rows first next rest after so_far rows =
+      let wider = rows_wider null old mid (texts_by by first) [] (texts_by by next) before middle so_far in
+      subst (λ (ts : List Text). EncodesRows null old ts rest before new after) (sym (texts_both by first next))
+      (rows_join null old mid new (texts_by by first ++ texts_by by next) (texts_by by next) rest before middle after wider rows)
 
--- a read has failed, so the blocks are the last
-pub err_goes : {E : Type 0} (more : Result Bool E) (error : E) → more ≡ Err error → more ≡ Ok true → ⊥
-err_goes more error failed goes = let no : Err error ≡ Ok true = sym failed ∙ goes in cc
+  module _ (encoder : EncoderView) (left : Option (List ℕ)) (so_far : Streamed true by null old lines before mid middle encoder left) (same : encoder.by ≡ by) where
+    split_both : (first rest : List (List ℕ)) → so_far.1 ≡ first ++ rest → lines ≡ (so_far.0 ++ first) ++ rest
+    split_both first rest split = so_far.2 ∙ ap (λ (ls : List (List ℕ)). so_far.0 ++ ls) split ∙ sym (append_assoc so_far.0 first rest)
 
-module _ {A E : Type 0} (by : LineTexts) (null : Option Text) (old : InternerView) (bytes before : List ℕ) where
-  -- the first blocks were read
-  pub stream_begins : (known left : Option (List ℕ)) (blocks : List (Vec ℕ A)) (more : Result Bool E) → ReadsTexts by known left blocks more → known ≡ Some bytes → Streamed by null old bytes before old before blocks more left
-  stream_begins known left blocks more read e =
-      let is = read bytes e in
-      (is.0, is.1, is.2, is.4, rows_begin null old (texts_by by is.0) (lines_in blocks) before is.3, is.5)
+    -- one round more
+    pub stream_next : (after : List ℕ) (goes_on : Bool) (encoder' : EncoderView) (left' : Option (List ℕ)) → ((ls : List (List ℕ)) → AreLeft encoder left ls → EncodesFirst encoder.by null mid ls middle new after (AreLeftAfter goes_on encoder' left')) → Streamed goes_on by null old lines before new after encoder' left'
+    stream_next after goes_on encoder' left' step =
+        let next = subst (λ b. EncodesFirst b null mid so_far.1 middle new after (AreLeftAfter goes_on encoder' left')) same (step so_far.1 so_far.5) in
+        (so_far.0 ++ next.0, next.1, split_both next.0 next.1 next.2, bytes_both by so_far.0 next.0 so_far.3 next.3, both_rows so_far.0 next.0 [] after so_far.4 next.4, next.5)
 
-  module _ (mid new : InternerView) (middle : List ℕ) (blocks : List (Vec ℕ A)) (more : Result Bool E) (left : Option (List ℕ)) (so_far : Streamed by null old bytes before mid middle blocks more left) where
-    -- the blocks were put
-    put_rows : (after : List ℕ) → EncodesRows null mid (lines_in blocks) [] middle new after → EncodesRows null old (texts_by by so_far.0) [] before new after
-    put_rows after rows = block_more null old mid new (texts_by by so_far.0) (lines_in blocks) (lines_in blocks) [] before middle after so_far.4 (sym (append-nil (lines_in blocks))) rows
+    -- the next round stops
+    pub stream_stops : {B : Type 0} (after : Vec ℕ B) (left' : Option (List ℕ)) (error : StreamError) (number : ℕ) → ((ls : List (List ℕ)) → AreLeft encoder left ls → StopsInStreamBy encoder.by null mid ls middle new after left' error) → number ≡ length after.items - length before + 1 → StopsInStreamBy by null old lines before new after left' (stream_error_at error number)
+    stream_stops after left' (Line error) number step is =
+        let next = subst (λ b. StopsInStreamBy b null mid so_far.1 middle new after left' (Line error)) same (step so_far.1 so_far.5) in
+        let rows = both_rows so_far.0 next.0 (next.4.0 ∷ next.4.1) after.items so_far.4 next.4.2 in
+        let fault = renumbered null new after next.4.0 (length after.items - length middle + 1) number error next.4.3 in
+        (so_far.0 ++ next.0, next.1, split_both next.0 next.1 next.2, bytes_both by so_far.0 next.0 so_far.3 next.3, (next.4.0, next.4.1, rows, subst (λ n. IsRowFault null new after next.4.0 n (numbered error number)) is fault))
+    stream_stops after left' (Read error) number step is =
+        let next = subst (λ b. StopsInStreamBy b null mid so_far.1 middle new after left' (Read error)) same (step so_far.1 so_far.5) in
+        (so_far.0 ++ next.0, next.1, split_both next.0 next.1 next.2, bytes_both by so_far.0 next.0 so_far.3 next.3, (both_rows so_far.0 next.0 [] after.items so_far.4 next.4.0, next.4.1))
 
-    -- and the input has ended
-    all_lines : more ≡ Ok false → lines_of bytes ≡ so_far.0
-    all_lines end =
-        let none : FollowBy {E = E} by (Ok false) left so_far.1 = subst (λ m. FollowBy by m left so_far.1) end so_far.5 in
-        so_far.2 ∙ ap (λ (ls : List (List ℕ)). so_far.0 ++ ls) none.1 ∙ append-nil so_far.0
+-- all lines were encoded
+module _ (by : LineTexts) (null : Option Text) (old new : InternerView) (lines : List (List ℕ)) (before after : List ℕ) (encoder : EncoderView) (left : Option (List ℕ)) (so_far : Streamed false by null old lines before new after encoder left) where
+  all_lines : lines ≡ so_far.0
+  all_lines = so_far.2 ∙ ap (λ (ls : List (List ℕ)). so_far.0 ++ ls) so_far.5.1 ∙ append-nil so_far.0
 
-    pub stream_ends : (after : List ℕ) → EncodesRows null mid (lines_in blocks) [] middle new after → more ≡ Ok false → EncodesRows null old (texts_by by (lines_of bytes)) [] before new after
-    stream_ends after rows end = subst (λ (ls : List (List ℕ)). EncodesRows null old (texts_by by ls) [] before new after) (sym (all_lines end)) (put_rows after rows)
+  pub stream_rows : EncodesRows null old (texts_by by lines) [] before new after
+  stream_rows = subst (λ (ls : List (List ℕ)). EncodesRows null old (texts_by by ls) [] before new after) (sym all_lines) so_far.4
 
-    pub stream_bytes : more ≡ Ok false → AreBytesBy by (lines_of bytes)
-    stream_bytes end = subst (λ (ls : List (List ℕ)). AreBytesBy by ls) (sym (all_lines end)) so_far.3
+  pub stream_bytes : AreBytesBy by lines
+  stream_bytes = subst (λ (ls : List (List ℕ)). AreBytesBy by ls) (sym all_lines) so_far.3
 
-    pub stream_used : (left' : Option (List ℕ)) → more ≡ Ok false → (¬ (more ≡ Ok true) → left' ≡ left) → left' ≡ Some []
-    stream_used left' end kept =
-        let none : FollowBy {E = E} by (Ok false) left so_far.1 = subst (λ m. FollowBy by m left so_far.1) end so_far.5 in
-        kept (λ goes. ended_goes more end goes) ∙ none.0
-
-    -- and no more blocks are read
-    pub stream_breaks : {B : Type 0} (after : Vec ℕ B) (error : _) (left' : Option (List ℕ)) → EncodesRows null mid (lines_in blocks) [] middle new after.items → left' ≡ left → StopsInStreamBy by null old (lines_of bytes) before new after left' (Read error)
-    stream_breaks after error left' rows kept =
-        (so_far.0, so_far.1, so_far.2, so_far.3, (put_rows after.items rows, subst (λ l. AreUnreadBy by l so_far.1) (sym kept) (unread_by by more left so_far.1 so_far.5)))
-
-    -- and the next blocks were read
-    pub stream_next : (after : List ℕ) (left' : Option (List ℕ)) (blocks' : List (Vec ℕ A)) (more' : Result Bool E) → EncodesRows null mid (lines_in blocks) [] middle new after → more ≡ Ok true → (more ≡ Ok true → ReadsTexts by left left' blocks' more') → Streamed by null old bytes before new after blocks' more' left'
-    stream_next after left' blocks' more' rows goes read =
-        let rest : FollowBy {E = E} by (Ok true) left so_far.1 = subst (λ m. FollowBy by m left so_far.1) goes so_far.5 in
-        let next = read goes rest.0 rest.1 in
-        let split : lines_of bytes ≡ (so_far.0 ++ next.0) ++ next.1 =
-        so_far.2 ∙ ap (λ (ls : List (List ℕ)). so_far.0 ++ ls) (rest.2 ∙ next.2) ∙ sym (append_assoc so_far.0 next.0 next.1) in
-        let wider = rows_wider null old new (texts_by by so_far.0) [] (texts_by by next.0) before after (put_rows after rows) in
-        let all = subst (λ (ts : List Text). EncodesRows null old ts (texts_by by next.0) before new after) (sym (texts_both by so_far.0 next.0)) wider in
-        (so_far.0 ++ next.0, next.1, split, bytes_both by so_far.0 next.0 so_far.3 next.4, rows_left null old new (texts_by by (so_far.0 ++ next.0)) (texts_by by next.0) (lines_in blocks') before after all next.3, next.5)
-
-    -- a line of the blocks is at fault
-    pub stream_stops : {B : Type 0} (after : Vec ℕ B) (start : ℕ) (error : LineError) → StopsInRound null mid (lines_in blocks) middle new after start error → start ≡ length before → StopsInStreamBy by null old (lines_of bytes) before new after left (Line error)
-    stream_stops after start error stops is =
-        let rows = rows_join null old mid new (texts_by by so_far.0) (lines_in blocks) (stops.0 ∷ stops.1) before middle after.items so_far.4 stops.2 in
-        let fault = subst (λ n. IsRowFault null new after stops.0 (length after.items - n + 1) error) is stops.3 in
-        (so_far.0, so_far.1, so_far.2, so_far.3, (stops.0, stops.1, rows, fault))
-
-    -- the round was the last of the call
-    pub stream_last : {B : Type 0} (after : Vec ℕ B) (start : ℕ) (error : StreamError) → EndsRound null mid (lines_in blocks) middle new after start error → start ≡ length before → StopsInStreamBy by null old (lines_of bytes) before new after left error
-    stream_last after start (Line error) ends is = stream_stops after start error ends is
-    stream_last after start (Read error) ends is = stream_breaks after error left ends refl
+  pub stream_used : left ≡ Some []
+  stream_used = so_far.5.0

@@ -6,7 +6,10 @@ use Rattle.std.proofs.Common.{ℕ, zero, suc, ◌≡◌, ◌+◌, ◌<◌, inl, 
 use Rattle.std.specs.Prelude.{All, IfErr, ◌/◌, ◌%◌, ◌≤◌, slice_index, set, Vec}
 use Rattle.std.specs.List.{onto_first, starts_with}
 use Rattle.std.specs.Prelude.{◌&&◌, nat_eq}
-use Rattle.std.specs.Str.{is_utf8, IsAscii, IsUtf8}
+use Rattle.std.specs.IoError.{error_kind}
+use Rattle.std.specs.declared.io.Error.{Error}
+use Rattle.std.specs.declared.io.ErrorKind.TheVariants.{OutOfMemory}
+use Rattle.std.specs.Str.{IsAscii}
 use Rattle.std.proofs.lemmas.Bool.{cases_Bool}
 use Rattle.std.proofs.lemmas.Bool.Decides.{nat_tests}
 use Rattle.std.proofs.Common.{get_or}
@@ -14,15 +17,16 @@ use Rattle.std.proofs.Math.Seq.{drop-cons, take-suc}
 use Rattle.std.proofs.lemmas.Grind.{flat_map-append}
 use Rattle.std.proofs.lemmas.List.{drop-set-lt, length-set, map-append, take-append-drop, take_all, take_more_set}
 use Rattle.std.proofs.lemmas.List.Elements.{All-append, All-cons, All-head, All-nil, All-tail}
-use Rattle.std.proofs.lemmas.Str.{IsUtf8-from_ascii, IsUtf8-from_is_utf8, is_utf8-from_IsUtf8}
+use Rattle.std.proofs.lemmas.Str.{IsUtf8-from_ascii}
 use Rattle.std.proofs.lemmas.Str.Ascii.{IsAscii-cons, IsAscii-nil}
 use Rattle.hex.specs.Hex.{IsBytes, encode_lower, encode_with, lower_digits}
 use Rattle.lasso_parts.specs.Texts.{Text}
 use Rattle.lasso_single.specs.Interner.{InternerView}
 use Rattle.lasso_input.specs.Lines.{lines_of, is_line_feed, NoFeed}
-use Rattle.lasso_input.specs.Texts.{escaped, is_marked, is_own_text, mark, text_of}
+use Rattle.lasso_input.specs.Texts.{escaped, is_let_in, is_marked, is_own_text, mark, text_of}
 use Rattle.lasso_input.proofs.FirstLines.{lines_cut, no_feed_both}
-use Rattle.lasso_input.proofs.LineTexts.{other_is_escaped, own_by_parts, own_is_text, own_parts}
+use Rattle.lasso_input.proofs.LettingIn.{own_let_in}
+use Rattle.lasso_input.proofs.LineTexts.{other_is_escaped, own_by_parts, own_is_text}
 use Rattle.lasso_columns.specs.Rows.{EncodesRows}
 use Rattle.lasso_columns.specs.Streams.{AreBytesBy, AreUnreadBy, BecomeTexts, Follow, FollowBy, ReadsBlocks, ReadsTexts, StopsInStream, StopsInStreamBy, lines_in}
 use Rattle.lasso_columns.specs.Texts.{text_by, texts_by}
@@ -86,24 +90,19 @@ free_cond true line free = text_free line free
 free_cond false line free = free
 
 pub text_by_free : (only : Bool) (line : List ℕ) → NoFeed line → NoFeed (text_by only line)
-text_by_free false line free = text_free line free
-text_by_free true line free = free_cond (is_utf8 line) line free
+text_by_free only line free = free_cond (is_let_in only line) line free
 
 -- ---- texts of own lines
 
 pub own_text_by : (only : Bool) (line : List ℕ) → is_own_text line ≡ true → text_by only line ≡ line
-own_text_by false line own = own_is_text line own
-own_text_by true line own = ap (λ c. cond c (text_of line) line) (own_parts line own).0 ∙ own_is_text line own
+own_text_by only line own = ap (λ c. cond c (text_of line) line) (own_let_in only line own) ∙ own_is_text line own
 
--- a line that is refused stays as it is
-pub refused_text : (line : List ℕ) → ¬ (IsUtf8 line) → text_by true line ≡ line
-refused_text line bad = ap (λ c. cond c (text_of line) line) (not_utf8 line bad)
-  where
-    not_utf8 : (line : List ℕ) → ¬ (IsUtf8 line) → is_utf8 line ≡ false
-    not_utf8 line bad = elim (cases_Bool (is_utf8 line)) [ inl utf8 ↦ absurd (bad (IsUtf8-from_is_utf8 line utf8)) | inr other ↦ other ]
+-- a line that is not let in stays as it is
+pub refused_text : (only : Bool) (line : List ℕ) → is_let_in only line ≡ false → text_by only line ≡ line
+refused_text only line out = ap (λ c. cond c (text_of line) line) out
 
-pub other_text : (line : List ℕ) → IsUtf8 line → text_by true line ≡ text_of line
-other_text line utf8 = ap (λ c. cond c (text_of line) line) (is_utf8-from_IsUtf8 line utf8)
+pub other_text : (only : Bool) (line : List ℕ) → is_let_in only line ≡ true → text_by only line ≡ text_of line
+other_text only line let_in = ap (λ c. cond c (text_of line) line) let_in
 
 -- ---- bytes that are made of texts
 
@@ -236,19 +235,19 @@ pub texts_none : (by : LineTexts) → texts_by by [] ≡ []
 texts_none Own = refl
 texts_none (OfBytes only) = refl
 
--- nothing is said of what follows an error; else all follows as before
-follow_own : {E : Type 0} (more : Result Bool E) (left : Option (List ℕ)) (lines : List (List ℕ)) → Follow more left lines → FollowBy Own more left lines
+-- what follows the blocks that were read follows their texts
+follow_own : (more : Result Bool Error) (left : Option (List ℕ)) (lines : List (List ℕ)) → Follow more left lines → FollowBy Own more left lines
 follow_own (Ok true) left lines follow = follow
 follow_own (Ok false) left lines follow = follow
 follow_own (Err error) left lines follow = follow
 
-follow_bytes : {E : Type 0} (only : Bool) (more : Result Bool E) (left : Option (List ℕ)) (lines : List (List ℕ)) → Follow more left lines → FollowBy (OfBytes only) more left lines
+follow_bytes : (only : Bool) (more : Result Bool Error) (left : Option (List ℕ)) (lines : List (List ℕ)) → Follow more left lines → FollowBy (OfBytes only) more left lines
 follow_bytes only (Ok true) left lines follow = follow
 follow_bytes only (Ok false) left lines follow = follow
-follow_bytes only (Err error) left lines follow = tt
+follow_bytes only (Err error) left lines follow = inr follow
 
-follow_lost : {E : Type 0} (only : Bool) (more : Result Bool E) (error : E) (left : Option (List ℕ)) (lines : List (List ℕ)) → more ≡ Err error → FollowBy (OfBytes only) more left lines
-follow_lost only more error left lines is = subst (λ m. FollowBy (OfBytes only) m left lines) (sym is) tt
+follow_lost : (only : Bool) (more : Result Bool Error) (error : Error) (left : Option (List ℕ)) (lines : List (List ℕ)) → more ≡ Err error → error_kind error ≡ OutOfMemory → FollowBy (OfBytes only) more left lines
+follow_lost only more error left lines is full = subst (λ m. FollowBy (OfBytes only) m left lines) (sym is) (inl full)
 
 -- lists of lines of bytes, one after the other
 pub bytes_both : (by : LineTexts) (front back : List (List ℕ)) → AreBytesBy by front → AreBytesBy by back → AreBytesBy by (front ++ back)
@@ -260,7 +259,7 @@ bytes_none Own = tt
 bytes_none (OfBytes only) = All-nil IsBytes
 
 -- blocks were read, and became blocks of texts
-pub blocks_become : {A E : Type 0} (by : LineTexts) (before after : Option (List ℕ)) (blocks texts : List (Vec ℕ A)) (more more' : Result Bool E) → ReadsBlocks before after blocks more → BecomeTexts by blocks more texts more' → ReadsTexts by before after texts more'
+pub blocks_become : {A : Type 0} (by : LineTexts) (before after : Option (List ℕ)) (blocks texts : List (Vec ℕ A)) (more more' : Result Bool Error) → ReadsBlocks before after blocks more → BecomeTexts by blocks more texts more' → ReadsTexts by before after texts more'
 blocks_become Own before after blocks texts more more' read become bytes known =
     let lines = read bytes known in
     (lines_in blocks, lines.0, lines.1, become.0, become.1, subst (λ m. FollowBy Own m after lines.0) (sym become.2) (follow_own more after lines.0 lines.2))
@@ -274,21 +273,23 @@ blocks_become (OfBytes only) before after blocks texts more more' read become by
         lines.1 ∙ ap (λ (ls : List (List ℕ)). ls ++ lines.0) lost.2 ∙ append_assoc lost.0 lost.1 lines.0,
         lost.3,
         lost.4,
-        follow_lost only more' lost.5.0 after (lost.1 ++ lines.0) lost.5.1,
+        follow_lost only more' lost.5.0 after (lost.1 ++ lines.0) lost.5.1 lost.5.2,
       )
     ]
 
--- the lines that follow, if they are their own texts, were not read as a whole
-pub unread_by : {E : Type 0} (by : LineTexts) (more : Result Bool E) (left : Option (List ℕ)) (lines : List (List ℕ)) → FollowBy by more left lines → AreUnreadBy by left lines
-unread_by Own (Ok true) left lines follow = ([], follow.0, follow.1, tt, follow.2)
-unread_by Own (Ok false) left lines follow = ([], [], follow.0, tt, follow.1)
-unread_by Own (Err error) left lines follow = follow
-unread_by (OfBytes only) more left lines follow = tt
+-- the lines that follow were not read as a whole, unless there was no memory for their texts
+pub unread_by : (by : LineTexts) (more : Result Bool Error) (left : Option (List ℕ)) (lines : List (List ℕ)) (error : Error) → FollowBy by more left lines → IfErr more (λ failed. error ≡ failed) → AreUnreadBy by error left lines
+unread_by Own (Ok true) left lines error follow same = ([], follow.0, follow.1, tt, follow.2)
+unread_by Own (Ok false) left lines error follow same = ([], [], follow.0, tt, follow.1)
+unread_by Own (Err failed) left lines error follow same = follow
+unread_by (OfBytes only) (Ok true) left lines error follow same = inr ([], follow.0, follow.1, tt, follow.2)
+unread_by (OfBytes only) (Ok false) left lines error follow same = inr ([], [], follow.0, tt, follow.1)
+unread_by (OfBytes only) (Err failed) left lines error follow same = subst (λ e. AreUnreadBy (OfBytes only) e left lines) (sym same) follow
 
 -- no line was read
-pub unread_all : (by : LineTexts) (left : Option (List ℕ)) (bytes : List ℕ) → left ≡ Some bytes → AreUnreadBy by left (lines_of bytes)
-unread_all Own left bytes known = ([], bytes, known, tt, refl)
-unread_all (OfBytes only) left bytes known = tt
+pub unread_all : (by : LineTexts) (error : Error) (left : Option (List ℕ)) (bytes : List ℕ) → left ≡ Some bytes → AreUnreadBy by error left (lines_of bytes)
+unread_all Own error left bytes known = ([], bytes, known, tt, refl)
+unread_all (OfBytes only) error left bytes known = inr ([], bytes, known, tt, refl)
 
 -- ---- blocks, one after another
 
@@ -350,7 +351,7 @@ module _ {A : Type 0} (only : Bool) (blocks now : List (Vec ℕ A)) (i : ℕ) (b
       step (set now i t) t (length-set now i t) (take_more_set now i t inside) (drop-set-lt (i + 1) now i t small) texts
 
 -- all blocks have texts
-pub blocks_end : {A E : Type 0} (only : Bool) (by : LineTexts) (blocks now : List (Vec ℕ A)) (i : ℕ) (more : Result Bool E) → by ≡ OfBytes only → BlocksSoFar only blocks now i → length now ≤ i → BecomeTexts by blocks more now more
+pub blocks_end : {A : Type 0} (only : Bool) (by : LineTexts) (blocks now : List (Vec ℕ A)) (i : ℕ) (more : Result Bool Error) → by ≡ OfBytes only → BlocksSoFar only blocks now i → length now ≤ i → BecomeTexts by blocks more now more
 blocks_end only by blocks now i more is so_far past =
     let all : take i blocks ≡ blocks = take_all i blocks (omega (arith, past, so_far.same_len)) in
     let whole : lines_in now ≡ map (text_by only) (lines_in blocks) = ap lines_in (sym (take_all i now past)) ∙ so_far.made ∙ ap (λ bs. map (text_by only) (lines_in bs)) all in
@@ -358,10 +359,10 @@ blocks_end only by blocks now i more is so_far past =
     rw is (inl (whole, bytes, refl))
 
 -- memory ran out at a block
-pub blocks_lost : {A E : Type 0} (only : Bool) (by : LineTexts) (blocks now left : List (Vec ℕ A)) (i : ℕ) (more : Result Bool E) (error : E) → by ≡ OfBytes only → BlocksSoFar only blocks now i → left ≡ take i now → BecomeTexts by blocks more left (Err error)
-blocks_lost only by blocks now left i more error is so_far left_is =
+pub blocks_lost : {A : Type 0} (only : Bool) (by : LineTexts) (blocks now left : List (Vec ℕ A)) (i : ℕ) (more : Result Bool Error) (error : Error) → by ≡ OfBytes only → BlocksSoFar only blocks now i → left ≡ take i now → error_kind error ≡ OutOfMemory → BecomeTexts by blocks more left (Err error)
+blocks_lost only by blocks now left i more error is so_far left_is full =
     let split : lines_in blocks ≡ lines_in (take i blocks) ++ lines_in (drop i blocks) = ap lines_in (sym (take-append-drop i blocks)) ∙ flat_map-append (λ x. lines_of x.items) (take i blocks) (drop i blocks) in
-    rw is (inr (lines_in (take i blocks), lines_in (drop i blocks), split, ap lines_in left_is ∙ so_far.made, so_far.are_bytes, (error, refl)))
+    rw is (inr (lines_in (take i blocks), lines_in (drop i blocks), split, ap lines_in left_is ∙ so_far.made, so_far.are_bytes, (error, refl, full)))
 
 -- ---- lines that are their own texts
 

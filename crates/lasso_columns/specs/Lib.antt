@@ -6,6 +6,7 @@ pub mod Rows
 pub mod Blocks
 pub mod Texts
 pub mod Streams
+pub mod Steps
 pub mod Layout
 pub mod Dictionaries
 pub mod Counts

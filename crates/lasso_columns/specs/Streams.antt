@@ -1,5 +1,8 @@
 -- Blocks of a stream, and how encoding its lines ends.
-use Rattle.std.specs.Prelude.{ℕ, ◌≡◌, ◌+◌, ◌-◌, length, All, Bool, true, false, List, [], ◌∷◌, ◌++◌, flat_map, Option, Some, Result, Ok, Err, Vec, slice_get, IfSome, ◌⊎◌}
+use Rattle.std.specs.Prelude.{ℕ, ◌≡◌, ◌+◌, ◌-◌, length, All, Bool, true, false, List, [], ◌∷◌, ◌++◌, flat_map, Option, Some, Result, Ok, Err, Vec, slice_get, IfErr, IfSome, ◌⊎◌}
+use Rattle.std.specs.IoError.{error_kind}
+use Rattle.std.specs.declared.io.Error.{Error}
+use Rattle.std.specs.declared.io.ErrorKind.TheVariants.{OutOfMemory}
 use Rattle.hex.specs.Hex.{IsBytes}
 use Rattle.lasso_parts.specs.Texts.{Text}
 use Rattle.lasso_single.specs.Interner.{InternerView}
@@ -64,17 +67,17 @@ AddsLast blocks made last all = (all ≡ made) ⊎ ((length made + 1 ≡ length 
 
 -- ---- lines that get texts
 
--- as `AreUnread`, of lines that are their own texts. Of others nothing is said: memory may run out for the texts of
--- lines that were read
-abbrev pub AreUnreadBy : LineTexts → Option (List ℕ) → List (List ℕ) → Type 0
-AreUnreadBy Own left lines = AreUnread left lines
-AreUnreadBy (OfBytes only) left lines = Unit {0}
+-- as `AreUnread`, if reading ended with this error. Of lines that are not their own texts, those that were read may be
+-- left out too if the error is out of memory: memory may run out for their texts
+abbrev pub AreUnreadBy : LineTexts → Error → Option (List ℕ) → List (List ℕ) → Type 0
+AreUnreadBy Own error left lines = AreUnread left lines
+AreUnreadBy (OfBytes only) error left lines = (error_kind error ≡ OutOfMemory) ⊎ AreUnread left lines
 
 -- as `Follow`, with `AreUnreadBy`
-abbrev pub FollowBy : {E : Type 0} → LineTexts → Result Bool E → Option (List ℕ) → List (List ℕ) → Type 0
+abbrev pub FollowBy : LineTexts → Result Bool Error → Option (List ℕ) → List (List ℕ) → Type 0
 FollowBy by (Ok true) left lines = (rest : List ℕ) × (left ≡ Some rest) × (lines ≡ lines_of rest)
 FollowBy by (Ok false) left lines = (left ≡ Some []) × (lines ≡ [])
-FollowBy by (Err error) left lines = AreUnreadBy by left lines
+FollowBy by (Err error) left lines = AreUnreadBy by error left lines
 
 -- the lines are lists of bytes, unless they are their own texts
 abbrev pub AreBytesBy : LineTexts → List (List ℕ) → Type 0
@@ -82,24 +85,24 @@ AreBytesBy Own lines = Unit {0}
 AreBytesBy (OfBytes only) lines = All IsBytes lines
 
 -- as `ReadsBlocks`, of blocks of the texts of the first lines
-abbrev pub ReadsTexts : {A E : Type 0} → LineTexts → Option (List ℕ) → Option (List ℕ) → List (Vec ℕ A) → Result Bool E → Type 0
+abbrev pub ReadsTexts : {A : Type 0} → LineTexts → Option (List ℕ) → Option (List ℕ) → List (Vec ℕ A) → Result Bool Error → Type 0
 ReadsTexts by before after blocks more =
     (bytes : List ℕ) → before ≡ Some bytes → (first : List (List ℕ)) × (lines : List (List ℕ)) × (lines_of bytes ≡ first ++ lines) × (lines_in blocks ≡ texts_by by first)
     × AreBytesBy by first × FollowBy by more after lines
 
 -- if more lines follow, the first of them were read so as blocks
-abbrev pub ReadsMore : {A E : Type 0} → (follow : Result Bool E) → LineTexts → (before after : Option (List ℕ)) → List (Vec ℕ A) → (more : Result Bool E) → Type 0
+abbrev pub ReadsMore : {A : Type 0} → (follow : Result Bool Error) → LineTexts → (before after : Option (List ℕ)) → List (Vec ℕ A) → (more : Result Bool Error) → Type 0
 ReadsMore follow by before after blocks more = follow ≡ Ok true → ReadsTexts by before after blocks more
 
--- blocks of lines became blocks of their texts: all, or memory ran out for those of the others
-abbrev pub AllBecome : {A E : Type 0} → LineTexts → List (Vec ℕ A) → Result Bool E → List (Vec ℕ A) → Result Bool E → Type 0
+-- blocks of lines became blocks of their texts: all, or memory ran out for those of the others, and that is the error
+abbrev pub AllBecome : {A : Type 0} → LineTexts → List (Vec ℕ A) → Result Bool Error → List (Vec ℕ A) → Result Bool Error → Type 0
 AllBecome by blocks more texts more' = (lines_in texts ≡ texts_by by (lines_in blocks)) × AreBytesBy by (lines_in blocks) × (more' ≡ more)
 
-abbrev pub SomeBecome : {A E : Type 0} → LineTexts → List (Vec ℕ A) → List (Vec ℕ A) → Result Bool E → Type 0
-SomeBecome {A} {E} by blocks texts more =
-    (first : List (List ℕ)) × (others : List (List ℕ)) × (lines_in blocks ≡ first ++ others) × (lines_in texts ≡ texts_by by first) × AreBytesBy by first × ((error : E) × (more ≡ Err error))
+abbrev pub SomeBecome : {A : Type 0} → LineTexts → List (Vec ℕ A) → List (Vec ℕ A) → Result Bool Error → Type 0
+SomeBecome {A} by blocks texts more =
+    (first : List (List ℕ)) × (others : List (List ℕ)) × (lines_in blocks ≡ first ++ others) × (lines_in texts ≡ texts_by by first) × AreBytesBy by first × ((error : Error) × (more ≡ Err error) × (error_kind error ≡ OutOfMemory))
 
-abbrev pub BecomeTexts : {A E : Type 0} → LineTexts → List (Vec ℕ A) → Result Bool E → List (Vec ℕ A) → Result Bool E → Type 0
+abbrev pub BecomeTexts : {A : Type 0} → LineTexts → List (Vec ℕ A) → Result Bool Error → List (Vec ℕ A) → Result Bool Error → Type 0
 BecomeTexts Own blocks more texts more' = AllBecome Own blocks more texts more'
 BecomeTexts (OfBytes only) blocks more texts more' = AllBecome (OfBytes only) blocks more texts more' ⊎ SomeBecome (OfBytes only) blocks texts more'
 
@@ -110,16 +113,18 @@ StopsInStream null old lines before new after left (Line error) = StopsAtRow nul
 StopsInStream null old lines before new after left (Read error) = (rest : List Text) × EncodesRows null old lines rest before new after.items × AreUnread left rest
 
 -- the same of the texts of lines. A fault is that of one of the first lines; or all of these were encoded, and a read
--- failed or there was no memory
+-- failed with this error or there was no memory
 abbrev pub StopsBy : {A : Type 0} → LineTexts → Option Text → InternerView → List (List ℕ) → List (List ℕ) → List ℕ → InternerView → Vec ℕ A → Option (List ℕ) → StreamError → Type 0
 StopsBy by null old first rest before new after left (Line error) = StopsAtRow null old (texts_by by first) before new after error
-StopsBy by null old first rest before new after left (Read error) = EncodesRows null old (texts_by by first) [] before new after.items × AreUnreadBy by left rest
+StopsBy by null old first rest before new after left (Read error) = EncodesRows null old (texts_by by first) [] before new after.items × AreUnreadBy by error left rest
 
 abbrev pub StopsInStreamBy : {A : Type 0} → LineTexts → Option Text → InternerView → List (List ℕ) → List ℕ → InternerView → Vec ℕ A → Option (List ℕ) → StreamError → Type 0
 StopsInStreamBy by null old lines before new after left error =
     (first : List (List ℕ)) × (rest : List (List ℕ)) × (lines ≡ first ++ rest) × AreBytesBy by first × StopsBy by null old first rest before new after left error
 
--- how the last round of a call ends: a line of its blocks has this fault, or all of their lines were encoded
-abbrev pub EndsRound : {A : Type 0} → Option Text → InternerView → List Text → List ℕ → InternerView → Vec ℕ A → ℕ → StreamError → Type 0
-EndsRound null old lines before new after start (Line error) = StopsInRound null old lines before new after start error
-EndsRound null old lines before new after start (Read error) = EncodesRows null old lines [] before new after.items
+-- how the last round of a call ends: a line of its blocks has this fault; or all of their lines were encoded, and if a
+-- read failed after them, the error is that of the read
+abbrev pub EndsRound : {A : Type 0} → Option Text → InternerView → List Text → Result Bool Error → List ℕ → InternerView → Vec ℕ A → ℕ → StreamError → Type 0
+EndsRound null old lines more before new after start (Line error) = StopsInRound null old lines before new after start error
+EndsRound null old lines more before new after start (Read error) =
+    EncodesRows null old lines [] before new after.items × IfErr more (λ failed. error ≡ failed)

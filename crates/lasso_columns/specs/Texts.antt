@@ -1,15 +1,13 @@
 -- How lines get texts.
-use Rattle.std.specs.Prelude.{ℕ, Bool, true, false, List, map, if◌then◌else◌}
-use Rattle.std.specs.Str.{is_utf8}
-use Rattle.lasso_input.specs.Texts.{text_of}
+use Rattle.std.specs.Prelude.{ℕ, Bool, List, map, if◌then◌else◌}
+use Rattle.lasso_input.specs.Texts.{is_let_in, text_of}
 use Rattle.lasso_parts.specs.Texts.{Text}
 use Rattle.lasso_columns.specs.declared.line_texts.LineTexts.{LineTexts}
 use Rattle.lasso_columns.specs.declared.line_texts.LineTexts.TheVariants.{Own, OfBytes}
 
--- the text of a line of any bytes; with `true`, a line that is not UTF-8 stays as it is, and so is refused
+-- the text of a line that is let in; another line, which is not UTF-8, stays as it is, and so is refused
 abbrev pub text_by : Bool → List ℕ → Text
-text_by false line = text_of line
-text_by true line = if is_utf8 line then text_of line else line
+text_by only line = if is_let_in only line then text_of line else line
 
 -- the texts of the lines
 abbrev pub texts_by : LineTexts → List (List ℕ) → List Text

@@ -1,5 +1,6 @@
 //! The errors of encoding lines, decoding codes, and writing and reading dictionaries.
 ghost use Rattle.std.specs.Prelude.{◌≡◌, Some};
+ghost use Rattle.lasso_columns.specs.Blocks.{numbered};
 ghost use Rattle.lasso_columns.specs.Faults.{line_error_text, decode_error_text, write_error_text, read_error_text};
 ghost use Rattle.lasso_columns.specs.declared.faults.WriteError.TheVariants.{NoMemory};
 
@@ -15,6 +16,18 @@ pub enum LineError {
     Refused(usize, LassoError),
     /// The line of this number is not UTF-8.
     NotText(usize),
+}
+
+impl LineError {
+    /// The same error of the line with this number.
+    pub fn at_line(self, number: usize) -> Self
+        ensures { result ≡ numbered self number }
+    {
+        match self {
+            LineError::Refused(_, error) => LineError::Refused(number, error),
+            LineError::NotText(_) => LineError::NotText(number),
+        }
+    }
 }
 
 impl fmt::Display for LineError {

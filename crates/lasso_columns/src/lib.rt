@@ -5,6 +5,7 @@
 //! a search then takes time linear in their number.
 #![tactic(auto)]
 
+mod ahead;
 mod blocks;
 pub mod counts;
 mod decoding;
@@ -39,5 +40,5 @@ pub use reading::{append_dictionary, read_dictionary};
 pub use rounds::{put_block, put_blocks};
 pub use rows::{NULL, encode_rows, is_null};
 pub use sharing::{encode_shared, encode_shared_as};
-pub use stream::{Rounds, StreamError, encode_stream, encode_stream_by};
+pub use stream::{Rounds, StreamEncoder, StreamError, encode_stream, encode_stream_by};
 pub use writing::{Dictionary, write_dictionary};

@@ -4,10 +4,10 @@ ghost use Rattle.hex.specs.Hex.{IsBytes};
 ghost use Rattle.lasso_columns.specs.Streams.{BecomeTexts, lines_in};
 ghost use Rattle.lasso_columns.specs.Texts.{text_by, texts_by};
 ghost use Rattle.lasso_input.specs.Lines.{lines_of};
-ghost use Rattle.lasso_input.specs.Texts.{escaped, text_of};
+ghost use Rattle.lasso_input.specs.Texts.{escaped};
 
 use crate::reading_blocks::Blocks;
-use lasso_input::{Line, Stretch, append_escaped, own_text};
+use lasso_input::{Line, Stretch, append_escaped, is_let_in, own_text};
 use std::alloc::{AllocError, Global};
 use std::io;
 use std::io::ErrorKind;
@@ -93,20 +93,6 @@ fn stays(line: &Line<'_>, only_utf8: bool) -> bool
 {
     match own_text(line) {
         Some(_) => true,
-        None => is_refused(line, only_utf8),
-    }
-}
-
-// Whether the line is refused: it is not UTF-8, and only UTF-8 is let in.
-fn is_refused(line: &Line<'_>, only_utf8: bool) -> bool
-    ensures line { result ≡ true → text_by only_utf8 line.now ≡ line.now }
-    ensures text { result ≡ false → text_by only_utf8 line.now ≡ text_of line.now }
-{
-    if !only_utf8 {
-        return false;
-    }
-    match line.text() {
-        Ok(_) => false,
-        Err(_) => true,
+        None => !is_let_in(line, only_utf8),
     }
 }

@@ -1,6 +1,6 @@
 //! Puts encoded blocks into an interner, in their order.
 ghost use Rattle.std.specs.Prelude.{◌≡◌, ◌+◌, ◌≤◌, [], Some, OnOk, IfErr, IfSome, IsTrue, length, map, slice_get, vec_capacity, vec_len};
-ghost use Rattle.lasso_columns.specs.Blocks.{AddsPlaced, IsBlockToPut, StopsInRound, block_end, numbered, placed};
+ghost use Rattle.lasso_columns.specs.Blocks.{AddsPlaced, IsBlockToPut, StopsInRound, block_end, placed};
 ghost use Rattle.lasso_columns.specs.Rows.{word_of, EncodesRows, StopsAtRow};
 ghost use Rattle.lasso_columns.specs.Streams.{AreBlocksFor, lines_in};
 ghost use Rattle.lasso_input.specs.Lines.{lines_of};
@@ -34,7 +34,7 @@ pub fn put_blocks<S: BuildHasher, A: Allocator + Clone>(
 {
     for i in 0..blocks.len() {
         if let Err(error) = put_block(alloc, rodeo, &blocks[i], block_at(made, i), null, entries) {
-            return Err(numbered(error, entries.len().saturating_sub(start) + 1));
+            return Err(error.at_line(entries.len().saturating_sub(start) + 1));
         }
     }
     Ok(())
@@ -47,16 +47,6 @@ fn block_at(made: &[Option<Block>], i: usize) -> Option<&Block>
     match made.get(i) {
         Some(Some(block)) => Some(block),
         _ => None,
-    }
-}
-
-// The same error of the line with this number.
-fn numbered(error: LineError, number: usize) -> LineError
-    ensures { result ≡ numbered error number }
-{
-    match error {
-        LineError::Refused(_, error) => LineError::Refused(number, error),
-        LineError::NotText(_) => LineError::NotText(number),
     }
 }
 

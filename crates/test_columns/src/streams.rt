@@ -2,7 +2,7 @@
 //! workers. The entries were worked out by hand, or are what `encode_rows` leaves of all bytes.
 use crate::checks::{all_right, is_by_the_limit, is_so};
 use lasso::{Capacity, LassoResult, MemoryLimits, Rodeo, SpurRodeo};
-use lasso_columns::{LineError, NULL, Rounds, StreamError, encode_rows};
+use lasso_columns::{LineError, LineTexts, NULL, Rounds, StreamEncoder, StreamError, encode_rows};
 use std::alloc::Global;
 use std::io;
 use std::io::{BufRead, BufReader, ErrorKind, Read};
@@ -421,6 +421,50 @@ fn example_of_encode_stream(rt: HostRuntime) -> Result<(), Fail> {
     is_so(
         &rt,
         entries.as_slice() == [0, NULL, 1, 0].as_slice(),
+        "entries",
+    );
+    Ok(())
+}
+
+// The entries of a stream, taken round by round. None if there are fewer than two rounds or a thousand.
+fn by_rounds<R: AllocGlobal + Threads + Sync>(
+    rt: &R,
+    bytes: &[u8],
+    rounds: Rounds,
+) -> Result<Vec<u32>, Fail> {
+    let mut rodeo: SpurRodeo = Rodeo::default(rt.alloc())?;
+    let mut input = BufReader::new(rt.alloc(), bytes)?;
+    let mut encoder = StreamEncoder::new(rt.alloc(), &mut input, rounds, LineTexts::Own)?;
+    let mut all = Vec::new(rt.alloc());
+    let mut entries = Vec::new(rt.alloc());
+    for number in 0..1000usize {
+        let round = encoder.encode_round(rt, &mut input, &mut rodeo, Some(b"-"), &mut entries);
+        all.extend_from_slice(&entries)?;
+        entries.clear();
+        if let Ok(true) = round {
+            continue;
+        }
+        if number == 0 || round.is_err() {
+            all.clear();
+        }
+        return Ok(all);
+    }
+    all.clear();
+    Ok(all)
+}
+
+#[test]
+fn a_stream_is_encoded_round_by_round(rt: HostRuntime) -> Result<(), Fail> {
+    let rounds = Rounds {
+        workers: 2,
+        alone: 1,
+        smallest: 1,
+        largest: 1,
+    };
+    let entries = by_rounds(&rt, b"to\n-\nbe\nto\nbe\nto\nor\n", rounds)?;
+    is_so(
+        &rt,
+        entries.as_slice() == [0, NULL, 1, 0, 1, 0, 2].as_slice(),
         "entries",
     );
     Ok(())

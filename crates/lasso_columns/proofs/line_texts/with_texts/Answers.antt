@@ -17,7 +17,7 @@ loop-i-preserved-then-are_own_texts c =
 pub returns-in_default-text_block : goal.returns-in_default-text_block
 returns-in_default-text_block c =
     let at = c.loop-i in
-    blocks_lost c.in-OfBytes.only_utf8 c.args.by c.args.read.blocks.items at.blocks.items c.truncate.new.self.items at.i c.args.read.more c.from.result c.in-OfBytes.is at.invariant c.truncate.ensures.items
+    blocks_lost c.in-OfBytes.only_utf8 c.args.by c.args.read.blocks.items at.blocks.items c.truncate.new.self.items at.i c.args.read.more c.from.result c.in-OfBytes.is at.invariant c.truncate.ensures.items c.from.ensures
 
 pub loop-i-preserved : goal.loop-i-preserved
 loop-i-preserved c =

@@ -27,7 +27,7 @@ returns-in-Err-clause-stops g c =
     let more = lines_in (drop (at.i + 1) c.args.blocks.now) in
     let is : lines_in (drop at.i c.args.blocks.now) ≡ lines_of c.deref.result.now ++ more =
     lines_from c.args.blocks.now at.i c.index-blocks-i.result c.loop-i-test.true ∙ ap (λ (bs : List ℕ). lines_of bs ++ more) (ap (λ b. b.items) (sym c.index-blocks-i.is) ∙ sym c.deref.ensures.value) in
-    rw (c.numbered.ensures) (block_stops_round (word_of c.args.null) c.args.rodeo.now at.rodeo c.put_block.new.rodeo (lines_in c.args.blocks.now) (lines_in (drop at.i c.args.blocks.now)) (lines_of c.deref.result.now) more c.args.entries.now.items at.entries.items c.put_block.new.entries c.args.start _ c.in-Err.error at.invariant is c.in-Err.ensures.stops (omega (arith, c.saturating_sub.ensures, c.len.ensures)))
+    rw (c.at_line.ensures) (block_stops_round (word_of c.args.null) c.args.rodeo.now at.rodeo c.put_block.new.rodeo (lines_in c.args.blocks.now) (lines_in (drop at.i c.args.blocks.now)) (lines_of c.deref.result.now) more c.args.entries.now.items at.entries.items c.put_block.new.entries c.args.start _ c.in-Err.error at.invariant is c.in-Err.ensures.stops (omega (arith, c.saturating_sub.ensures, c.len.ensures)))
 
 pub loop-i-preserved : goal.loop-i-preserved
 loop-i-preserved g c =

@@ -3,7 +3,7 @@ use Rattle.std.proofs.lemmas.List.{length-take}
 use Rattle.lasso_columns.specs.Rows.{word_of}
 use Rattle.lasso_columns.specs.Streams.{AreBlocksFor}
 use Rattle.lasso_columns.proofs.PutBlocks.{first_for, made_for}
-use Rattle.lasso_columns.proofs.stream.encode_others.Goals as goal
+use Rattle.lasso_columns.proofs.ahead.encode_others.Goals as goal
 
 pub returns-in-Ok : goal.returns-in-Ok
 returns-in-Ok g c =

@@ -1,6 +1,6 @@
 use Rattle.lasso_columns.specs.Rows.{word_of}
 use Rattle.lasso_columns.proofs.PutBlocks.{last_for}
-use Rattle.lasso_columns.proofs.stream.all_made.Goals as goal
+use Rattle.lasso_columns.proofs.ahead.all_made.Goals as goal
 
 pub returns : goal.returns
 returns c =

@@ -1,5 +1,5 @@
 use Rattle.lasso_columns.proofs.TextLines.{blocks_become}
-use Rattle.lasso_columns.proofs.stream.read_text_blocks.Goals as goal
+use Rattle.lasso_columns.proofs.ahead.read_text_blocks.Goals as goal
 
 pub returns : goal.returns
 returns g c =
