@@ -3,7 +3,7 @@
 -- The lines of the input are those that were counted, and then those of the rest. If nothing is left, all
 -- were counted, and the ranked texts are each distinct line once with its count. The report is written from
 -- its start, so what was written when a write fails is a beginning of it. Nothing is written before that.
-use Rattle.std.proofs.Common.{ℕ, ◌≡◌, ◌+◌, Bool, List, [], ◌∷◌, ◌++◌, length, map, take, drop, get_or, ◌⊎◌, ◌<◌, min, Result, Ok, Err, refl, sym, ap, subst, ◌∙◌, arith, append_assoc, inl, inr, ◌-◌, ◌^◌, ◌≤◌}
+use Rattle.std.proofs.Common.{ℕ, ◌≡◌, ◌+◌, Bool, List, [], ◌∷◌, ◌++◌, length, map, take, drop, get_or, ◌⊎◌, ◌<◌, min, Option, Some, Result, Ok, Err, refl, sym, ap, subst, ◌∙◌, arith, append_assoc, inl, inr, ◌-◌, ◌^◌, ◌≤◌}
 use Rattle.std.specs.Prelude.{flat_map, slice_get, IsSomeAnd, IsPermutation, IsSorted, sum_by}
 use Rattle.std.proofs.lemmas.Bool.{cases_order}
 use Rattle.std.proofs.lemmas.Grind.{flat_map-append}
@@ -25,11 +25,11 @@ use Rattle.lasso_codes.specs.Counts.{count_line, counted_lines, CountingError, C
 use Rattle.lasso_codes.specs.Errors.{IsReadError, IsWriteEnd}
 use Rattle.lasso_codes.specs.Limits.{line_texts, AreLetIn, AreTaken, IsLetIn, IsLineFault}
 use Rattle.lasso_codes.specs.Stages.{Counting}
-use Rattle.lasso_codes.specs.Streams.{WritesAll}
+use Rattle.lasso_codes.specs.Streams.{LosesPart, WritesAll}
 use Rattle.lasso_codes.specs.declared.error.RunError.{RunError}
 use Rattle.lasso_codes.specs.declared.error.RunError.TheVariants.{Line, TooManyLines, ReadFailed, WriteFailed, ReaderGone, Column}
 use Rattle.lasso_codes.proofs.LineTexts.{extend_line, texts_push}
-use Rattle.lasso_codes.proofs.Taken.{taken_push, taken_all, taken_first, taken_let_in, taken_few, taken_next}
+use Rattle.lasso_codes.proofs.Taken.{taken_push, taken_all, taken_fails, taken_first, taken_let_in, taken_few, taken_next}
 
 -- one line more
 -- no line was counted
@@ -75,21 +75,22 @@ module _ (input rest : List ℕ) (only : Bool) (number : ℕ) (old now : Interne
       subst (λ (ls : List Text). extend spur_at (made_with 4096 limit) (line_texts ls) accepted now) (sym (taken_first input rest only number so_far.done so_far.taken)) list
 
   -- there are more lines than `usize` can number
-  pub counting_many : (limit : ℕ) → 2 ^ 64 - 1 ≤ number → CountingError only limit (lines_of input) TooManyLines
-  counting_many limit many = omega (arith, so_far.taken.counted, lines_few, many)
+  pub counting_many : (limit : ℕ) (after : Option (List ℕ)) → 2 ^ 64 - 1 ≤ number → CountingError only limit (lines_of input) after TooManyLines
+  counting_many limit after many = omega (arith, so_far.taken.counted, lines_few, many)
 
-  pub counting_read_fails : (limit : ℕ) (error : RunError) → old ≡ made_with 4096 limit → IsReadError number error → CountingError only limit (lines_of input) error
-  counting_read_fails limit (Line error) made is =
+  pub counting_read_fails : (limit : ℕ) (before after : Option (List ℕ)) (error : RunError) → old ≡ made_with 4096 limit → before ≡ Some rest → LosesPart before after → IsReadError number error → CountingError only limit (lines_of input) after error
+  counting_read_fails limit before after (Line error) made there lost is =
       (length so_far.done, inr (first_let_in, (now, first_list limit made, inl (is ∙ ap (λ n. Refused n FailedAllocation) (sym so_far.taken.counted), lines_few))))
-  counting_read_fails limit TooManyLines made is = absurd is
-  counting_read_fails limit ReadFailed made is = tt
-  counting_read_fails limit WriteFailed made is = absurd is
-  counting_read_fails limit ReaderGone made is = absurd is
-  counting_read_fails limit (Column column error) made is = absurd is
+  counting_read_fails limit before after TooManyLines made there lost is = absurd is
+  counting_read_fails limit before after ReadFailed made there lost is =
+      (length so_far.done, (first_let_in, (now, first_list limit made)), taken_fails input rest only number so_far.done so_far.taken before after there lost)
+  counting_read_fails limit before after WriteFailed made there lost is = absurd is
+  counting_read_fails limit before after ReaderGone made there lost is = absurd is
+  counting_read_fails limit before after (Column column error) made there lost is = absurd is
 
   -- the next line is refused or not let in
-  pub counting_line_fails : (limit : ℕ) (line left : List ℕ) (error : LineError) → old ≡ made_with 4096 limit → lines_of rest ≡ line ∷ lines_of left → IsLineFault only now line number error → CountingError only limit (lines_of input) (Line error)
-  counting_line_fails limit line left error made cut is =
+  pub counting_line_fails : (limit : ℕ) (after : Option (List ℕ)) (line left : List ℕ) (error : LineError) → old ≡ made_with 4096 limit → lines_of rest ≡ line ∷ lines_of left → IsLineFault only now line number error → CountingError only limit (lines_of input) after (Line error)
+  counting_line_fails limit after line left error made cut is =
       let faulty : IsLineFault only now line (length so_far.done + 1) error = subst (λ n. IsLineFault only now line n error) (sym so_far.taken.counted) is in
       let next : IsSomeAnd (slice_get (lines_of input) (length so_far.done)) (λ l. IsLineFault only now l (length so_far.done + 1) error) =
       subst (λ o. IsSomeAnd o (λ l. IsLineFault only now l (length so_far.done + 1) error)) (sym (taken_next input rest only number so_far.done line (lines_of left) so_far.taken cut)) faulty in
@@ -122,27 +123,27 @@ lines_fail see xs i d part more error small so_far written =
     (written.0, (written.1.0 ++ rest, whole ∙ ap (λ bs. bs ++ rest) (front ∙ grown) ∙ append_assoc (part ++ more) written.1.0 rest))
 
 -- a report is written, or a beginning of it
-pub report_written : (input : List ℕ) (only : Bool) (limit top : ℕ) (ranked : List (ℕ × Text)) (part : List ℕ) (result : Result (Unit {0}) RunError) → AreTaken only limit (lines_of input) → IsPermutation (counted_lines (lines_of input)) ranked → IsSorted ranked_cmp ranked → sum_by (λ pair. pair.0) ranked ≡ length (lines_of input) → WritesAll (flat_map count_line (take top ranked)) result part → CountsEnd input only limit top part result
-report_written input only limit top ranked part (Ok x) texts order sorted total written = (texts, (ranked, order, sorted, total, written))
-report_written input only limit top ranked part (Err (Line error)) texts order sorted total written = absurd written.0
-report_written input only limit top ranked part (Err TooManyLines) texts order sorted total written = absurd written.0
-report_written input only limit top ranked part (Err ReadFailed) texts order sorted total written = absurd written.0
-report_written input only limit top ranked part (Err WriteFailed) texts order sorted total written = inr (flat_map count_line (take top ranked), (ranked, order, sorted, total, refl), written.1)
-report_written input only limit top ranked part (Err ReaderGone) texts order sorted total written = inr (flat_map count_line (take top ranked), (ranked, order, sorted, total, refl), written.1)
-report_written input only limit top ranked part (Err (Column column error)) texts order sorted total written = absurd written.0
+pub report_written : (input : List ℕ) (only : Bool) (limit top : ℕ) (after : Option (List ℕ)) (ranked : List (ℕ × Text)) (part : List ℕ) (result : Result (Unit {0}) RunError) → AreTaken only limit (lines_of input) → IsPermutation (counted_lines (lines_of input)) ranked → IsSorted ranked_cmp ranked → sum_by (λ pair. pair.0) ranked ≡ length (lines_of input) → WritesAll (flat_map count_line (take top ranked)) result part → CountsEnd input only limit top after part result
+report_written input only limit top after ranked part (Ok x) texts order sorted total written = (texts, (ranked, order, sorted, total, written))
+report_written input only limit top after ranked part (Err (Line error)) texts order sorted total written = absurd written.0
+report_written input only limit top after ranked part (Err TooManyLines) texts order sorted total written = absurd written.0
+report_written input only limit top after ranked part (Err ReadFailed) texts order sorted total written = absurd written.0
+report_written input only limit top after ranked part (Err WriteFailed) texts order sorted total written = inr (flat_map count_line (take top ranked), (ranked, order, sorted, total, refl), written.1)
+report_written input only limit top after ranked part (Err ReaderGone) texts order sorted total written = inr (flat_map count_line (take top ranked), (ranked, order, sorted, total, refl), written.1)
+report_written input only limit top after ranked part (Err (Column column error)) texts order sorted total written = absurd written.0
 
 -- lines were not counted, and nothing is written
-pub none_written : (input : List ℕ) (only : Bool) (limit top : ℕ) (error : RunError) → CountingError only limit (lines_of input) error → CountsEnd input only limit top [] (Err error)
-none_written input only limit top (Line error) is = (refl, is)
-none_written input only limit top TooManyLines is = (refl, is)
-none_written input only limit top ReadFailed is = refl
-none_written input only limit top WriteFailed is = absurd is
-none_written input only limit top ReaderGone is = absurd is
-none_written input only limit top (Column column error) is = absurd is
+pub none_written : (input : List ℕ) (only : Bool) (limit top : ℕ) (after : Option (List ℕ)) (error : RunError) → CountingError only limit (lines_of input) after error → CountsEnd input only limit top after [] (Err error)
+none_written input only limit top after (Line error) is = (refl, is)
+none_written input only limit top after TooManyLines is = (refl, is)
+none_written input only limit top after ReadFailed is = (refl, is)
+none_written input only limit top after WriteFailed is = absurd is
+none_written input only limit top after ReaderGone is = absurd is
+none_written input only limit top after (Column column error) is = absurd is
 
 -- out of memory outside of a line
-pub unmade : (only : Bool) (limit : ℕ) (lines : List Text) (error : RunError) → error ≡ Line (Refused 0 FailedAllocation) → CountingError only limit lines error
-unmade only limit lines error is = subst (CountingError only limit lines) (sym is) (0, inl (refl, refl))
+pub unmade : (only : Bool) (limit : ℕ) (lines : List Text) (after : Option (List ℕ)) (error : RunError) → error ≡ Line (Refused 0 FailedAllocation) → CountingError only limit lines after error
+unmade only limit lines after error is = subst (CountingError only limit lines after) (sym is) (0, inl (refl, refl))
 
 take_least : {X : Type 0} (xs : List X) (top : ℕ) → take (min (length xs) top) xs ≡ take top xs
 take_least xs top = elim (cases_order (length xs) top) [
@@ -156,25 +157,25 @@ pub first_ranked : {X : Type 0} (see : X → ℕ × Text) (xs whole : List X) (t
 first_ranked see xs whole top most is same =
     ap (λ n. map see (take n whole)) is ∙ ap (λ ys. map see (take (min (length xs) top) ys)) same ∙ ap (map see) (take_least xs top) ∙ sym (take-map see top xs)
 
-end_begun : (input : List ℕ) (only : Bool) (limit top : ℕ) (part : List ℕ) (result : Result (Unit {0}) RunError) → CountsEnd input only limit top part result → IsBegun (lines_of input) top part
-end_begun input only limit top part (Ok x) end = inr (part, end.1, ([], sym (append-nil part)))
-end_begun input only limit top part (Err (Line error)) end = inl end.0
-end_begun input only limit top part (Err TooManyLines) end = inl end.0
-end_begun input only limit top part (Err ReadFailed) end = inl end
-end_begun input only limit top part (Err WriteFailed) end = end
-end_begun input only limit top part (Err ReaderGone) end = end
-end_begun input only limit top part (Err (Column column error)) end = absurd end
+end_begun : (input : List ℕ) (only : Bool) (limit top : ℕ) (after : Option (List ℕ)) (part : List ℕ) (result : Result (Unit {0}) RunError) → CountsEnd input only limit top after part result → IsBegun (lines_of input) top part
+end_begun input only limit top after part (Ok x) end = inr (part, end.1, ([], sym (append-nil part)))
+end_begun input only limit top after part (Err (Line error)) end = inl end.0
+end_begun input only limit top after part (Err TooManyLines) end = inl end.0
+end_begun input only limit top after part (Err ReadFailed) end = inl end.0
+end_begun input only limit top after part (Err WriteFailed) end = end
+end_begun input only limit top after part (Err ReaderGone) end = end
+end_begun input only limit top after part (Err (Column column error)) end = absurd end
 
-write_end : (input : List ℕ) (only : Bool) (limit top : ℕ) (part : List ℕ) (result : Result (Unit {0}) RunError) → IsBegun (lines_of input) top part → IsWriteEnd result → CountsEnd input only limit top part result
-write_end input only limit top part (Ok x) begun is = absurd is
-write_end input only limit top part (Err (Line error)) begun is = absurd is
-write_end input only limit top part (Err TooManyLines) begun is = absurd is
-write_end input only limit top part (Err ReadFailed) begun is = absurd is
-write_end input only limit top part (Err WriteFailed) begun is = begun
-write_end input only limit top part (Err ReaderGone) begun is = begun
-write_end input only limit top part (Err (Column column error)) begun is = absurd is
+write_end : (input : List ℕ) (only : Bool) (limit top : ℕ) (after : Option (List ℕ)) (part : List ℕ) (result : Result (Unit {0}) RunError) → IsBegun (lines_of input) top part → IsWriteEnd result → CountsEnd input only limit top after part result
+write_end input only limit top after part (Ok x) begun is = absurd is
+write_end input only limit top after part (Err (Line error)) begun is = absurd is
+write_end input only limit top after part (Err TooManyLines) begun is = absurd is
+write_end input only limit top after part (Err ReadFailed) begun is = absurd is
+write_end input only limit top after part (Err WriteFailed) begun is = begun
+write_end input only limit top after part (Err ReaderGone) begun is = begun
+write_end input only limit top after part (Err (Column column error)) begun is = absurd is
 
 -- the run ends as it did before the flush, or with the error of the flush
-pub end_then : (input : List ℕ) (only : Bool) (limit top : ℕ) (part : List ℕ) (given result : Result (Unit {0}) RunError) → CountsEnd input only limit top part given → (result ≡ given) ⊎ IsWriteEnd result → CountsEnd input only limit top part result
-end_then input only limit top part given result end (inl same) = subst (CountsEnd input only limit top part) (sym same) end
-end_then input only limit top part given result end (inr is) = write_end input only limit top part result (end_begun input only limit top part given end) is
+pub end_then : (input : List ℕ) (only : Bool) (limit top : ℕ) (after : Option (List ℕ)) (part : List ℕ) (given result : Result (Unit {0}) RunError) → CountsEnd input only limit top after part given → (result ≡ given) ⊎ IsWriteEnd result → CountsEnd input only limit top after part result
+end_then input only limit top after part given result end (inl same) = subst (CountsEnd input only limit top after part) (sym same) end
+end_then input only limit top after part given result end (inr is) = write_end input only limit top after part result (end_begun input only limit top after part given end) is

@@ -29,12 +29,12 @@ use Rattle.lasso_codes.specs.Encode.{IsNoNull, IsNumberedAs, IsNumbered, AreNumb
 use Rattle.lasso_codes.specs.Errors.{IsReadError, IsWriteEnd}
 use Rattle.lasso_codes.specs.Limits.{line_texts, Admits, AreLetIn, IsLetIn, IsLineFault}
 use Rattle.lasso_codes.specs.Stages.{IsEntryAs, AreEntries, Encoding}
-use Rattle.lasso_codes.specs.Streams.{Begins, WritesAll}
+use Rattle.lasso_codes.specs.Streams.{LosesPart, Begins, WritesAll}
 use Rattle.lasso_codes.specs.declared.error.RunError.{RunError}
 use Rattle.lasso_codes.specs.declared.error.RunError.TheVariants.{Line, TooManyLines, ReadFailed, WriteFailed, ReaderGone, Column}
 use Rattle.lasso_codes.proofs.FewTexts.{few_texts}
 use Rattle.lasso_codes.proofs.LineTexts.{distinct_are_bytes, extend_line, kept_are_bytes, lines_are_bytes, lines_back, list_of_lines, position_of_text}
-use Rattle.lasso_codes.proofs.Taken.{taken_push, taken_all, taken_first, taken_let_in, taken_few, taken_next}
+use Rattle.lasso_codes.proofs.Taken.{taken_fails, taken_push, taken_all, taken_first, taken_let_in, taken_few, taken_next}
 
 -- ---- numbers of lines
 
@@ -152,27 +152,28 @@ module _ (input rest : List ℕ) (only : Bool) (number : ℕ) (null : Option Tex
       subst (λ (ls : List Text). extend spur_at (made_with 4096 limit) (line_texts (texts_of null ls)) accepted now) (sym (taken_first input rest only number so_far.done so_far.taken)) list
 
   -- there are more lines than `usize` can number
-  pub encoding_many : (limit : ℕ) → 2 ^ 64 - 1 ≤ number → EncodingError only limit null (lines_of input) TooManyLines
-  encoding_many limit many = omega (arith, so_far.taken.counted, lines_few, many)
+  pub encoding_many : (limit : ℕ) (after : Option (List ℕ)) → 2 ^ 64 - 1 ≤ number → EncodingError only limit null (lines_of input) after TooManyLines
+  encoding_many limit after many = omega (arith, so_far.taken.counted, lines_few, many)
 
   -- memory ran out, so a null may be concerned too
   lacks : (error : LineError) → error ≡ Refused (length so_far.done + 1) FailedAllocation → (o : Option Text) → IfSome o (λ line. IsNoNull null line error)
   lacks error is None = tt
   lacks error is (Some line) = subst (IsNoNull null line) (sym is) (inl refl)
 
-  pub encoding_read_fails : (limit : ℕ) (error : RunError) → old ≡ made_with 4096 limit → IsReadError number error → EncodingError only limit null (lines_of input) error
-  encoding_read_fails limit (Line error) made is =
+  pub encoding_read_fails : (limit : ℕ) (before after : Option (List ℕ)) (error : RunError) → old ≡ made_with 4096 limit → before ≡ Some rest → LosesPart before after → IsReadError number error → EncodingError only limit null (lines_of input) after error
+  encoding_read_fails limit before after (Line error) made there lost is =
       let full = is ∙ ap (λ n. Refused n FailedAllocation) (sym so_far.taken.counted) in
       (length so_far.done, inr (first_let_in, (now, first_list limit made, inl (full, lines_few)), lacks error full (slice_get (lines_of input) (length so_far.done))))
-  encoding_read_fails limit TooManyLines made is = absurd is
-  encoding_read_fails limit ReadFailed made is = tt
-  encoding_read_fails limit WriteFailed made is = absurd is
-  encoding_read_fails limit ReaderGone made is = absurd is
-  encoding_read_fails limit (Column column error) made is = absurd is
+  encoding_read_fails limit before after TooManyLines made there lost is = absurd is
+  encoding_read_fails limit before after ReadFailed made there lost is =
+      (length so_far.done, first_let_in, (now, first_list limit made), taken_fails input rest only number so_far.done so_far.taken before after there lost)
+  encoding_read_fails limit before after WriteFailed made there lost is = absurd is
+  encoding_read_fails limit before after ReaderGone made there lost is = absurd is
+  encoding_read_fails limit before after (Column column error) made there lost is = absurd is
 
   -- the next line is refused or not let in
-  pub encoding_line_fails : (limit : ℕ) (line left : List ℕ) (error : LineError) → old ≡ made_with 4096 limit → lines_of rest ≡ line ∷ lines_of left → IsLineFault only now line number error → IsNoNull null line error → EncodingError only limit null (lines_of input) (Line error)
-  encoding_line_fails limit line left error made cut is no_null =
+  pub encoding_line_fails : (limit : ℕ) (after : Option (List ℕ)) (line left : List ℕ) (error : LineError) → old ≡ made_with 4096 limit → lines_of rest ≡ line ∷ lines_of left → IsLineFault only now line number error → IsNoNull null line error → EncodingError only limit null (lines_of input) after (Line error)
+  encoding_line_fails limit after line left error made cut is no_null =
       let there : slice_get (lines_of input) (length so_far.done) ≡ Some line = taken_next input rest only number so_far.done line (lines_of left) so_far.taken cut in
       let faulty : IsLineFault only now line (length so_far.done + 1) error = subst (λ n. IsLineFault only now line n error) (sym so_far.taken.counted) is in
       let next : IsSomeAnd (slice_get (lines_of input) (length so_far.done)) (λ l. IsLineFault only now l (length so_far.done + 1) error) =
@@ -181,18 +182,18 @@ module _ (input rest : List ℕ) (only : Bool) (number : ℕ) (null : Option Tex
 
 -- ---- the column
 
-written_end : (input : List ℕ) (only : Bool) (limit : ℕ) (null : Option Text) (binary : Bool) (part : List ℕ) (result : Result (Unit {0}) RunError) → AreLetIn only (lines_of input) → AreCodable null (lines_of input) → Admits limit (line_texts (texts_of null (lines_of input))) → WritesAll (column_bytes binary null (lines_of input)) result part → EncodeEnd input only limit null binary part result
-written_end input only limit null binary part (Ok x) texts few admitted written = (texts, written, few, admitted)
-written_end input only limit null binary part (Err (Line error)) texts few admitted written = absurd written.0
-written_end input only limit null binary part (Err TooManyLines) texts few admitted written = absurd written.0
-written_end input only limit null binary part (Err ReadFailed) texts few admitted written = absurd written.0
-written_end input only limit null binary part (Err WriteFailed) texts few admitted written = written.1
-written_end input only limit null binary part (Err ReaderGone) texts few admitted written = written.1
-written_end input only limit null binary part (Err (Column column error)) texts few admitted written = absurd written.0
+written_end : (input : List ℕ) (only : Bool) (limit : ℕ) (null : Option Text) (binary : Bool) (after : Option (List ℕ)) (part : List ℕ) (result : Result (Unit {0}) RunError) → AreLetIn only (lines_of input) → AreCodable null (lines_of input) → Admits limit (line_texts (texts_of null (lines_of input))) → WritesAll (column_bytes binary null (lines_of input)) result part → EncodeEnd input only limit null binary after part result
+written_end input only limit null binary after part (Ok x) texts few admitted written = (texts, written, few, admitted)
+written_end input only limit null binary after part (Err (Line error)) texts few admitted written = absurd written.0
+written_end input only limit null binary after part (Err TooManyLines) texts few admitted written = absurd written.0
+written_end input only limit null binary after part (Err ReadFailed) texts few admitted written = absurd written.0
+written_end input only limit null binary after part (Err WriteFailed) texts few admitted written = written.1
+written_end input only limit null binary after part (Err ReaderGone) texts few admitted written = written.1
+written_end input only limit null binary after part (Err (Column column error)) texts few admitted written = absurd written.0
 
 -- a column is written, or a beginning of it
-pub column_written : (input : List ℕ) (only : Bool) (limit : ℕ) (null : Option Text) (binary : Bool) (table list : List Text) (numbers : List ℕ) (part : List ℕ) (result : Result (Unit {0}) RunError) → AreLetIn only (lines_of input) → table ≡ map line_of list → AreNumbered null (lines_of input) list numbers → Admits limit (line_texts (texts_of null (lines_of input))) → length numbers < 2 ^ 64 → WritesAll (column_of binary table (map entry_at numbers)) result part → EncodeEnd input only limit null binary part result
-column_written input only limit null binary table list numbers part result texts table_is are admitted many written =
+pub column_written : (input : List ℕ) (only : Bool) (limit : ℕ) (null : Option Text) (binary : Bool) (after : Option (List ℕ)) (table list : List Text) (numbers : List ℕ) (part : List ℕ) (result : Result (Unit {0}) RunError) → AreLetIn only (lines_of input) → table ≡ map line_of list → AreNumbered null (lines_of input) list numbers → Admits limit (line_texts (texts_of null (lines_of input))) → length numbers < 2 ^ 64 → WritesAll (column_of binary table (map entry_at numbers)) result part → EncodeEnd input only limit null binary after part result
+column_written input only limit null binary after table list numbers part result texts table_is are admitted many written =
     let lines = lines_of input in
     let dictionary = dictionary_of null lines in
     let table_lines : table ≡ dictionary =
@@ -201,43 +202,43 @@ column_written input only limit null binary table list numbers part result texts
     ap (λ (ts : List Text). column_of binary ts (map entry_at numbers)) table_lines ∙ ap (column_of binary dictionary) are.1 in
     let few : length dictionary < 2 ^ 32 = subst (λ n. n < 2 ^ 32) (ap length are.0 ∙ length-map dictionary text_of) are.2 in
     let count : length numbers ≡ length lines = sym (length-map numbers entry_at) ∙ ap length are.1 ∙ length-map lines (entry_of null dictionary) in
-    written_end input only limit null binary part result texts (few, subst (λ n. n < 2 ^ 64) count many) admitted (subst (λ bs. WritesAll bs result part) whole written)
+    written_end input only limit null binary after part result texts (few, subst (λ n. n < 2 ^ 64) count many) admitted (subst (λ bs. WritesAll bs result part) whole written)
 
 -- lines were not encoded, and nothing is written
-pub none_written : (input : List ℕ) (only : Bool) (limit : ℕ) (null : Option Text) (binary : Bool) (error : RunError) → EncodingError only limit null (lines_of input) error → EncodeEnd input only limit null binary [] (Err error)
-none_written input only limit null binary (Line error) is = (refl, is)
-none_written input only limit null binary TooManyLines is = (refl, is)
-none_written input only limit null binary ReadFailed is = refl
-none_written input only limit null binary WriteFailed is = absurd is
-none_written input only limit null binary ReaderGone is = absurd is
-none_written input only limit null binary (Column column error) is = absurd is
+pub none_written : (input : List ℕ) (only : Bool) (limit : ℕ) (null : Option Text) (binary : Bool) (after : Option (List ℕ)) (error : RunError) → EncodingError only limit null (lines_of input) after error → EncodeEnd input only limit null binary after [] (Err error)
+none_written input only limit null binary after (Line error) is = (refl, is)
+none_written input only limit null binary after TooManyLines is = (refl, is)
+none_written input only limit null binary after ReadFailed is = (refl, is)
+none_written input only limit null binary after WriteFailed is = absurd is
+none_written input only limit null binary after ReaderGone is = absurd is
+none_written input only limit null binary after (Column column error) is = absurd is
 
 -- out of memory outside of a line
-pub unmade : (only : Bool) (limit : ℕ) (null : Option Text) (lines : List Text) (error : RunError) → error ≡ Line (Refused 0 FailedAllocation) → EncodingError only limit null lines error
-unmade only limit null lines error is = subst (EncodingError only limit null lines) (sym is) (0, inl (refl, refl))
+pub unmade : (only : Bool) (limit : ℕ) (null : Option Text) (lines : List Text) (after : Option (List ℕ)) (error : RunError) → error ≡ Line (Refused 0 FailedAllocation) → EncodingError only limit null lines after error
+unmade only limit null lines after error is = subst (EncodingError only limit null lines after) (sym is) (0, inl (refl, refl))
 
 nothing_begins : (part whole : List ℕ) → part ≡ [] → Begins part whole
 nothing_begins part whole none = (whole, ap (λ bs. bs ++ whole) (sym none))
 
-end_begun : (input : List ℕ) (only : Bool) (limit : ℕ) (null : Option Text) (binary : Bool) (part : List ℕ) (result : Result (Unit {0}) RunError) → EncodeEnd input only limit null binary part result → Begins part (column_bytes binary null (lines_of input))
-end_begun input only limit null binary part (Ok x) end = ([], sym end.1 ∙ sym (append-nil part))
-end_begun input only limit null binary part (Err (Line error)) end = nothing_begins part (column_bytes binary null (lines_of input)) end.0
-end_begun input only limit null binary part (Err TooManyLines) end = nothing_begins part (column_bytes binary null (lines_of input)) end.0
-end_begun input only limit null binary part (Err ReadFailed) end = nothing_begins part (column_bytes binary null (lines_of input)) end
-end_begun input only limit null binary part (Err WriteFailed) end = end
-end_begun input only limit null binary part (Err ReaderGone) end = end
-end_begun input only limit null binary part (Err (Column column error)) end = absurd end
+end_begun : (input : List ℕ) (only : Bool) (limit : ℕ) (null : Option Text) (binary : Bool) (after : Option (List ℕ)) (part : List ℕ) (result : Result (Unit {0}) RunError) → EncodeEnd input only limit null binary after part result → Begins part (column_bytes binary null (lines_of input))
+end_begun input only limit null binary after part (Ok x) end = ([], sym end.1 ∙ sym (append-nil part))
+end_begun input only limit null binary after part (Err (Line error)) end = nothing_begins part (column_bytes binary null (lines_of input)) end.0
+end_begun input only limit null binary after part (Err TooManyLines) end = nothing_begins part (column_bytes binary null (lines_of input)) end.0
+end_begun input only limit null binary after part (Err ReadFailed) end = nothing_begins part (column_bytes binary null (lines_of input)) end.0
+end_begun input only limit null binary after part (Err WriteFailed) end = end
+end_begun input only limit null binary after part (Err ReaderGone) end = end
+end_begun input only limit null binary after part (Err (Column column error)) end = absurd end
 
-write_end : (input : List ℕ) (only : Bool) (limit : ℕ) (null : Option Text) (binary : Bool) (part : List ℕ) (result : Result (Unit {0}) RunError) → Begins part (column_bytes binary null (lines_of input)) → IsWriteEnd result → EncodeEnd input only limit null binary part result
-write_end input only limit null binary part (Ok x) begun is = absurd is
-write_end input only limit null binary part (Err (Line error)) begun is = absurd is
-write_end input only limit null binary part (Err TooManyLines) begun is = absurd is
-write_end input only limit null binary part (Err ReadFailed) begun is = absurd is
-write_end input only limit null binary part (Err WriteFailed) begun is = begun
-write_end input only limit null binary part (Err ReaderGone) begun is = begun
-write_end input only limit null binary part (Err (Column column error)) begun is = absurd is
+write_end : (input : List ℕ) (only : Bool) (limit : ℕ) (null : Option Text) (binary : Bool) (after : Option (List ℕ)) (part : List ℕ) (result : Result (Unit {0}) RunError) → Begins part (column_bytes binary null (lines_of input)) → IsWriteEnd result → EncodeEnd input only limit null binary after part result
+write_end input only limit null binary after part (Ok x) begun is = absurd is
+write_end input only limit null binary after part (Err (Line error)) begun is = absurd is
+write_end input only limit null binary after part (Err TooManyLines) begun is = absurd is
+write_end input only limit null binary after part (Err ReadFailed) begun is = absurd is
+write_end input only limit null binary after part (Err WriteFailed) begun is = begun
+write_end input only limit null binary after part (Err ReaderGone) begun is = begun
+write_end input only limit null binary after part (Err (Column column error)) begun is = absurd is
 
 -- the run ends as it did before the flush, or with the error of the flush
-pub end_then : (input : List ℕ) (only : Bool) (limit : ℕ) (null : Option Text) (binary : Bool) (part : List ℕ) (given result : Result (Unit {0}) RunError) → EncodeEnd input only limit null binary part given → (result ≡ given) ⊎ IsWriteEnd result → EncodeEnd input only limit null binary part result
-end_then input only limit null binary part given result end (inl same) = subst (EncodeEnd input only limit null binary part) (sym same) end
-end_then input only limit null binary part given result end (inr is) = write_end input only limit null binary part result (end_begun input only limit null binary part given end) is
+pub end_then : (input : List ℕ) (only : Bool) (limit : ℕ) (null : Option Text) (binary : Bool) (after : Option (List ℕ)) (part : List ℕ) (given result : Result (Unit {0}) RunError) → EncodeEnd input only limit null binary after part given → (result ≡ given) ⊎ IsWriteEnd result → EncodeEnd input only limit null binary after part result
+end_then input only limit null binary after part given result end (inl same) = subst (EncodeEnd input only limit null binary after part) (sym same) end
+end_then input only limit null binary after part given result end (inr is) = write_end input only limit null binary after part result (end_begun input only limit null binary after part given end) is

@@ -3,13 +3,15 @@
 -- The first texts of the lines were encoded as rows. A text that is UTF-8 is that of a line that is let in, so these are
 -- the texts of lines that are let in. A line is a null exactly if its text is that of the null. So the list has the texts
 -- of these lines, and the entries are theirs. If the lines are all, the list is their dictionary. Else the next line is at
--- fault, or a read failed. Without a null each entry is a code, so the counts of the codes are those of the lines.
-use Rattle.std.proofs.Common.{ℕ, zero, suc, ◌≡◌, ◌+◌, ◌-◌, ◌<◌, ◌≤◌, ◌⊎◌, inl, inr, Bool, true, false, not, cond, List, [], ◌∷◌, ◌++◌, length, map, take, drop, Option, Some, None, Result, Ok, Err, OnOk, IfErr, refl, sym, ap, subst, ◌∙◌, arith, append-nil, length-append, sum}
-use Rattle.std.specs.Prelude.{All, Vec, IfSome, IsSomeAnd, bytes_eq, option_map, slice_get, replicate}
+-- fault, or a read failed. Without a null each entry is a code.
+use Rattle.std.proofs.Common.{ℕ, zero, suc, ◌≡◌, ◌+◌, ◌-◌, ◌≤◌, ◌⊎◌, inl, inr, Bool, true, false, not, cond, List, [], ◌∷◌, ◌++◌, length, map, take, drop, Option, Some, None, Result, Ok, Err, OnOk, IfErr, refl, sym, ap, subst, ◌∙◌, arith, append-nil, length-append}
+use Rattle.std.specs.Prelude.{All, Vec, IfSome, IsSomeAnd, option_map, slice_get}
+use Rattle.std.specs.IoError.{error_kind}
+use Rattle.std.specs.declared.io.Error.{Error}
+use Rattle.std.specs.declared.io.ErrorKind.TheVariants.{OutOfMemory}
 use Rattle.std.specs.Str.{is_utf8, IsUtf8}
-use Rattle.std.proofs.Math.Seq.{take-append_seam, take-nil}
-use Rattle.std.proofs.lemmas.Bool.{cases_Bool}
-use Rattle.std.proofs.lemmas.List.{length-map, length-replicate, take-append-drop}
+use Rattle.std.proofs.Math.Seq.{take-append_seam}
+use Rattle.std.proofs.lemmas.List.{length-map, take-append-drop, take_all}
 use Rattle.std.proofs.lemmas.List.Elements.{All-cons, All-head, All-nil, All-tail}
 use Rattle.std.proofs.lemmas.Str.{is_utf8-from_IsUtf8}
 use Rattle.hex.specs.Hex.{IsBytes}
@@ -23,23 +25,22 @@ use Rattle.lasso_single.specs.Codes.{AreCodes}
 use Rattle.lasso_single.specs.Coding.{spur_at}
 use Rattle.lasso_columns.specs.Rows.{is_null, texts_of, EncodesRows, IsRefusedRow, IsRowFault, StopsAtRow}
 use Rattle.lasso_columns.specs.Rows as rows_of
+use Rattle.lasso_columns.specs.Streams.{AreUnread, AreUnreadBy}
 use Rattle.lasso_columns.specs.Texts.{text_by, texts_by}
 use Rattle.lasso_columns.specs.declared.line_texts.LineTexts.TheVariants.{OfBytes}
 use Rattle.lasso_columns.specs.declared.faults.LineError.{LineError}
 use Rattle.lasso_columns.specs.declared.faults.LineError.TheVariants.{Refused, NotText}
-use Rattle.lasso_columns.specs.Adding.{AddsCounts}
-use Rattle.lasso_columns.specs.Counts.{AreCounts}
-use Rattle.lasso_columns.proofs.Added.{adds_join, all_are, padded}
 use Rattle.lasso_input.specs.Lines.{lines_of}
-use Rattle.lasso_input.specs.Texts.{text_of}
+use Rattle.lasso_input.specs.Texts.{is_let_in, text_of}
 use Rattle.lasso_input.proofs.LineTexts.{text_is_utf8}
-use Rattle.lasso_codes.specs.Counts.{CountingError}
-use Rattle.lasso_codes.specs.Encode.{AreNumbered, EncodingError, IsEncodeError, IsNoNull, StopsEncoding}
+use Rattle.lasso_codes.specs.Encode.{AreNumbered, EncodingError, IsNoNull, StopsEncoding}
 use Rattle.lasso_codes.specs.Errors.{IsReadError}
-use Rattle.lasso_codes.specs.Limits.{is_let_in, line_texts, AreLetIn, IsLetIn, IsLineFault, IsNextError}
+use Rattle.lasso_codes.specs.Limits.{line_texts, AreLetIn, IsLetIn, IsLineFault, IsNextError}
+use Rattle.lasso_codes.specs.Streams.{FailsAfter}
 use Rattle.lasso_codes.specs.Stages.{IsEntryAs, AreEntries, Encoding}
 use Rattle.lasso_codes.specs.declared.error.RunError.{RunError}
 use Rattle.lasso_codes.specs.declared.error.RunError.TheVariants.{Line, TooManyLines, ReadFailed, WriteFailed, ReaderGone, Column}
+use Rattle.lasso_codes.proofs.Cuts.{open_stops}
 use Rattle.lasso_codes.proofs.EncodedLines.{encoding_ends, encoding_interned}
 use Rattle.lasso_codes.proofs.LineTexts.{same_texts}
 
@@ -125,7 +126,7 @@ entries_kept null list (l ∷ ls) (n ∷ ns) word bytes are =
     let here = subst (λ b. rows_of.IsEntryAs b list (text_of l) n) (same_null null l word (All-head IsBytes l ls bytes)) are.0 in
     (entry_kept (is_null null l) list l n here, entries_kept null list ls ns word (All-tail IsBytes l ls bytes) are.1)
 
-entries_many : (null : Option Text) (list lines : List Text) (entries : List ℕ) → AreEntries null list lines entries → length entries ≡ length lines
+pub entries_many : (null : Option Text) (list lines : List Text) (entries : List ℕ) → AreEntries null list lines entries → length entries ≡ length lines
 entries_many null list [] [] are = refl
 entries_many null list [] (n ∷ ns) are = absurd are
 entries_many null list (l ∷ ls) [] are = absurd are
@@ -200,24 +201,28 @@ module _ (only : Bool) (null : Option Text) (old now : InternerView) (first rest
 
 -- ---- all lines
 
+none_left : (f : Text → Text) (xs : List Text) → map f xs ≡ [] → xs ≡ []
+none_left f [] is = refl
+none_left f (x ∷ xs) is = absurd (cc)
+
+-- all of these lines were encoded
+pub rows_all : (only : Bool) (null : Option Text) (old now : InternerView) (first : List Text) (before entries : List ℕ) → IfSome null IsBytes → All IsBytes first → before ≡ [] → EncodesRows (null_text null) old (texts_by (OfBytes only) first) [] before now entries → RowsRun only null old now first entries
+rows_all only null old now first before entries word bytes none rows =
+    let n = run_len only null old now first [] before entries word bytes none rows in
+    let nothing : drop n first ≡ [] = none_left (text_by only) (drop n first) (run_rest only null old now first [] before entries word bytes none rows) in
+    let all : take n first ≡ first = sym (append-nil (take n first)) ∙ ap (λ (ls : List Text). take n first ++ ls) (sym nothing) ∙ take-append-drop n first in
+    subst (λ (ls : List Text). RowsRun only null old now ls entries) all (run_rows only null old now first [] before entries word bytes none rows)
+
 -- all lines were encoded
 run_ends : (input : List ℕ) (only : Bool) (null : Option Text) (old now : InternerView) (before entries : List ℕ) → IfSome null IsBytes → All IsBytes (lines_of input) → before ≡ [] → EncodesRows (null_text null) old (texts_by (OfBytes only) (lines_of input)) [] before now entries → Encoding input [] only (length entries + 1) null old now entries
 run_ends input only null old now before entries word bytes none rows =
-    let run = run_rows only null old now (lines_of input) [] before entries word bytes none rows in
-    let done = run_done only null old now (lines_of input) [] before entries word bytes none rows in
-    let n = run_len only null old now (lines_of input) [] before entries word bytes none rows in
-    let nothing : drop n (lines_of input) ≡ [] = none_left (text_by only) (drop n (lines_of input)) (run_rest only null old now (lines_of input) [] before entries word bytes none rows) in
-    let all : lines_of input ≡ done ++ [] = sym (take-append-drop n (lines_of input)) ∙ ap (λ (ls : List Text). done ++ ls) nothing in
+    let run = rows_all only null old now (lines_of input) before entries word bytes none rows in
     record {
-      done = done;
-      taken = record { split = all; let_in = run.let_in; counted = ap (λ k. k + 1) (sym (entries_many null now.texts done entries run.entries_are)) };
+      done = lines_of input;
+      taken = record { split = sym (append-nil (lines_of input)); let_in = run.let_in; counted = ap (λ k. k + 1) (sym (entries_many null now.texts (lines_of input) entries run.entries_are)) };
       entries = run.entries_are;
       list = run.list;
     }
-  where
-    none_left : (f : Text → Text) (xs : List Text) → map f xs ≡ [] → xs ≡ []
-    none_left f [] is = refl
-    none_left f (x ∷ xs) is = absurd (cc)
 
 pub rows_numbered : (input : List ℕ) (only : Bool) (null : Option Text) (old now : InternerView) (before entries : List ℕ) → IfSome null IsBytes → All IsBytes (lines_of input) → before ≡ [] → old.texts ≡ [] → EncodesRows (null_text null) old (texts_by (OfBytes only) (lines_of input)) [] before now entries → AreLetIn only (lines_of input) × AreNumbered null (lines_of input) now.texts entries
 rows_numbered input only null old now before entries word bytes none empty rows =
@@ -275,18 +280,20 @@ bytes_at zero (l ∷ ls) others line all is = let same : l ≡ line = cc in subs
 bytes_at (suc n) [] others line all is = absurd (cc)
 bytes_at (suc n) (l ∷ ls) others line all is = bytes_at n ls others line (All-tail IsBytes l ls all) is
 
--- the first n lines were encoded, and then this happened
-encode_error : (only : Bool) (limit : ℕ) (null : Option Text) (lines first rest : List Text) (old now : InternerView) (n : ℕ) (entries : List ℕ) (error : LineError) → lines ≡ first ++ rest → n ≤ length first → old ≡ made_with 4096 limit → RowsRun only null old now (take n first) entries → IsNextError only now lines n error → IfSome (slice_get lines n) (λ line. IsNoNull null line error) → EncodingError only limit null lines (Line error)
-encode_error only limit null lines first rest old now n entries error split few made run next no_null =
+-- where encoding stopped: the first n lines were encoded, and the next line is at fault; or a read failed
+abbrev pub RowsStop : Bool → Option Text → InternerView → InternerView → List Text → List ℕ → Option (List ℕ) → RunError → Type 0
+RowsStop only null old now lines entries left (Line error) =
+    (n : ℕ) × RowsRun only null old now (take n lines) entries × IsNextError only now lines n error × IfSome (slice_get lines n) (λ line. IsNoNull null line error)
+RowsStop only null old now lines entries left TooManyLines = ⊥
+RowsStop only null old now lines entries left ReadFailed = (n : ℕ) × RowsRun only null old now (take n lines) entries × (n ≤ length lines) × FailsAfter lines n left
+RowsStop only null old now lines entries left WriteFailed = ⊥
+RowsStop only null old now lines entries left ReaderGone = ⊥
+RowsStop only null old now lines entries left (Column column error) = ⊥
+
+first_run : (only : Bool) (null : Option Text) (lines first rest : List Text) (old now : InternerView) (n : ℕ) (entries : List ℕ) → lines ≡ first ++ rest → n ≤ length first → RowsRun only null old now (take n first) entries → RowsRun only null old now (take n lines) entries
+first_run only null lines first rest old now n entries split few run =
     let same : take n lines ≡ take n first = ap (take n) split ∙ longer_take n first rest few in
-    let list = subst (λ (i : InternerView). extend spur_at i (line_texts (texts_of null (take n first))) accepted now) made run.list in (
-      n,
-      inr (
-        subst (λ (ls : List Text). AreLetIn only ls) (sym same) run.let_in,
-        (now, subst (λ (ls : List Text). extend spur_at (made_with 4096 limit) (line_texts (texts_of null ls)) accepted now) (sym same) list, next),
-        no_null,
-      ),
-    )
+    subst (λ (ls : List Text). RowsRun only null old now ls entries) (sym same) run
 
 lacks : (null : Option Text) (number : ℕ) (error : LineError) → error ≡ Refused number FailedAllocation → (o : Option Text) → IfSome o (λ line. IsNoNull null line error)
 lacks null number error is None = tt
@@ -304,25 +311,47 @@ line_of_text only [] text more is = absurd (cc)
 line_of_text only (l ∷ ls) text more is = let same : text_by only l ≡ text = cc in (l, ls, refl, sym same)
 
 -- the next line is refused or not let in
-rows_line_fails : {A : Type 0} (only : Bool) (null : Option Text) (old now : InternerView) (lines first rest : List Text) (before : List ℕ) (after : Vec ℕ A) (limit : ℕ) (error : LineError) → IfSome null IsBytes → All IsBytes first → lines ≡ first ++ rest → before ≡ [] → old ≡ made_with 4096 limit → StopsAtRow (null_text null) old (map (text_by only) first) before now after error → EncodingError only limit null lines (Line error)
-rows_line_fails only null old now lines first rest before after limit error word bytes split none made stops =
-    let left = stops.0 ∷ stops.1 in
+rows_line_stop : {A : Type 0} (only : Bool) (null : Option Text) (old now : InternerView) (lines first rest : List Text) (before : List ℕ) (after : Vec ℕ A) (left : Option (List ℕ)) (error : LineError) → IfSome null IsBytes → All IsBytes first → lines ≡ first ++ rest → before ≡ [] → StopsAtRow (null_text null) old (map (text_by only) first) before now after error → RowsStop only null old now lines after.items left (Line error)
+rows_line_stop only null old now lines first rest before after left error word bytes split none stops =
+    let ahead = stops.0 ∷ stops.1 in
     let rows = stops.2 in
-    let n = run_len only null old now first left before after.items word bytes none rows in
-    let run = run_rows only null old now first left before after.items word bytes none rows in
-    let long = run_entries only null old now first left before after.items word bytes none rows in
-    let next = line_of_text only (drop n first) stops.0 stops.1 (run_rest only null old now first left before after.items word bytes none rows) in
+    let n = run_len only null old now first ahead before after.items word bytes none rows in
+    let run = run_rows only null old now first ahead before after.items word bytes none rows in
+    let long = run_entries only null old now first ahead before after.items word bytes none rows in
+    let next = line_of_text only (drop n first) stops.0 stops.1 (run_rest only null old now first ahead before after.items word bytes none rows) in
     let number : length after.items - length before + 1 ≡ n + 1 = omega (arith, long, ap length none) in
     let few : n ≤ length first = few_seam n first next.1 next.0 next.2 in
     let there : slice_get lines n ≡ Some next.0 = ap (λ (ls : List Text). slice_get ls n) split ∙ longer_at n first rest next.0 (at_seam n first next.1 next.0 next.2) in
     let fault = subst (λ (t : Text). IsRowFault (null_text null) now after t (n + 1) error) next.3 (subst (λ m. IsRowFault (null_text null) now after stops.0 m error) number stops.3) in
     let why = row_next only null now after next.0 n error word (bytes_at n first next.1 next.0 bytes next.2) fault in
     let inside : n ≤ length lines = omega (arith, few, ap length split, length-append first rest) in
-    encode_error only limit null lines first rest old now n after.items error split few made run (next_error only now lines n next.0 error inside there why.0) (subst (λ o. IfSome o (λ l. IsNoNull null l error)) (sym there) why.1)
+    (n, first_run only null lines first rest old now n after.items split few run, next_error only now lines n next.0 error inside there why.0, subst (λ o. IfSome o (λ l. IsNoNull null l error)) (sym there) why.1)
 
--- a read failed after the first lines, or there was no memory
-rows_read_fails : (only : Bool) (null : Option Text) (old now : InternerView) (lines first rest : List Text) (before after : List ℕ) (limit : ℕ) (error : RunError) → IfSome null IsBytes → All IsBytes first → lines ≡ first ++ rest → before ≡ [] → old ≡ made_with 4096 limit → EncodesRows (null_text null) old (map (text_by only) first) [] before now after → IsReadError (length after + 1) error → EncodingError only limit null lines error
-rows_read_fails only null old now lines first rest before after limit (Line error) word bytes split none made rows is =
+-- a read failed after the first lines: those were encoded, and of the others none was read as a whole
+rows_read_stop : (only : Bool) (null : Option Text) (old now : InternerView) (lines first rest : List Text) (before after : List ℕ) (left : Option (List ℕ)) → IfSome null IsBytes → All IsBytes first → lines ≡ first ++ rest → before ≡ [] → EncodesRows (null_text null) old (map (text_by only) first) [] before now after → AreUnread left rest → RowsStop only null old now lines after left ReadFailed
+rows_read_stop only null old now lines first rest before after left word bytes split none rows unread =
+    let n = run_len only null old now first [] before after word bytes none rows in
+    let run = run_rows only null old now first [] before after word bytes none rows in
+    let many : n ≡ length first = ap length (sym (append-nil rows.done) ∙ sym rows.split) ∙ length-map first (text_by only) in
+    let few : n ≤ length first = omega (arith, many) in
+    let same : take n lines ≡ take n first = ap (take n) split ∙ longer_take n first rest few in
+    let all : take n first ≡ first = take_all n first (omega (arith, many)) in
+    let inside : n ≤ length lines = omega (arith, few, ap length split, length-append first rest) in (
+      n,
+      first_run only null lines first rest old now n after split few run,
+      inside,
+      (
+        unread.0,
+        unread.1,
+        unread.2,
+        split ∙ ap (λ (ls : List Text). ls ++ rest) (sym (same ∙ all)) ∙ ap (λ (ls : List Text). take n lines ++ ls) unread.4,
+        open_stops unread.0 unread.3,
+      ),
+    )
+
+-- or there was no memory
+rows_lack_memory : (only : Bool) (null : Option Text) (old now : InternerView) (lines first rest : List Text) (before after : List ℕ) (left : Option (List ℕ)) (error : LineError) → IfSome null IsBytes → All IsBytes first → lines ≡ first ++ rest → before ≡ [] → EncodesRows (null_text null) old (map (text_by only) first) [] before now after → error ≡ Refused (length after + 1) FailedAllocation → RowsStop only null old now lines after left (Line error)
+rows_lack_memory only null old now lines first rest before after left error word bytes split none rows is =
     let n = run_len only null old now first [] before after word bytes none rows in
     let run = run_rows only null old now first [] before after word bytes none rows in
     let long = run_entries only null old now first [] before after word bytes none rows in
@@ -330,27 +359,50 @@ rows_read_fails only null old now lines first rest before after limit (Line erro
     let full : error ≡ Refused (n + 1) FailedAllocation = is ∙ ap (λ k. Refused (k + 1) FailedAllocation) long in
     let few : n ≤ length first = omega (arith, many) in
     let inside : n ≤ length lines = omega (arith, few, ap length split, length-append first rest) in
-    encode_error only limit null lines first rest old now n after error split few made run (inl (full, inside)) (lacks null (n + 1) error full (slice_get lines n))
-rows_read_fails only null old now lines first rest before after limit TooManyLines word bytes split none made rows is = absurd is
-rows_read_fails only null old now lines first rest before after limit ReadFailed word bytes split none made rows is = tt
-rows_read_fails only null old now lines first rest before after limit WriteFailed word bytes split none made rows is = absurd is
-rows_read_fails only null old now lines first rest before after limit ReaderGone word bytes split none made rows is = absurd is
-rows_read_fails only null old now lines first rest before after limit (Column column error) word bytes split none made rows is = absurd is
+    (n, first_run only null lines first rest old now n after split few run, inl (full, inside), lacks null (n + 1) error full (slice_get lines n))
+
+rows_stop : (only : Bool) (null : Option Text) (old now : InternerView) (lines first rest : List Text) (before after : List ℕ) (left : Option (List ℕ)) (error : RunError) → IfSome null IsBytes → All IsBytes first → lines ≡ first ++ rest → before ≡ [] → EncodesRows (null_text null) old (map (text_by only) first) [] before now after → IsReadError (length after + 1) error → (error ≡ ReadFailed → AreUnread left rest) → RowsStop only null old now lines after left error
+rows_stop only null old now lines first rest before after left (Line error) word bytes split none rows is unread =
+    rows_lack_memory only null old now lines first rest before after left error word bytes split none rows is
+rows_stop only null old now lines first rest before after left TooManyLines word bytes split none rows is unread = absurd is
+rows_stop only null old now lines first rest before after left ReadFailed word bytes split none rows is unread =
+    rows_read_stop only null old now lines first rest before after left word bytes split none rows (unread refl)
+rows_stop only null old now lines first rest before after left WriteFailed word bytes split none rows is unread = absurd is
+rows_stop only null old now lines first rest before after left ReaderGone word bytes split none rows is unread = absurd is
+rows_stop only null old now lines first rest before after left (Column column error) word bytes split none rows is unread = absurd is
+
+-- where the lines of a stream stopped
+pub stream_stop : {A : Type 0} (only : Bool) (null : Option Text) (old now : InternerView) (lines : List Text) (before : List ℕ) (after : Vec ℕ A) (left : Option (List ℕ)) (error : RunError) → IfSome null IsBytes → before ≡ [] → StopsEncoding only (null_text null) old lines before now after left error → RowsStop only null old now lines after.items left error
+stream_stop only null old now lines before after left error word none stops = elim stops.4 [
+  | inl w ↦ subst (RowsStop only null old now lines after.items left) (sym w.1) (rows_line_stop only null old now lines stops.0 stops.1 before after left w.0 word stops.3 stops.2 none w.2)
+  | inr w ↦ rows_stop only null old now lines stops.0 stops.1 before after.items left error word stops.3 stops.2 none w.0 w.1 w.2
+]
+
+-- in a new interner
+stop_fails : (only : Bool) (null : Option Text) (old now : InternerView) (lines : List Text) (entries : List ℕ) (limit : ℕ) (left : Option (List ℕ)) (error : RunError) → old ≡ made_with 4096 limit → RowsStop only null old now lines entries left error → EncodingError only limit null lines left error
+stop_fails only null old now lines entries limit left (Line error) made stop =
+    let list = subst (λ (i : InternerView). extend spur_at i (line_texts (texts_of null (take stop.0 lines))) accepted now) made stop.1.list in
+    (stop.0, inr (stop.1.let_in, (now, list, stop.2), stop.3))
+stop_fails only null old now lines entries limit left TooManyLines made stop = absurd stop
+stop_fails only null old now lines entries limit left ReadFailed made stop =
+    let list = subst (λ (i : InternerView). extend spur_at i (line_texts (texts_of null (take stop.0 lines))) accepted now) made stop.1.list in
+    (stop.0, stop.1.let_in, (now, list), stop.3)
+stop_fails only null old now lines entries limit left WriteFailed made stop = absurd stop
+stop_fails only null old now lines entries limit left ReaderGone made stop = absurd stop
+stop_fails only null old now lines entries limit left (Column column error) made stop = absurd stop
 
 -- why the lines of a stream were not encoded
-pub stream_fails : {A : Type 0} (only : Bool) (null : Option Text) (old now : InternerView) (lines : List Text) (before : List ℕ) (after : Vec ℕ A) (limit : ℕ) (error : RunError) → IfSome null IsBytes → before ≡ [] → old ≡ made_with 4096 limit → StopsEncoding only (null_text null) old lines before now after error → EncodingError only limit null lines error
-stream_fails only null old now lines before after limit error word none made stops = elim stops.4 [
-  | inl w ↦ subst (EncodingError only limit null lines) (sym w.1) (rows_line_fails only null old now lines stops.0 stops.1 before after limit w.0 word stops.3 stops.2 none made w.2)
-  | inr w ↦ rows_read_fails only null old now lines stops.0 stops.1 before after.items limit error word stops.3 stops.2 none made w.0 w.1
-]
+pub stream_fails : {A : Type 0} (only : Bool) (null : Option Text) (old now : InternerView) (lines : List Text) (before : List ℕ) (after : Vec ℕ A) (limit : ℕ) (left : Option (List ℕ)) (error : RunError) → IfSome null IsBytes → before ≡ [] → old ≡ made_with 4096 limit → StopsEncoding only (null_text null) old lines before now after left error → EncodingError only limit null lines left error
+stream_fails only null old now lines before after limit left error word none made stops =
+    stop_fails only null old now lines after.items limit left error made (stream_stop only null old now lines before after left error word none stops)
 
 -- ---- counts
 
-texts_none : (lines : List Text) → texts_of None lines ≡ lines
+pub texts_none : (lines : List Text) → texts_of None lines ≡ lines
 texts_none [] = refl
 texts_none (l ∷ ls) = ap (λ (ts : List Text). l ∷ ts) (texts_none ls)
 
-entries_codes : (list lines : List Text) (entries : List ℕ) → AreEntries None list lines entries → AreCodes list (line_texts lines) entries
+pub entries_codes : (list lines : List Text) (entries : List ℕ) → AreEntries None list lines entries → AreCodes list (line_texts lines) entries
 entries_codes list [] [] are = refl
 entries_codes list [] (n ∷ ns) are = absurd are
 entries_codes list (l ∷ ls) [] are = absurd are
@@ -359,59 +411,20 @@ entries_codes list (l ∷ ls) (n ∷ ns) are =
     let others : map (position_of list) (line_texts ls) ≡ map Some ns = entries_codes list ls ns are.1 in
     cc
 
--- counts that were resized from none are zeros
-pub zeros_made : (n len : ℕ) (was zeros : List ℕ) (texts : List Text) → was ≡ [] → len ≡ length was → n ≡ length texts → zeros ≡ take n was ++ replicate (n - len) 0 → zeros ≡ replicate (length texts) 0
-zeros_made n len was zeros texts none is many made =
-    let empty : len ≡ 0 = is ∙ ap length none in
-    let all : n - len ≡ n = omega (arith, empty) in
-    made ∙ ap (λ (xs : List ℕ). take n xs ++ replicate (n - len) 0) none
-    ∙ ap (λ (xs : List ℕ). xs ++ replicate (n - len) 0) (take-nil n) ∙ ap (λ (m : ℕ). replicate m 0) (all ∙ many)
-
-none_counted : (texts : List Text) (zeros : List ℕ) → zeros ≡ replicate (length texts) 0 → AddsCounts [] [] [] texts zeros
-none_counted texts zeros zeroed = padded [] texts [] texts (length texts) zeros refl refl (omega arith) zeroed
-
-pub zeros_sum : (texts : List Text) (zeros : List ℕ) → zeros ≡ replicate (length texts) 0 → sum zeros ≡ 0
-zeros_sum texts zeros zeroed = let none = none_counted texts zeros zeroed in omega (arith, none.total)
-
--- all lines were encoded, and their codes counted
-pub rows_counted : (input : List ℕ) (only : Bool) (old now : InternerView) (before codes given zeros counts : List ℕ) → All IsBytes (lines_of input) → before ≡ [] → old.texts ≡ [] → given ≡ codes → EncodesRows None old (texts_by (OfBytes only) (lines_of input)) [] before now codes → zeros ≡ replicate (length now.texts) 0 → ((list texts : List Text) → length zeros ≡ length list → AreCodes list texts given → AddsCounts texts list zeros list counts) → AreLetIn only (lines_of input) × AreCounts (line_texts (lines_of input)) now.texts counts
-rows_counted input only old now before codes given zeros counts bytes none empty same rows zeroed tally =
-    let lines = lines_of input in
-    let run = run_ends input only None old now before codes tt bytes none rows in
-    let all : lines ≡ run.done = run.taken.split ∙ append-nil run.done in
-    let texts = line_texts run.done in
-    let are = subst (λ (cs : List ℕ). AreCodes now.texts texts cs) (sym same) (entries_codes now.texts run.done codes run.entries) in
-    let many : length zeros ≡ length now.texts = ap length zeroed ∙ length-replicate (length now.texts) 0 in
-    let adds : AddsCounts texts [] [] now.texts counts = adds_join [] texts [] now.texts now.texts [] zeros counts (none_counted now.texts zeros zeroed) (tally now.texts texts many are) in
-    let list = subst (λ (ts : List Text). extend spur_at old (line_texts ts) accepted now) (texts_none run.done) run.list in
-    let counted = all_are old now texts [] counts empty refl list (subst (λ (ts : List Text). AddsCounts texts ts [] now.texts counts) (sym empty) adds) in
-    (subst (λ (ls : List Text). AreLetIn only ls) (sym all) run.taken.let_in, subst (λ (ls : List Text). AreCounts (line_texts ls) now.texts counts) (sym all) counted)
-
-pub rows_listed : (input : List ℕ) (only : Bool) (old now : InternerView) (before codes : List ℕ) → All IsBytes (lines_of input) → before ≡ [] → EncodesRows None old (texts_by (OfBytes only) (lines_of input)) [] before now codes → extend spur_at old (line_texts (lines_of input)) accepted now
-rows_listed input only old now before codes bytes none rows =
-    subst (λ (ts : List Text). extend spur_at old (line_texts ts) accepted now) (texts_none (lines_of input)) (rows_interned input only None old now before codes tt bytes none rows)
-
--- lines that were not encoded were not counted
-pub counting_fails : (only : Bool) (limit : ℕ) (lines : List Text) (error : RunError) → EncodingError only limit None lines error → CountingError only limit lines error
-counting_fails only limit lines (Line error) is = (
-  is.0,
-  elim is.1 [
-    | inl out ↦ inl out
-    | inr w ↦ inr (w.0, (w.1.0, subst (λ (ts : List Text). extend spur_at (made_with 4096 limit) (line_texts ts) accepted w.1.0) (texts_none (take is.0 lines)) w.1.1, w.1.2))
-  ],
-)
-counting_fails only limit lines TooManyLines is = is
-counting_fails only limit lines ReadFailed is = tt
-counting_fails only limit lines WriteFailed is = absurd is
-counting_fails only limit lines ReaderGone is = absurd is
-counting_fails only limit lines (Column column error) is = absurd is
-
 -- ---- results of the library
 
 -- a stream of the library stopped so
-pub library_line : {A : Type 0} (only : Bool) (null : Option Text) (old now : InternerView) (lines first rest : List Text) (before : List ℕ) (after : Vec ℕ A) (fault : LineError) → lines ≡ first ++ rest → All IsBytes first → StopsAtRow null old (texts_by (OfBytes only) first) before now after fault → StopsEncoding only null old lines before now after (Line fault)
-library_line only null old now lines first rest before after fault split bytes stops = (first, rest, split, bytes, inl (fault, refl, stops))
+pub library_line : {A : Type 0} (only : Bool) (null : Option Text) (old now : InternerView) (lines first rest : List Text) (before : List ℕ) (after : Vec ℕ A) (left : Option (List ℕ)) (fault : LineError) → lines ≡ first ++ rest → All IsBytes first → StopsAtRow null old (texts_by (OfBytes only) first) before now after fault → StopsEncoding only null old lines before now after left (Line fault)
+library_line only null old now lines first rest before after left fault split bytes stops = (first, rest, split, bytes, inl (fault, refl, stops))
 
-pub library_read : {A : Type 0} (only : Bool) (null : Option Text) (old now : InternerView) (lines first rest : List Text) (before : List ℕ) (after : Vec ℕ A) (number : ℕ) (error : RunError) → lines ≡ first ++ rest → All IsBytes first → EncodesRows null old (texts_by (OfBytes only) first) [] before now after.items → number ≡ length after.items + 1 → IsReadError number error → StopsEncoding only null old lines before now after error
-library_read only null old now lines first rest before after number error split bytes rows at failed =
-    (first, rest, split, bytes, inr (rows, subst (λ n. IsReadError n error) at failed))
+-- an error that is told as a failed read is not out of memory
+told_read : (failed : Error) (number : ℕ) (error : RunError) → (error_kind failed ≡ OutOfMemory → error ≡ Line (Refused number FailedAllocation)) → error ≡ ReadFailed → error_kind failed ≡ OutOfMemory → ⊥
+told_read failed number error memory is full = let no : Line (Refused number FailedAllocation) ≡ ReadFailed = sym (memory full) ∙ is in cc
+
+pub library_read : {A : Type 0} (only : Bool) (null : Option Text) (old now : InternerView) (lines first rest : List Text) (before : List ℕ) (after : Vec ℕ A) (left : Option (List ℕ)) (number : ℕ) (failed : Error) (error : RunError) → lines ≡ first ++ rest → All IsBytes first → EncodesRows null old (texts_by (OfBytes only) first) [] before now after.items → AreUnreadBy (OfBytes only) failed left rest → number ≡ length after.items + 1 → IsReadError number error → (error_kind failed ≡ OutOfMemory → error ≡ Line (Refused number FailedAllocation)) → StopsEncoding only null old lines before now after left error
+library_read only null old now lines first rest before after left number failed error split bytes rows unread at is memory =
+    let left_out : error ≡ ReadFailed → AreUnread left rest = λ told. elim unread [
+      | inl full ↦ absurd (told_read failed number error memory told full)
+      | inr all ↦ all
+    ] in
+    (first, rest, split, bytes, inr (rows, subst (λ n. IsReadError n error) at is, left_out))

@@ -45,9 +45,9 @@ write_output WriteFailed is = tt
 write_output ReaderGone is = tt
 write_output (Column column fault) is = absurd is
 
-pub header_input : (before : Option (List ℕ)) (column : ℕ) (error : RunError) → HeaderError before column error → IsInputError error
-header_input before column error (inl is) = read_input 0 error is
-header_input before column error (inr is) = subst IsInputError (sym is.0) tt
+pub header_input : (before after : Option (List ℕ)) (column : ℕ) (error : RunError) → HeaderError before after column error → IsInputError error
+header_input before after column error (inl is) = read_input 0 error is.0
+header_input before after column error (inr is) = subst IsInputError (sym is.0) tt
 
 pub input_no_write : (error : RunError) → IsInputError error → failed_writes {X = Unit {0}} (Err error) ≡ 0
 input_no_write (Line fault) is = refl
@@ -72,6 +72,13 @@ output_no_read ReadFailed is = absurd is
 output_no_read WriteFailed is = refl
 output_no_read ReaderGone is = refl
 output_no_read (Column column fault) is = refl
+
+-- such an error is not that of a failed read
+pub output_not_read : (error : RunError) → IsOutputError error → error ≡ ReadFailed → ⊥
+output_not_read error is same = subst IsOutputError same is
+
+pub data_not_read : (error : RunError) → IsDataError error → error ≡ ReadFailed → ⊥
+data_not_read error is same = subst IsDataError same is
 
 pub written_output : (bytes part : List ℕ) (error : RunError) → WritesAll bytes (Err error) part → IsOutputError error
 written_output bytes part error written = write_output error written.0

@@ -95,7 +95,7 @@ cut_fed (b ∷ line) rest none =
     let onto : List ℕ × List ℕ → List ℕ × List ℕ = λ cut. (b ∷ cut.0, cut.1) in
     ap (λ t. cond t stop (option_map onto (cut_line (line ++ 10 ∷ rest)))) none.0 ∙ ap (option_map onto) (cut_fed line rest none.1)
 
-cut_open : (bytes : List ℕ) → NoFeed bytes → cut_line bytes ≡ None
+pub cut_open : (bytes : List ℕ) → NoFeed bytes → cut_line bytes ≡ None
 cut_open [] none = refl
 cut_open (b ∷ bytes) none =
     let stop : Option (List ℕ × List ℕ) = Some ([], bytes) in

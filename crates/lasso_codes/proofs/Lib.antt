@@ -1,13 +1,13 @@
 pub mod FirstBytes
 pub mod Feeds
 pub mod Stretches
+pub mod TableLines
 pub mod Written
 pub mod Flat
 pub mod Blocks
 pub mod ColumnHead
 pub mod EntryParts
 pub mod FewTexts
-pub mod LettingIn
 pub mod LineTexts
 pub mod LineCounts
 pub mod LineCodes
@@ -16,10 +16,12 @@ pub mod DistinctLines
 pub mod CountedLines
 pub mod EncodedLines
 pub mod EncodedStream
+pub mod CountedRounds
 pub mod CommandWords
 pub mod Decimals
 pub mod Items
 pub mod ReadTexts
+pub mod Cuts
 pub mod DecodedLines
 pub mod ReadBack
 pub mod MergedColumns

@@ -141,7 +141,7 @@ take_last zero (y ∷ ys) x at = let same : y ≡ x = cc in ap (λ (t : Text). t
 take_last (suc n) [] x at = absurd (cc)
 take_last (suc n) (y ∷ ys) x at = ap (λ (ts : List Text). y ∷ ts) (take_last n ys x at)
 
-take_next : (n : ℕ) (xs : List Text) (x : Text) → slice_get xs n ≡ Some x → take (n + 1) xs ≡ take n xs ++ x ∷ []
+pub take_next : (n : ℕ) (xs : List Text) (x : Text) → slice_get xs n ≡ Some x → take (n + 1) xs ≡ take n xs ++ x ∷ []
 take_next n xs x at = ap (λ k. take k xs) (add-one n) ∙ take_last n xs x at
 
 map_at : (f : Text → Text) (n : ℕ) (xs : List Text) (x : Text) → slice_get xs n ≡ Some x → slice_get (map f xs) n ≡ Some (f x)
@@ -154,9 +154,3 @@ pub own_next : (n : ℕ) (texts : List Text) (text : Text) → take n (map line_
 own_next n texts text so_far at own =
     take_next n (map line_of texts) (line_of text) (map_at line_of n texts text at) ∙ ap (λ (t : Text). take n (map line_of texts) ++ t ∷ []) own
     ∙ ap (λ (ts : List Text). ts ++ text ∷ []) so_far ∙ sym (take_next n texts text at)
-
--- one more line was read back
-pub back_next : {C : Type 0} (see : C → Text) (n : ℕ) (texts : List Text) (text : Text) (lines grown : List C) (line : C) → map see lines ≡ take n (map line_of texts) → slice_get texts n ≡ Some text → see line ≡ line_of text → grown ≡ lines ++ line ∷ [] → map see grown ≡ take (n + 1) (map line_of texts)
-back_next see n texts text lines grown line so_far at is more =
-    ap (map see) more ∙ map-append see lines (line ∷ []) ∙ ap (λ (ls : List Text). ls ++ see line ∷ []) so_far ∙ ap (λ (t : Text). take n (map line_of texts) ++ t ∷ []) is
-    ∙ sym (take_next n (map line_of texts) (line_of text) (map_at line_of n texts text at))

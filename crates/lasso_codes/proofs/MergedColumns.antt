@@ -8,7 +8,7 @@ use Rattle.std.proofs.Common.{ℕ, zero, suc, ◌≡◌, ◌+◌, ◌-◌, ◌^�
 use Rattle.std.specs.Prelude.{All, slice_get, IsSomeAnd}
 use Rattle.std.proofs.lemmas.Bool.Decides.{nat_tests}
 use Rattle.std.proofs.lemmas.List.{append-nil, length-map, map_push, take-map}
-use Rattle.std.proofs.lemmas.List.Elements.{All-append}
+use Rattle.std.proofs.lemmas.List.Elements.{All-append, All-nil}
 use Rattle.std.proofs.lemmas.Option.{slice_get_within, slice_get-get_or}
 use Rattle.lasso_parts.proofs.TextLemmas.{position_here}
 use Rattle.lasso_parts.specs.Texts.{Text, position_of}
@@ -28,10 +28,10 @@ use Rattle.lasso_input.specs.Texts.{line_of, text_of}
 use Rattle.lasso_codes.specs.Limits.{line_texts, Admits}
 use Rattle.lasso_codes.proofs.LineTexts.{distinct_are_bytes, extend_lines, list_of_lines, some_line, table_back}
 use Rattle.lasso_codes.proofs.LineCodes.{recoded_items}
-use Rattle.lasso_codes.specs.Merge.{code_or_past, recoded, entries_of, distinct_of, Merges, AdmitsColumns, MergesWithin, EntriesError, AddsEntry, AddsEntries, AreMerged, IsNotMerged, IsMergeError, IsMergeBegun, MergingError, MergeEnd}
-use Rattle.lasso_codes.specs.Stages.{IsAhead, EntriesAhead}
-use Rattle.lasso_codes.specs.Reading.{ReadItems, cut_entry, head_of, head_before, texts_at, texts_before, texts_from, items_from, HasNoHeader, IsTextError, TextsError, IsEntryError}
-use Rattle.lasso_codes.specs.Streams.{WritesAll}
+use Rattle.lasso_codes.specs.Merge.{code_or_past, recoded, entries_of, distinct_of, Merges, AdmitsColumns, MergesWithin, EntriesError, AddsEntry, AddsEntries, AreMerged, IsNotMerged, IsMergeError, IsMergeBegun, MergesShort, MergingError, MergeEnd}
+use Rattle.lasso_codes.specs.Stages.{EntriesAhead}
+use Rattle.lasso_codes.specs.Reading.{ReadItems, cut_entry, entry_items, head_of, head_before, on_header_line, texts_at, texts_before, texts_from, items_from, HasNoHeader, IsCut, IsTextError, LacksEntry, LacksText, TextsError, IsEntryError}
+use Rattle.lasso_codes.specs.Streams.{StopsShort, WritesAll, cut_line}
 use Rattle.lasso_codes.specs.declared.entries.Entry.{Entry}
 use Rattle.lasso_codes.specs.declared.entries.Entry.TheVariants.{Missing, Bad, Null, Code}
 use Rattle.lasso_codes.specs.declared.error.ColumnError.{ColumnError}
@@ -40,7 +40,8 @@ use Rattle.lasso_codes.specs.declared.error.RunError.{RunError}
 use Rattle.lasso_codes.specs.declared.error.RunError.TheVariants.{Line, TooManyLines, ReadFailed, WriteFailed, ReaderGone, Column}
 use Rattle.lasso_codes.specs.declared.reading.Header.{Header}
 use Rattle.lasso_codes.proofs.FewTexts.{few_texts}
-use Rattle.lasso_codes.proofs.Items.{ahead_push, ahead_error, one_fewer, texts_read, column_read, column_unread, before_error, entry_error}
+use Rattle.lasso_codes.proofs.Cuts.{Refuses, column_local, entries_cut, head_local, short_after, short_as, texts_local}
+use Rattle.lasso_codes.proofs.Items.{before_error, column_read, column_unread, entries_all, entries_fail, entries_push, entry_error, texts_read}
 
 -- ---- interning texts, and then others
 
@@ -85,53 +86,81 @@ recode_error list texts Bad number error e = same_error (NotEntry number) error 
 recode_error list texts Null number error e = absurd (cc)
 recode_error list texts (Code code) number error e = past_error list (slice_get texts code) number error e
 
+-- no entry is made of a missing one
+pub recode_refuses : (list texts : List Text) → Refuses (recoded list texts)
+recode_refuses list texts number = refl
+
 -- ---- the entries of a column on their way
 
-module _ (others read : ReadItems (Option ℕ)) (before numbers : List ℕ) (so_far : EntriesAhead others read before numbers) where
-  pub entries_push : (later : ReadItems (Option ℕ)) (number : ℕ) (after : List ℕ) → IsAhead (so_far.done ++ entry_at number ∷ []) later read → after ≡ numbers ++ number ∷ [] → EntriesAhead later read before after
-  entries_push later number after ahead is = record {
-    done = so_far.done ++ entry_at number ∷ [];
-    ahead = ahead;
-    numbers_are =
-        ap (map entry_at) is ∙ map_push entry_at numbers number ∙ ap (λ (es : List (Option ℕ)). es ++ entry_at number ∷ []) so_far.numbers_are
-        ∙ append_assoc (map entry_at before) so_far.done (entry_at number ∷ []);
-  }
-
-  pub entries_end : (column : ℕ) (left : Option (List ℕ)) (rest : List ℕ) → left ≡ Some rest → (read.0 ≡ so_far.done) × (read.1 ≡ Ok rest) → AddsEntries read column left before numbers (Ok tt)
-  entries_end column left rest is ended = (rest, is, ended.1, so_far.numbers_are ∙ ap (λ (es : List (Option ℕ)). map entry_at before ++ es) (sym ended.0))
+-- a read failed, or there was no memory
+pub entries_read_fails : (read : ReadItems (Option ℕ)) (column : ℕ) (error : RunError) → IsReadError 0 error → EntriesError read column error
+entries_read_fails read column (Line error) is = is
+entries_read_fails read column TooManyLines is = absurd is
+entries_read_fails read column ReadFailed is = tt
+entries_read_fails read column WriteFailed is = absurd is
+entries_read_fails read column ReaderGone is = absurd is
+entries_read_fails read column (Column number error) is = absurd is
 
 -- the entry at a position; its number is added, or the entry is bad
-module _ (list texts : List Text) (lines position : ℕ) (binary : Bool) (bytes rest : List ℕ) (entry : Entry) (read : ReadItems (Option ℕ)) (before numbers : List ℕ) (small : position < lines) (cut : cut_entry binary bytes ≡ (entry, rest)) (so_far : EntriesAhead (items_from (recoded list texts) (lines - position) binary (position + 1) bytes) read before numbers) where
-  abbrev others : ReadItems (Option ℕ)
-  others = items_from (recoded list texts) (lines - position) binary (position + 1) bytes
+module _ (list texts : List Text) (header : Header) (bytes rest : List ℕ) (count : ℕ) (before numbers : List ℕ) (so_far : EntriesAhead (recoded list texts) header.binary bytes rest count before numbers) where
+  abbrev entries_read : ReadItems (Option ℕ)
+  entries_read = entry_items (recoded list texts) header bytes
 
-  abbrev later : ReadItems (Option ℕ)
-  later = items_from (recoded list texts) (lines - (position + 1)) binary (position + 1 + 1) rest
+  pub entries_end : (column : ℕ) (left : Option (List ℕ)) → left ≡ Some rest → count ≡ header.lines → AddsEntries (entry_items (recoded list texts) header) bytes column left before numbers (Ok tt)
+  entries_end column left is all =
+      let ended = entries_all (recoded list texts) header.binary bytes rest count so_far.done so_far.read header.lines all in
+      (rest, is, ap (λ (r : ReadItems (Option ℕ)). r.1) ended, so_far.numbers_are ∙ ap (λ (r : ReadItems (Option ℕ)). map entry_at before ++ r.0) (sym ended))
 
-  pub number_added : (made : Result (Option ℕ) ColumnError) (column : ℕ) (after : List ℕ) → recoded list texts entry (position + 1) ≡ made → AddsEntry made column numbers after (Ok tt) → EntriesAhead later read before after
-  number_added (Ok item) column after is added =
-      let ahead = ahead_push (recoded list texts) (lines - position) (lines - (position + 1)) binary (position + 1) bytes rest entry read so_far.done (one_fewer lines position small) cut so_far.ahead (entry_at added.0) (is ∙ ap (λ (o : Option ℕ). Ok o) added.1) in
-      entries_push others read before numbers so_far later added.0 after ahead added.2
-  number_added (Err error) column after is added = absurd (cc)
+  -- a read failed: an entry is missing in what was read
+  pub entries_short : (after : Option (List ℕ)) → count < header.lines → StopsShort rest after (λ seen. cut_entry header.binary seen ≡ (Missing, [])) → StopsShort bytes after (LacksEntry (entry_items (recoded list texts) header) (λ _. Unit {0}))
+  entries_short after small short =
+      short_as bytes after (λ seen. items_from (recoded list texts) header.lines header.binary 1 seen ≡ (so_far.done, Err (NoEntry (count + 1)))) (LacksEntry (entry_items (recoded list texts) header) (λ _. Unit {0}))
+      (entries_cut (recoded list texts) header.binary count header.lines bytes rest so_far.done after (recode_refuses list texts) so_far.read small short)
+      (λ seen is. (count + 1, ap (λ (r : ReadItems (Option ℕ)). r.1) is, tt))
 
-  pub number_fails : (made : Result (Option ℕ) ColumnError) (column : ℕ) (after : List ℕ) (error : RunError) → recoded list texts entry (position + 1) ≡ made → AddsEntry made column numbers after (Err error) → EntriesError read column error
-  number_fails (Ok item) column after error is added = subst (λ f. EntriesError read column f) (sym added) refl
-  number_fails (Err reason) column after error is added =
-      let told : error ≡ Column column reason = cc in
-      let ended = ahead_error (recoded list texts) (lines - position) (lines - (position + 1)) binary (position + 1) bytes rest entry read so_far.done (one_fewer lines position small) cut so_far.ahead reason is in
-      rw told (refl, recode_error list texts entry (position + 1) reason is, ended.1)
+  module _ (entry : Entry) (left : List ℕ) (cut : cut_entry header.binary rest ≡ (entry, left)) where
+    pub number_added : (made : Result (Option ℕ) ColumnError) (column : ℕ) (after : List ℕ) → recoded list texts entry (count + 1) ≡ made → AddsEntry made column numbers after (Ok tt) → EntriesAhead (recoded list texts) header.binary bytes left (count + 1) before after
+    number_added (Ok item) column after is added = record {
+      done = so_far.done ++ entry_at added.0 ∷ [];
+      read = entries_push (recoded list texts) header.binary bytes rest count so_far.done so_far.read entry left (entry_at added.0) cut (is ∙ ap (λ (o : Option ℕ). Ok o) added.1);
+      numbers_are =
+          ap (map entry_at) added.2 ∙ map_push entry_at numbers added.0 ∙ ap (λ (es : List (Option ℕ)). es ++ entry_at added.0 ∷ []) so_far.numbers_are
+          ∙ append_assoc (map entry_at before) so_far.done (entry_at added.0 ∷ []);
+    }
+    number_added (Err error) column after is added = absurd (cc)
+
+    pub number_fails : (made : Result (Option ℕ) ColumnError) (column : ℕ) (after : List ℕ) (error : RunError) → count < header.lines → recoded list texts entry (count + 1) ≡ made → AddsEntry made column numbers after (Err error) → EntriesError entries_read column error
+    number_fails (Ok item) column after error small is added = subst (λ f. EntriesError entries_read column f) (sym added) refl
+    number_fails (Err reason) column after error small is added =
+        let told : error ≡ Column column reason = cc in
+        let ended = entries_fail (recoded list texts) header.binary bytes rest count so_far.done so_far.read header.lines small entry left cut reason is in
+        rw told (refl, recode_error list texts entry (count + 1) reason is, ap (λ (r : ReadItems (Option ℕ)). r.1) ended)
 
 -- ---- columns on their way
 
--- the columns before this one were merged, and the rest is left
+-- the columns before this one were merged, and the rest is left. Whatever follows these columns, they are merged so
 pub record Merging (only : Bool) (input rest : List ℕ) (limit column : ℕ) (now : InternerView) (numbers : List ℕ) : Type 0 where
   pub count : ℕ
   pub texts : List Text
-  pub merges : Merges only count input texts (map entry_at numbers) rest
-  pub admits : AdmitsColumns only limit count input
+  pub front : List ℕ
+  pub split : input ≡ front ++ rest
+  pub any : (more : List ℕ) → Merges only count (front ++ more) texts (map entry_at numbers) more × AdmitsColumns only limit count (front ++ more)
   pub counted : count + 1 ≡ column
   pub are_bytes : All IsBytes texts
   pub list : extend spur_at (made_with 4096 limit) (line_texts texts) accepted now
+
+-- no column was read
+pub merging_begins : (only : Bool) (input : List ℕ) (limit : ℕ) (now : InternerView) (numbers : List ℕ) → now ≡ made_with 4096 limit → numbers ≡ [] → Merging only input input limit 1 now numbers
+merging_begins only input limit now numbers made none = record {
+  count = 0;
+  texts = [];
+  front = [];
+  split = refl;
+  any = λ more. ((refl, ap (map entry_at) none, refl), tt);
+  counted = refl;
+  are_bytes = All-nil IsBytes;
+  list = (refl, made);
+}
 
 module _ (only : Bool) (input rest : List ℕ) (limit column : ℕ) (now : InternerView) (numbers : List ℕ) (way : Merging only input rest limit column now numbers) where
   -- the list has the texts of the distinct lines, and their codes fit
@@ -139,8 +168,11 @@ module _ (only : Bool) (input rest : List ℕ) (limit column : ℕ) (now : Inter
   list_is = list_of_lines (made_with 4096 limit) now way.texts refl way.are_bytes way.list
 
   -- the limit was kept so far
+  within_any : (more : List ℕ) → MergesWithin only limit way.count (way.front ++ more) way.texts (map entry_at numbers) more
+  within_any more = ((way.any more).0, (way.any more).1, (now, way.list))
+
   within : MergesWithin only limit way.count input way.texts (map entry_at numbers) rest
-  within = (way.merges, way.admits, (now, way.list))
+  within = subst (λ bs. MergesWithin only limit way.count bs way.texts (map entry_at numbers) rest) (sym way.split) (within_any rest)
 
   pub merging_few : length now.texts < 2 ^ 32
   merging_few = let few : length now.texts ≤ 4294967295 = few_texts (made_with 4096 limit) now (line_texts way.texts) way.list (omega arith) in omega (arith, few)
@@ -150,170 +182,228 @@ module _ (only : Bool) (input rest : List ℕ) (limit column : ℕ) (now : Inter
   merging_ends none = (way.count, way.texts, subst (λ bs. MergesWithin only limit way.count input way.texts (map entry_at numbers) bs) none within, list_is, way.are_bytes, merging_few)
 
   -- there are more columns than `usize` can number
-  pub merging_many : 2 ^ 64 - 1 ≤ column → MergingError input only limit TooManyLines
-  merging_many many = let counted = way.counted in (way.count, way.texts, map entry_at numbers, rest, within, omega (arith, counted, many))
+  pub merging_many : (after : Option (List ℕ)) → 2 ^ 64 - 1 ≤ column → MergingError input only limit after TooManyLines
+  merging_many after many = let counted = way.counted in (way.count, way.texts, map entry_at numbers, rest, within, omega (arith, counted, many))
+
+  -- the bytes are none, or end within the next column
+  abbrev IsPart : List ℕ → Type 0
+  IsPart bytes = (bytes ≡ []) ⊎ ((error : ColumnError) × IsCut bytes error × IsMergeError only limit way.texts bytes error)
 
   -- a read failed, or there was no memory
-  pub merging_read_fails : (error : RunError) → IsReadError 0 error → MergingError input only limit error
-  merging_read_fails (Line error) is = is
-  merging_read_fails TooManyLines is = absurd is
-  merging_read_fails ReadFailed is = tt
-  merging_read_fails WriteFailed is = absurd is
-  merging_read_fails ReaderGone is = absurd is
-  merging_read_fails (Column number error) is = absurd is
+  pub merging_read_fails : (after : Option (List ℕ)) (error : RunError) → IsReadError 0 error → StopsShort rest after IsPart → MergingError input only limit after error
+  merging_read_fails after (Line error) is short = is
+  merging_read_fails after TooManyLines is short = absurd is
+  merging_read_fails after ReadFailed is short =
+      short_after way.front input rest after IsPart (MergesShort only limit) way.split short (λ seen ends. (way.count, way.texts, map entry_at numbers, seen, within_any seen, ends))
+  merging_read_fails after WriteFailed is short = absurd is
+  merging_read_fails after ReaderGone is short = absurd is
+  merging_read_fails after (Column number error) is short = absurd is
 
-  pub merging_unmade : (error : RunError) → error ≡ Line (Refused 0 FailedAllocation) → MergingError input only limit error
-  merging_unmade error is = subst (MergingError input only limit) (sym is) refl
+  pub merging_unmade : (after : Option (List ℕ)) (error : RunError) → error ≡ Line (Refused 0 FailedAllocation) → MergingError input only limit after error
+  merging_unmade after error is = subst (MergingError input only limit after) (sym is) refl
 
   -- the column is bad
-  column_fails : (error : ColumnError) → IsMergeError only limit way.texts rest error → MergingError input only limit (Column column error)
-  column_fails error is = (way.count, way.texts, map entry_at numbers, rest, within, sym way.counted, is)
+  column_fails : (after : Option (List ℕ)) (error : ColumnError) → IsMergeError only limit way.texts rest error → MergingError input only limit after (Column column error)
+  column_fails after error is = (way.count, way.texts, map entry_at numbers, rest, within, sym way.counted, is)
 
-  pub merging_header_fails : (error : RunError) → IsReadError 0 error ⊎ ((error ≡ Column column NoHeader) × HasNoHeader rest) → MergingError input only limit error
-  merging_header_fails error (inl is) = merging_read_fails error is
-  merging_header_fails error (inr is) = subst (MergingError input only limit) (sym is.0) (column_fails NoHeader (is.1, λ entry. absurd entry))
+  -- the bytes are none, or a header line that does not end
+  header_cut : (seen : List ℕ) → cut_line seen ≡ None → IsPart seen
+  header_cut [] none = inl refl
+  header_cut (b ∷ seen) none = inr (NoHeader, none, ((omega arith, ap on_header_line none), λ entry. absurd entry))
+
+  pub merging_header_fails : (after : Option (List ℕ)) (error : RunError) → (IsReadError 0 error × StopsShort rest after (λ seen. cut_line seen ≡ None)) ⊎ ((error ≡ Column column NoHeader) × HasNoHeader rest) → MergingError input only limit after error
+  merging_header_fails after error (inl is) = merging_read_fails after error is.0 (short_as rest after (λ seen. cut_line seen ≡ None) IsPart is.1 header_cut)
+  merging_header_fails after error (inr is) = subst (MergingError input only limit after) (sym is.0) (column_fails after NoHeader (is.1, λ entry. absurd entry))
+
+  -- a text of the dictionary is bad or missing
+  unread : (bytes left : List ℕ) (header : Header) → head_of bytes ≡ Some (header, left) → (reason : ColumnError) → texts_from only header.distinct [] left ≡ Err reason → Admits limit (line_texts (texts_before only header.distinct left reason)) → ((entries_of only (distinct_of (way.texts ++ texts_at only bytes)) bytes).1 ≡ Err reason) × Admits limit (line_texts (head_before only (head_of bytes) reason))
+  unread bytes left header head reason is texts =
+      let make = recoded (distinct_of (way.texts ++ texts_at only bytes)) in (
+        ap (λ (r : ReadItems (Option ℕ)). r.1) (column_unread only make bytes left header head reason is),
+        subst (λ (ts : List Text). Admits limit (line_texts ts)) (sym (before_error only bytes left header head reason)) texts,
+      )
+
+  text_fails : (bytes left : List ℕ) (header : Header) → head_of bytes ≡ Some (header, left) → (reason : ColumnError) → IsTextError only limit header.distinct left reason → IsMergeError only limit way.texts bytes reason
+  text_fails bytes left header head NoHeader is = absurd is
+  text_fails bytes left header head (TextRefused number error) is = (((header, left), head, is), λ entry. absurd entry)
+  text_fails bytes left header head (NotMerged error) is = absurd is
+  text_fails bytes left header head (NoText number) is = (unread bytes left header head (NoText number) is.0 is.1, λ entry. absurd entry)
+  text_fails bytes left header head (NotUtf8 number) is = (unread bytes left header head (NotUtf8 number) is.0 is.1, λ entry. absurd entry)
+  text_fails bytes left header head (Doubled number) is = (unread bytes left header head (Doubled number) is.0 is.1, λ entry. absurd entry)
+  text_fails bytes left header head (NoEntry number) is = absurd is
+  text_fails bytes left header head (NotEntry number) is = absurd is
+  text_fails bytes left header head (PastTexts number) is = absurd is
+  text_fails bytes left header head (IsNull number) is = absurd is
 
   module _ (header : Header) (left : List ℕ) (head : head_of rest ≡ Some (header, left)) where
-    unread : (reason : ColumnError) → texts_from only header.distinct [] left ≡ Err reason → Admits limit (line_texts (texts_before only header.distinct left reason)) → ((entries_of only (distinct_of (way.texts ++ texts_at only rest)) rest).1 ≡ Err reason) × Admits limit (line_texts (head_before only (head_of rest) reason))
-    unread reason is texts =
-        let make = recoded (distinct_of (way.texts ++ texts_at only rest)) in (
-          ap (λ (r : ReadItems (Option ℕ)). r.1) (column_unread only make rest left header head reason is),
-          subst (λ (ts : List Text). Admits limit (line_texts ts)) (sym (before_error only rest left header head reason)) texts,
-        )
+    texts_short : (seen : List ℕ) → LacksText only limit header.distinct seen → IsPart ((head_local rest header left head).front ++ seen)
+    texts_short seen lacks =
+        let first = head_local rest header left head in
+        inr (NoText lacks.0, tt, text_fails (first.front ++ seen) seen header (first.same seen) (NoText lacks.0) lacks.1)
 
-    text_fails : (reason : ColumnError) → IsTextError only limit header.distinct left reason → IsMergeError only limit way.texts rest reason
-    text_fails NoHeader is = absurd is
-    text_fails (TextRefused number error) is = (((header, left), head, is), λ entry. absurd entry)
-    text_fails (NotMerged error) is = absurd is
-    text_fails (NoText number) is = (unread (NoText number) is.0 is.1, λ entry. absurd entry)
-    text_fails (NotUtf8 number) is = (unread (NotUtf8 number) is.0 is.1, λ entry. absurd entry)
-    text_fails (Doubled number) is = (unread (Doubled number) is.0 is.1, λ entry. absurd entry)
-    text_fails (NoEntry number) is = absurd is
-    text_fails (NotEntry number) is = absurd is
-    text_fails (PastTexts number) is = absurd is
-    text_fails (IsNull number) is = absurd is
+    pub merging_texts_fail : (after : Option (List ℕ)) (error : RunError) → TextsError only limit header.distinct column left after error → MergingError input only limit after error
+    merging_texts_fail after error (inl is) =
+        let first = head_local rest header left head in
+        merging_read_fails after error is.0 (short_after first.front rest left after (LacksText only limit header.distinct) IsPart first.split is.1 texts_short)
+    merging_texts_fail after error (inr is) = subst (MergingError input only limit after) (sym is.1) (column_fails after is.0 (text_fails rest left header head is.0 is.2))
 
-    pub merging_texts_fail : (error : RunError) → TextsError only limit header.distinct column left error → MergingError input only limit error
-    merging_texts_fail error (inl is) = merging_read_fails error is
-    merging_texts_fail error (inr is) = subst (MergingError input only limit) (sym is.1) (column_fails is.0 (text_fails is.0 is.2))
-
-    module _ (dictionary : List Text) (body : List ℕ) (read : texts_from only header.distinct [] left ≡ Ok (dictionary, body)) where
+    module _ (dictionary : List Text) (body : List ℕ) (read : texts_from only header.distinct [] left ≡ Ok (dictionary, body)) (admitted : Admits limit (line_texts dictionary)) where
       texts_are : texts_at only rest ≡ dictionary
       texts_are = texts_read only rest left header head dictionary body read
 
       -- a text is refused by the interner of the merged column
-      pub merging_refused : (error : LassoError) (n : ℕ) (after : InternerView) → Admits limit (line_texts (texts_at only rest)) → extend spur_at now (take n (line_texts dictionary)) accepted after → IsSomeAnd (slice_get (line_texts dictionary) n) (λ text. IsRefused after text error) → MergingError input only limit (Column column (NotMerged error))
-      merging_refused error n after texts list refused =
-          column_fails (NotMerged error)
-          (texts, subst (λ (ts : List Text). IsNotMerged limit way.texts ts error) (sym texts_are) (n, after, extend_lines (made_with 4096 limit) now after way.texts (take n dictionary) way.list (subst (λ (ts : List Text). extend spur_at now ts accepted after) (take-map text_of n dictionary) list), some_line dictionary n (λ text. IsRefused after text error) refused))
+      pub merging_refused : (after : Option (List ℕ)) (error : LassoError) (n : ℕ) (new : InternerView) → extend spur_at now (take n (line_texts dictionary)) accepted new → IsSomeAnd (slice_get (line_texts dictionary) n) (λ text. IsRefused new text error) → MergingError input only limit after (Column column (NotMerged error))
+      merging_refused after error n new list refused =
+          let texts = subst (λ (ts : List Text). Admits limit (line_texts ts)) (sym texts_are) admitted in
+          column_fails after (NotMerged error)
+          (texts, subst (λ (ts : List Text). IsNotMerged limit way.texts ts error) (sym texts_are) (n, new, extend_lines (made_with 4096 limit) now new way.texts (take n dictionary) way.list (subst (λ (ts : List Text). extend spur_at now ts accepted new) (take-map text_of n dictionary) list), some_line dictionary n (λ text. IsRefused new text error) refused))
 
-      module _ (dictionary_bytes : All IsBytes dictionary) (after : InternerView) (list : extend spur_at now (line_texts dictionary) accepted after) (admitted : Admits limit (line_texts (texts_at only rest))) where
-        all : extend spur_at (made_with 4096 limit) (line_texts (way.texts ++ texts_at only rest)) accepted after
-        all =
-            subst (λ (ts : List Text). extend spur_at (made_with 4096 limit) (line_texts (way.texts ++ ts)) accepted after) (sym texts_are)
-            (extend_lines (made_with 4096 limit) now after way.texts dictionary way.list list)
+      module _ (dictionary_bytes : All IsBytes dictionary) (new : InternerView) (list : extend spur_at now (line_texts dictionary) accepted new) where
+        all : extend spur_at (made_with 4096 limit) (line_texts (way.texts ++ dictionary)) accepted new
+        all = extend_lines (made_with 4096 limit) now new way.texts dictionary way.list list
 
-        all_bytes : All IsBytes (way.texts ++ texts_at only rest)
-        all_bytes = All-append IsBytes way.texts (texts_at only rest) way.are_bytes (subst (λ (ts : List Text). All IsBytes ts) (sym texts_are) dictionary_bytes)
+        all_bytes : All IsBytes (way.texts ++ dictionary)
+        all_bytes = All-append IsBytes way.texts dictionary way.are_bytes dictionary_bytes
 
-        after_is : after.texts ≡ line_texts (distinct_of (way.texts ++ texts_at only rest))
-        after_is = list_of_lines (made_with 4096 limit) after (way.texts ++ texts_at only rest) refl all_bytes all
+        new_is : new.texts ≡ line_texts (distinct_of (way.texts ++ dictionary))
+        new_is = list_of_lines (made_with 4096 limit) new (way.texts ++ dictionary) refl all_bytes all
 
-        pub merged_few : length after.texts < 2 ^ 32
+        pub merged_few : length new.texts < 2 ^ 32
         merged_few =
-            let few : length after.texts ≤ 4294967295 = few_texts (made_with 4096 limit) after (line_texts (way.texts ++ texts_at only rest)) all (omega arith) in omega (arith, few)
+            let few : length new.texts ≤ 4294967295 = few_texts (made_with 4096 limit) new (line_texts (way.texts ++ dictionary)) all (omega arith) in omega (arith, few)
 
-        entries_are : entries_of only (distinct_of (way.texts ++ texts_at only rest)) rest ≡ items_from (recoded after.texts (line_texts dictionary)) header.lines header.binary 1 body
-        entries_are =
-            let distinct = distinct_of (way.texts ++ texts_at only rest) in
-            column_read only (recoded distinct) rest left header head dictionary body read
-            ∙ recoded_items distinct dictionary (distinct_are_bytes (way.texts ++ texts_at only rest) all_bytes) dictionary_bytes header.lines header.binary 1 body
-            ∙ ap (λ (ts : List Text). items_from (recoded ts (line_texts dictionary)) header.lines header.binary 1 body) (sym after_is)
+        -- the entries of bytes with this dictionary, by the texts
+        abbrev reads : List ℕ → ReadItems (Option ℕ)
+        reads = entry_items (recoded new.texts (line_texts dictionary)) header
+
+        same_items : (bytes : List ℕ) → entry_items (recoded (distinct_of (way.texts ++ dictionary)) dictionary) header bytes ≡ reads bytes
+        same_items bytes =
+            let distinct = distinct_of (way.texts ++ dictionary) in
+            recoded_items distinct dictionary (distinct_are_bytes (way.texts ++ dictionary) all_bytes) dictionary_bytes header.lines header.binary 1 bytes
+            ∙ ap (λ (ts : List Text). items_from (recoded ts (line_texts dictionary)) header.lines header.binary 1 bytes) (sym new_is)
+
+        -- and of bytes that begin with this header and dictionary
+        module _ (bytes left' body' : List ℕ) (head' : head_of bytes ≡ Some (header, left')) (read' : texts_from only header.distinct [] left' ≡ Ok (dictionary, body')) where
+          here : texts_at only bytes ≡ dictionary
+          here = texts_read only bytes left' header head' dictionary body' read'
+
+          entries_here : entries_of only (distinct_of (way.texts ++ texts_at only bytes)) bytes ≡ reads body'
+          entries_here =
+              ap (λ (ts : List Text). entries_of only (distinct_of (way.texts ++ ts)) bytes) here
+              ∙ column_read only (recoded (distinct_of (way.texts ++ dictionary))) bytes left' header head' dictionary body' read' ∙ same_items body'
+
+          entry_fails : (error : ColumnError) → IsEntryError error → (reads body').1 ≡ Err error → IsMergeError only limit way.texts bytes error
+          entry_fails (NotMerged error) is e = absurd is
+          entry_fails error is e = (
+            entry_error only (recoded (distinct_of (way.texts ++ texts_at only bytes))) limit bytes error is (subst (λ (ts : List Text). Admits limit (line_texts ts)) (sym here) admitted) (ap (λ (r : ReadItems (Option ℕ)). r.1) entries_here ∙ e),
+            λ entry. (new, subst (λ (ts : List Text). extend spur_at (made_with 4096 limit) (line_texts (way.texts ++ ts)) accepted new) (sym here) all),
+          )
 
         -- one column more
-        pub merging_push : (others : List ℕ) (numbers' : List ℕ) → (items_from (recoded after.texts (line_texts dictionary)) header.lines header.binary 1 body).1 ≡ Ok others → map entry_at numbers' ≡ map entry_at numbers ++ (items_from (recoded after.texts (line_texts dictionary)) header.lines header.binary 1 body).0 → Merging only input others limit (column + 1) after numbers'
-        merging_push others numbers' ended added = record {
-          count = suc way.count;
-          texts = way.texts ++ texts_at only rest;
-          merges = (
-            way.texts,
-            map entry_at numbers,
-            rest,
-            way.merges,
-            refl,
-            ap (λ (r : ReadItems (Option ℕ)). r.1) entries_are ∙ ended,
-            added ∙ ap (λ (r : ReadItems (Option ℕ)). map entry_at numbers ++ r.0) (sym entries_are),
-          );
-          admits = (way.admits, (way.texts, map entry_at numbers, rest, way.merges, admitted));
-          counted = let before : way.count + 1 ≡ column = way.counted in omega (arith, before);
-          are_bytes = all_bytes;
-          list = all;
-        }
+        pub merging_push : (others : List ℕ) (numbers' : List ℕ) → (reads body).1 ≡ Ok others → map entry_at numbers' ≡ map entry_at numbers ++ (reads body).0 → Merging only input others limit (column + 1) new numbers'
+        merging_push others numbers' ended added =
+            let items = (reads body).0 in
+            let col = column_local only (recoded (distinct_of (way.texts ++ dictionary))) rest left body others header dictionary items (recode_refuses (distinct_of (way.texts ++ dictionary)) dictionary) head read (same_items body ∙ ap (λ (o : Result (List ℕ) ColumnError). (items, o)) ended) in
+            record {
+              count = suc way.count;
+              texts = way.texts ++ dictionary;
+              front = way.front ++ col.front;
+              split = way.split ∙ ap (λ bs. way.front ++ bs) col.split ∙ sym (append_assoc way.front col.front others);
+              any = λ later.
+                  let whole = sym (append_assoc way.front col.front later) in
+                  let before = way.any (col.front ++ later) in
+                  let merges = subst (λ bs. Merges only way.count bs way.texts (map entry_at numbers) (col.front ++ later)) whole before.0 in
+                  let admits = subst (λ bs. AdmitsColumns only limit way.count bs) whole before.1 in (
+                    (
+                      way.texts,
+                      map entry_at numbers,
+                      col.front ++ later,
+                      merges,
+                      ap (λ (ts : List Text). way.texts ++ ts) (sym (col.texts later)),
+                      ap (λ (r : ReadItems (Option ℕ)). r.1) (col.same later),
+                      added ∙ ap (λ (r : ReadItems (Option ℕ)). map entry_at numbers ++ r.0) (sym (col.same later)),
+                    ),
+                    (admits, (way.texts, map entry_at numbers, col.front ++ later, merges, subst (λ (ts : List Text). Admits limit (line_texts ts)) (sym (col.texts later)) admitted)),
+                  );
+              counted = let before : way.count + 1 ≡ column = way.counted in omega (arith, before);
+              are_bytes = all_bytes;
+              list = all;
+            }
 
-        entry_fails : (error : ColumnError) → IsEntryError error → (items_from (recoded after.texts (line_texts dictionary)) header.lines header.binary 1 body).1 ≡ Err error → IsMergeError only limit way.texts rest error
-        entry_fails (NotMerged error) is e = absurd is
-        entry_fails error is e =
-            (entry_error only (recoded (distinct_of (way.texts ++ texts_at only rest))) limit rest error is admitted (ap (λ (r : ReadItems (Option ℕ)). r.1) entries_are ∙ e), λ entry. (after, all))
+        -- an entry is missing in what was read
+        entry_short : (seen : List ℕ) → LacksEntry reads (λ _. Unit {0}) seen → IsPart ((head_local rest header left head).front ++ ((texts_local only header.distinct [] dictionary left body read).front ++ seen))
+        entry_short seen lacks =
+            let h = head_local rest header left head in
+            let t = texts_local only header.distinct [] dictionary left body read in
+            inr (NoEntry lacks.0, tt, entry_fails (h.front ++ (t.front ++ seen)) (t.front ++ seen) seen (h.same (t.front ++ seen)) (t.same seen) (NoEntry lacks.0) tt lacks.1)
 
-        pub merging_entries_fail : (error : RunError) → EntriesError (items_from (recoded after.texts (line_texts dictionary)) header.lines header.binary 1 body) column error → MergingError input only limit error
-        merging_entries_fail (Line error) is = is
-        merging_entries_fail TooManyLines is = absurd is
-        merging_entries_fail ReadFailed is = tt
-        merging_entries_fail WriteFailed is = absurd is
-        merging_entries_fail ReaderGone is = absurd is
-        merging_entries_fail (Column number error) is = subst (λ n. MergingError input only limit (Column n error)) (sym is.0) (column_fails error (entry_fails error is.1 is.2))
+        entries_cut_off : (after : Option (List ℕ)) → StopsShort body after (LacksEntry reads (λ _. Unit {0})) → StopsShort rest after IsPart
+        entries_cut_off after short =
+            let h = head_local rest header left head in
+            let t = texts_local only header.distinct [] dictionary left body read in
+            short_after h.front rest left after (λ bs. IsPart (h.front ++ bs)) IsPart h.split
+            (short_after t.front left body after (LacksEntry reads (λ _. Unit {0})) (λ bs. IsPart (h.front ++ bs)) t.split short entry_short) (λ seen part. part)
+
+        pub merging_entries_fail : (after : Option (List ℕ)) (error : RunError) → EntriesError (reads body) column error → (error ≡ ReadFailed → StopsShort body after (LacksEntry reads (λ _. Unit {0}))) → MergingError input only limit after error
+        merging_entries_fail after (Line error) is short = is
+        merging_entries_fail after TooManyLines is short = absurd is
+        merging_entries_fail after ReadFailed is short = merging_read_fails after ReadFailed tt (entries_cut_off after (short refl))
+        merging_entries_fail after WriteFailed is short = absurd is
+        merging_entries_fail after ReaderGone is short = absurd is
+        merging_entries_fail after (Column number error) is short =
+            subst (λ n. MergingError input only limit after (Column n error)) (sym is.0) (column_fails after error (entry_fails rest left body head read error is.1 is.2))
 
 -- ---- the one column
 
-written_end : (only : Bool) (input : List ℕ) (limit : ℕ) (binary : Bool) (n : ℕ) (texts : List Text) (entries : List (Option ℕ)) (part : List ℕ) (result : Result (Unit {0}) RunError) → MergesWithin only limit n input texts entries [] → length (distinct_of texts) < 2 ^ 32 → length entries < 2 ^ 64 → WritesAll (column_of binary (distinct_of texts) entries) result part → MergeEnd input only limit binary part result
-written_end only input limit binary n texts entries part (Ok x) merges few few' written = (n, texts, entries, merges, (few, few'), written)
-written_end only input limit binary n texts entries part (Err (Line error)) merges few few' written = absurd written.0
-written_end only input limit binary n texts entries part (Err TooManyLines) merges few few' written = absurd written.0
-written_end only input limit binary n texts entries part (Err ReadFailed) merges few few' written = absurd written.0
-written_end only input limit binary n texts entries part (Err WriteFailed) merges few few' written = inr (n, texts, entries, merges.0, written.1)
-written_end only input limit binary n texts entries part (Err ReaderGone) merges few few' written = inr (n, texts, entries, merges.0, written.1)
-written_end only input limit binary n texts entries part (Err (Column column error)) merges few few' written = absurd written.0
+written_end : (only : Bool) (input : List ℕ) (limit : ℕ) (binary : Bool) (after : Option (List ℕ)) (n : ℕ) (texts : List Text) (entries : List (Option ℕ)) (part : List ℕ) (result : Result (Unit {0}) RunError) → MergesWithin only limit n input texts entries [] → length (distinct_of texts) < 2 ^ 32 → length entries < 2 ^ 64 → WritesAll (column_of binary (distinct_of texts) entries) result part → MergeEnd input only limit binary after part result
+written_end only input limit binary after n texts entries part (Ok x) merges few few' written = (n, texts, entries, merges, (few, few'), written)
+written_end only input limit binary after n texts entries part (Err (Line error)) merges few few' written = absurd written.0
+written_end only input limit binary after n texts entries part (Err TooManyLines) merges few few' written = absurd written.0
+written_end only input limit binary after n texts entries part (Err ReadFailed) merges few few' written = absurd written.0
+written_end only input limit binary after n texts entries part (Err WriteFailed) merges few few' written = inr (n, texts, entries, merges.0, written.1)
+written_end only input limit binary after n texts entries part (Err ReaderGone) merges few few' written = inr (n, texts, entries, merges.0, written.1)
+written_end only input limit binary after n texts entries part (Err (Column column error)) merges few few' written = absurd written.0
 
 -- the column is written, or a beginning of it
-pub merged_written : (only : Bool) (input : List ℕ) (limit : ℕ) (binary : Bool) (table list : List Text) (numbers part : List ℕ) (result : Result (Unit {0}) RunError) → table ≡ map line_of list → AreMerged input only limit list numbers → length numbers < 2 ^ 64 → WritesAll (column_of binary table (map entry_at numbers)) result part → MergeEnd input only limit binary part result
-merged_written only input limit binary table list numbers part result table_is are few written =
+pub merged_written : (only : Bool) (input : List ℕ) (limit : ℕ) (binary : Bool) (after : Option (List ℕ)) (table list : List Text) (numbers part : List ℕ) (result : Result (Unit {0}) RunError) → table ≡ map line_of list → AreMerged input only limit list numbers → length numbers < 2 ^ 64 → WritesAll (column_of binary table (map entry_at numbers)) result part → MergeEnd input only limit binary after part result
+merged_written only input limit binary after table list numbers part result table_is are few written =
     let texts = are.1 in
     let entries = map entry_at numbers in
-    written_end only input limit binary are.0 texts entries part result are.2 (subst (λ n. n < 2 ^ 32) (ap length are.3 ∙ length-map (distinct_of texts) text_of) are.5) (subst (λ n. n < 2 ^ 64) (sym (length-map numbers entry_at)) few)
+    written_end only input limit binary after are.0 texts entries part result are.2 (subst (λ n. n < 2 ^ 32) (ap length are.3 ∙ length-map (distinct_of texts) text_of) are.5) (subst (λ n. n < 2 ^ 64) (sym (length-map numbers entry_at)) few)
     (subst (λ (ts : List Text). WritesAll (column_of binary ts entries) result part) (table_back table list (distinct_of texts) table_is are.3 (distinct_are_bytes texts are.4)) written)
 
 -- columns were not merged, and nothing is written
-pub none_merged : (only : Bool) (input : List ℕ) (limit : ℕ) (binary : Bool) (error : RunError) → MergingError input only limit error → MergeEnd input only limit binary [] (Err error)
-none_merged only input limit binary (Line error) is = (refl, is)
-none_merged only input limit binary TooManyLines is = (refl, is)
-none_merged only input limit binary ReadFailed is = refl
-none_merged only input limit binary WriteFailed is = absurd is
-none_merged only input limit binary ReaderGone is = absurd is
-none_merged only input limit binary (Column column error) is = (refl, is)
+pub none_merged : (only : Bool) (input : List ℕ) (limit : ℕ) (binary : Bool) (after : Option (List ℕ)) (error : RunError) → MergingError input only limit after error → MergeEnd input only limit binary after [] (Err error)
+none_merged only input limit binary after (Line error) is = (refl, is)
+none_merged only input limit binary after TooManyLines is = (refl, is)
+none_merged only input limit binary after ReadFailed is = (refl, is)
+none_merged only input limit binary after WriteFailed is = absurd is
+none_merged only input limit binary after ReaderGone is = absurd is
+none_merged only input limit binary after (Column column error) is = (refl, is)
 
 -- there was no memory for the interner
-pub unmade : (only : Bool) (input : List ℕ) (limit : ℕ) (error : RunError) → error ≡ Line (Refused 0 FailedAllocation) → MergingError input only limit error
-unmade only input limit error is = subst (MergingError input only limit) (sym is) refl
+pub unmade : (only : Bool) (input : List ℕ) (limit : ℕ) (after : Option (List ℕ)) (error : RunError) → error ≡ Line (Refused 0 FailedAllocation) → MergingError input only limit after error
+unmade only input limit after error is = subst (MergingError input only limit after) (sym is) refl
 
-end_begun : (only : Bool) (input : List ℕ) (limit : ℕ) (binary : Bool) (part : List ℕ) (result : Result (Unit {0}) RunError) → MergeEnd input only limit binary part result → IsMergeBegun input only binary part
-end_begun only input limit binary part (Ok x) end = inr (end.0, end.1, end.2, end.3.0, ([], sym end.5 ∙ sym (append-nil part)))
-end_begun only input limit binary part (Err (Line error)) end = inl end.0
-end_begun only input limit binary part (Err TooManyLines) end = inl end.0
-end_begun only input limit binary part (Err ReadFailed) end = inl end
-end_begun only input limit binary part (Err WriteFailed) end = end
-end_begun only input limit binary part (Err ReaderGone) end = end
-end_begun only input limit binary part (Err (Column column error)) end = inl end.0
+end_begun : (only : Bool) (input : List ℕ) (limit : ℕ) (binary : Bool) (after : Option (List ℕ)) (part : List ℕ) (result : Result (Unit {0}) RunError) → MergeEnd input only limit binary after part result → IsMergeBegun input only binary part
+end_begun only input limit binary after part (Ok x) end = inr (end.0, end.1, end.2, end.3.0, ([], sym end.5 ∙ sym (append-nil part)))
+end_begun only input limit binary after part (Err (Line error)) end = inl end.0
+end_begun only input limit binary after part (Err TooManyLines) end = inl end.0
+end_begun only input limit binary after part (Err ReadFailed) end = inl end.0
+end_begun only input limit binary after part (Err WriteFailed) end = end
+end_begun only input limit binary after part (Err ReaderGone) end = end
+end_begun only input limit binary after part (Err (Column column error)) end = inl end.0
 
-write_end : (only : Bool) (input : List ℕ) (limit : ℕ) (binary : Bool) (part : List ℕ) (result : Result (Unit {0}) RunError) → IsMergeBegun input only binary part → IsWriteEnd result → MergeEnd input only limit binary part result
-write_end only input limit binary part (Ok x) begun is = absurd is
-write_end only input limit binary part (Err (Line error)) begun is = absurd is
-write_end only input limit binary part (Err TooManyLines) begun is = absurd is
-write_end only input limit binary part (Err ReadFailed) begun is = absurd is
-write_end only input limit binary part (Err WriteFailed) begun is = begun
-write_end only input limit binary part (Err ReaderGone) begun is = begun
-write_end only input limit binary part (Err (Column column error)) begun is = absurd is
+write_end : (only : Bool) (input : List ℕ) (limit : ℕ) (binary : Bool) (after : Option (List ℕ)) (part : List ℕ) (result : Result (Unit {0}) RunError) → IsMergeBegun input only binary part → IsWriteEnd result → MergeEnd input only limit binary after part result
+write_end only input limit binary after part (Ok x) begun is = absurd is
+write_end only input limit binary after part (Err (Line error)) begun is = absurd is
+write_end only input limit binary after part (Err TooManyLines) begun is = absurd is
+write_end only input limit binary after part (Err ReadFailed) begun is = absurd is
+write_end only input limit binary after part (Err WriteFailed) begun is = begun
+write_end only input limit binary after part (Err ReaderGone) begun is = begun
+write_end only input limit binary after part (Err (Column column error)) begun is = absurd is
 
 -- the run ends as it did before the flush, or with the error of the flush
-pub end_then : (only : Bool) (input : List ℕ) (limit : ℕ) (binary : Bool) (part : List ℕ) (given result : Result (Unit {0}) RunError) → MergeEnd input only limit binary part given → (result ≡ given) ⊎ IsWriteEnd result → MergeEnd input only limit binary part result
-end_then only input limit binary part given result end (inl same) = subst (MergeEnd input only limit binary part) (sym same) end
-end_then only input limit binary part given result end (inr is) = write_end only input limit binary part result (end_begun only input limit binary part given end) is
+pub end_then : (only : Bool) (input : List ℕ) (limit : ℕ) (binary : Bool) (after : Option (List ℕ)) (part : List ℕ) (given result : Result (Unit {0}) RunError) → MergeEnd input only limit binary after part given → (result ≡ given) ⊎ IsWriteEnd result → MergeEnd input only limit binary after part result
+end_then only input limit binary after part given result end (inl same) = subst (MergeEnd input only limit binary after part) (sym same) end
+end_then only input limit binary after part given result end (inr is) = write_end only input limit binary after part result (end_begun only input limit binary after part given end) is

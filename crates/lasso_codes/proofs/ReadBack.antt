@@ -29,7 +29,8 @@ use Rattle.lasso_codes.specs.Columns.{dictionary_of, entry_of, entry_bytes, head
 use Rattle.lasso_codes.specs.Distinct.{with_feed}
 use Rattle.lasso_codes.specs.Decode.{DecodingGivesLines, text_or_past, null_line, line_at, decoded}
 use Rattle.lasso_codes.specs.Reading.{header_with, header_at, header_in, header_of, head_of, on_header_line, on_text, texts_from, number_entry, code_in, entry_in, cut_number, cut_entry, on_entry_line, on_item, items_from, on_head, on_texts}
-use Rattle.lasso_codes.specs.Limits.{is_let_in, IsLetIn}
+use Rattle.lasso_input.specs.Texts.{is_let_in}
+use Rattle.lasso_codes.specs.Limits.{IsLetIn}
 use Rattle.lasso_codes.specs.Streams.{cut_line}
 use Rattle.lasso_codes.specs.declared.entries.Entry.{Entry}
 use Rattle.lasso_codes.specs.declared.entries.Entry.TheVariants.{Null, Code}
@@ -305,6 +306,6 @@ let_in_too true only line weaker let_in = subst (λ o. is_let_in o line ≡ true
 
 -- decoding what was encoded gives the lines
 pub decoding_gives_lines_lem : DecodingGivesLines
-decoding_gives_lines_lem input only strict limit null binary part rest weaker end =
+decoding_gives_lines_lem input only strict limit null binary part rest after weaker end =
     let lets = All-weaker (IsLetIn only) (λ l. is_let_in strict l ≡ true) (λ l let_in. let_in_too strict only l weaker let_in.1) (lines_of input) end.0 in
     ap (λ bs. decoded strict null (bs ++ rest)) end.1 ∙ column_lines strict binary null input rest lets end.2.1 end.2.0

@@ -14,9 +14,9 @@ use Rattle.lasso_single.proofs.Filled.{accepted, extend_push}
 use Rattle.lasso_columns.proofs.Interned.{list_interned}
 use Rattle.lasso_single.specs.Coding.{spur_at}
 use Rattle.lasso_input.specs.Lines.{NoFeed, is_line_feed}
-use Rattle.lasso_input.specs.Texts.{text_of}
+use Rattle.lasso_input.specs.Texts.{is_let_in, text_of}
 use Rattle.lasso_codes.specs.Stages.{Reading}
-use Rattle.lasso_codes.specs.Limits.{is_let_in, line_texts, Admits}
+use Rattle.lasso_codes.specs.Limits.{line_texts, Admits}
 use Rattle.lasso_codes.specs.Reading.{ReadTexts, on_text, texts_from, read_list, first_texts, AddsText, AddError, IsTextError, TextsError}
 use Rattle.lasso_codes.specs.Streams.{cut_line}
 use Rattle.lasso_codes.specs.declared.error.ColumnError.{ColumnError}
@@ -26,7 +26,7 @@ use Rattle.lasso_codes.proofs.LineTexts.{position_of_text, texts_push}
 
 -- ---- texts after the first ones
 
-tested : (let_in there : Bool) (out doubled : ColumnError) (first whole res : ReadTexts) (read : List Text × List ℕ) → cond let_in (cond there (Err doubled) first) (Err out) ≡ Ok read → (first ≡ Ok read → whole ≡ res) → cond let_in (cond there (Err doubled) whole) (Err out) ≡ res
+pub tested : (let_in there : Bool) (out doubled : ColumnError) (first whole res : ReadTexts) (read : List Text × List ℕ) → cond let_in (cond there (Err doubled) first) (Err out) ≡ Ok read → (first ≡ Ok read → whole ≡ res) → cond let_in (cond there (Err doubled) whole) (Err out) ≡ res
 tested false there out doubled first whole res read e then = cc
 tested true true out doubled first whole res read e then = cc
 tested true false out doubled first whole res read e then = then e
@@ -109,10 +109,13 @@ module _ (only : Bool) (bytes rest : List ℕ) (position distinct : ℕ) (now : 
       subst (λ (ts : List Text). Admits limit ts) (so_far.texts ∙ ap line_texts (sym (before_next number is))) (now, list)
 
   -- the next text is missing
-  pub reading_misses : (limit column : ℕ) → extend spur_at (made_with 4096 limit) now.texts accepted now → cut_line rest ≡ None → TextsError only limit distinct column bytes (Column column (NoText (position + 1)))
-  reading_misses limit column list cut =
+  pub text_missing : (limit : ℕ) → extend spur_at (made_with 4096 limit) now.texts accepted now → cut_line rest ≡ None → IsTextError only limit distinct bytes (NoText (position + 1))
+  text_missing limit list cut =
       let error : texts_from only distinct [] bytes ≡ Err (NoText (length so_far.done + 1)) = next_ahead ∙ texts_missing only (distinct - (position + 1)) so_far.done rest cut in
-      inr (NoText (position + 1), refl, (error ∙ ap (λ n. Err (NoText (n + 1))) so_far.counted, admitted limit (position + 1) refl list))
+      (error ∙ ap (λ n. Err (NoText (n + 1))) so_far.counted, admitted limit (position + 1) refl list)
+
+  pub reading_misses : (limit column : ℕ) (after : Option (List ℕ)) → extend spur_at (made_with 4096 limit) now.texts accepted now → cut_line rest ≡ None → TextsError only limit distinct column bytes after (Column column (NoText (position + 1)))
+  reading_misses limit column after list cut = inr (NoText (position + 1), refl, text_missing limit list cut)
 
   -- the next text is bad
   faulty : (limit : ℕ) (line : Text) (left : List ℕ) (error : ColumnError) → extend spur_at (made_with 4096 limit) now.texts accepted now → cut_line rest ≡ Some (line, left) → AddError only now line (position + 1) error → IsTextError only limit distinct bytes error
@@ -136,8 +139,8 @@ module _ (only : Bool) (bytes rest : List ℕ) (position distinct : ℕ) (now : 
   faulty limit line left (IsNull number) list cut is = absurd is
   faulty limit line left (NotMerged error) list cut is = absurd is
 
-  pub reading_fails : (limit column : ℕ) (line : Text) (left : List ℕ) (error : ColumnError) → extend spur_at (made_with 4096 limit) now.texts accepted now → cut_line rest ≡ Some (line, left) → AddError only now line (position + 1) error → TextsError only limit distinct column bytes (Column column error)
-  reading_fails limit column line left error list cut is = inr (error, refl, faulty limit line left error list cut is)
+  pub reading_fails : (limit column : ℕ) (after : Option (List ℕ)) (line : Text) (left : List ℕ) (error : ColumnError) → extend spur_at (made_with 4096 limit) now.texts accepted now → cut_line rest ≡ Some (line, left) → AddError only now line (position + 1) error → TextsError only limit distinct column bytes after (Column column error)
+  reading_fails limit column after line left error list cut is = inr (error, refl, faulty limit line left error list cut is)
 
 -- ---- texts that were read
 
@@ -156,11 +159,11 @@ feed_free b bytes line left false None is e then = absurd (cc)
 feed_free b bytes line left false (Some c) is e then = let both : ◌≡◌ {A = List ℕ × List ℕ} (b ∷ c.0, c.1) (line, left) = cc in subst NoFeed (ap (λ (p : List ℕ × List ℕ). p.0) both) (is, then c.0 c.1 refl)
 
 -- a line that was cut off has no line feed
-cut_free : (bytes line left : List ℕ) → cut_line bytes ≡ Some (line, left) → NoFeed line
+pub cut_free : (bytes line left : List ℕ) → cut_line bytes ≡ Some (line, left) → NoFeed line
 cut_free [] line left e = absurd (cc)
 cut_free (b ∷ bytes) line left e = feed_free b bytes line left (is_line_feed b) (cut_line bytes) refl e (λ front rest is. cut_free bytes front rest is)
 
-plain_test : (let_in there : Bool) (out doubled : ColumnError) (others : ReadTexts) (read : List Text × List ℕ) → cond let_in (cond there (Err doubled) others) (Err out) ≡ Ok read → others ≡ Ok read
+pub plain_test : (let_in there : Bool) (out doubled : ColumnError) (others : ReadTexts) (read : List Text × List ℕ) → cond let_in (cond there (Err doubled) others) (Err out) ≡ Ok read → others ≡ Ok read
 plain_test false there out doubled others read e = absurd (cc)
 plain_test true true out doubled others read e = absurd (cc)
 plain_test true false out doubled others read e = e

@@ -2,7 +2,7 @@
 --
 -- The lines of the input are those that were read, and then those of the rest. So the first lines are those
 -- that were read, and the next one is the first of the rest. If nothing is left, all lines were read.
-use Rattle.std.proofs.Common.{ℕ, Bool, ◌≡◌, ◌+◌, ◌≤◌, List, [], ◌∷◌, ◌++◌, length, take, Some, refl, sym, ap, subst, ◌∙◌, arith, append_assoc}
+use Rattle.std.proofs.Common.{ℕ, Bool, ◌≡◌, ◌+◌, ◌≤◌, List, [], ◌∷◌, ◌++◌, length, take, Option, Some, refl, sym, ap, subst, ◌∙◌, arith, append_assoc}
 use Rattle.std.specs.Prelude.{slice_get}
 use Rattle.std.proofs.Math.Seq.{take-append_seam}
 use Rattle.std.proofs.lemmas.List.{append-nil, length_push, length-append}
@@ -11,6 +11,7 @@ use Rattle.lasso_parts.specs.Texts.{Text}
 use Rattle.lasso_input.specs.Lines.{lines_of}
 use Rattle.lasso_codes.specs.Limits.{AreLetIn, IsLetIn}
 use Rattle.lasso_codes.specs.Stages.{Taken}
+use Rattle.lasso_codes.specs.Streams.{FailsAfter, LosesPart}
 
 -- one line more
 pub taken_push : (input rest : List ℕ) (only : Bool) (number : ℕ) (done : List Text) (line : Text) (left : List ℕ) → Taken input rest only number done → lines_of rest ≡ line ∷ lines_of left → IsLetIn only line → Taken input left only (number + 1) (done ++ line ∷ [])
@@ -44,3 +45,15 @@ at_seam (t ∷ done) line more = at_seam done line more
 pub taken_next : (input rest : List ℕ) (only : Bool) (number : ℕ) (done : List Text) (line : Text) (more : List Text) → Taken input rest only number done → lines_of rest ≡ line ∷ more → slice_get (lines_of input) (length done) ≡ Some line
 taken_next input rest only number done line more taken cut =
     ap (λ (ls : List Text). slice_get ls (length done)) (taken.split ∙ ap (λ (ls : List Text). done ++ ls) cut) ∙ at_seam done line more
+
+-- a read failed at the next line
+pub taken_fails : (input rest : List ℕ) (only : Bool) (number : ℕ) (done : List Text) → Taken input rest only number done → (before after : Option (List ℕ)) → before ≡ Some rest → LosesPart before after → FailsAfter (lines_of input) (length done) after
+taken_fails input rest only number done taken before after there loses =
+    let lost = loses rest there in (
+      lost.0,
+      lost.1,
+      lost.2,
+      taken.split ∙ ap (λ bs. done ++ lines_of bs) lost.3
+          ∙ ap (λ (ls : List Text). ls ++ lines_of (lost.0 ++ lost.1)) (sym (taken_first input rest only number done taken)),
+      lost.4,
+    )

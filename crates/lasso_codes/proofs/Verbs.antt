@@ -16,11 +16,11 @@ use Rattle.lasso_codes.specs.declared.error.RunError.{RunError}
 module _ (settings : Settings) (null : Option Text) (bytes : List ℕ) (left : Option (List ℕ)) (before after : Option (List ℕ)) (result : Result (Unit {0}) RunError) where
   -- the end of the verb, by those of the five
   pub verb_end : (verb : Verb)
-      → (verb ≡ Counts → Writes before after (λ part. CountsEnd bytes settings.only_utf8 settings.limit settings.top part result))
-      → (verb ≡ Decode → Writes before after (λ part. DecodeEnd bytes settings.only_utf8 settings.limit null part result))
+      → (verb ≡ Counts → Writes before after (λ part. CountsEnd bytes settings.only_utf8 settings.limit settings.top left part result))
+      → (verb ≡ Decode → Writes before after (λ part. DecodeEnd bytes settings.only_utf8 settings.limit null left part result))
       → (verb ≡ Distinct → Writes before after (λ part. DistinctEnd bytes settings.only_utf8 settings.limit left part result))
-      → (verb ≡ Encode → Writes before after (λ part. EncodeEnd bytes settings.only_utf8 settings.limit null settings.binary part result))
-      → (verb ≡ Merge → Writes before after (λ part. MergeEnd bytes settings.only_utf8 settings.limit settings.binary part result))
+      → (verb ≡ Encode → Writes before after (λ part. EncodeEnd bytes settings.only_utf8 settings.limit null settings.binary left part result))
+      → (verb ≡ Merge → Writes before after (λ part. MergeEnd bytes settings.only_utf8 settings.limit settings.binary left part result))
       → Writes before after (λ part. VerbEnd verb settings null bytes left part result)
   verb_end Counts counts decode distinct encode merge = counts refl
   verb_end Decode counts decode distinct encode merge = decode refl

@@ -1,7 +1,8 @@
 -- Known bytes of a writer that grow, one call after the other: the parts join.
-use Rattle.std.proofs.Common.{ℕ, ◌≡◌, List, [], ◌++◌, take, Option, Some, None, Result, Ok, Err, sym, ap, ◌∙◌, append_assoc}
+use Rattle.std.proofs.Common.{ℕ, ◌≡◌, List, [], ◌++◌, take, Option, Some, None, Result, Ok, Err, IfErr, sym, ap, ◌∙◌, append_assoc}
 use Rattle.std.specs.Io.KnownBytes.{Appends, Keeps}
 use Rattle.std.proofs.lemmas.List.{append-nil}
+use Rattle.lasso_codes.specs.Errors.{IsWriteError}
 use Rattle.lasso_codes.specs.Streams.{Begins, Writes, WritesAll}
 use Rattle.lasso_codes.specs.declared.error.RunError.{RunError}
 
@@ -33,6 +34,11 @@ writes_then before mid after P Q R v w join = (v.0 ++ w.0, appends_then before m
 
 pub writes_kept : (before mid after : Option (List ℕ)) (P Q : List ℕ → Type 0) → Writes before mid P → Keeps mid after → ((part : List ℕ) → P part → Q part) → Writes before after Q
 writes_kept before mid after P Q w kept then = (w.0, appends_kept before mid after w.0 w.1 kept, then w.0 w.2)
+
+-- all bytes are written, and the last flush may fail
+pub all_written : (bytes part : List ℕ) (result : Result (Unit {0}) RunError) → part ≡ bytes → IfErr result IsWriteError → WritesAll bytes result part
+all_written bytes part (Ok x) is flushed = is
+all_written bytes part (Err error) is flushed = (flushed, ([], sym is ∙ sym (append-nil part)))
 
 -- ---- bytes that several calls take
 

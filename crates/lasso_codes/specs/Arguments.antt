@@ -1,8 +1,9 @@
 -- How the arguments are parsed, and why they are refused.
-use Rattle.std.specs.Prelude.{ℕ, ◌+◌, ◌-◌, ◌*◌, ◌^◌, ◌<◌, ◌==◌, Bool, true, false, ◌&&◌, List, [], ◌∷◌, ◌++◌, length, take, drop, nat_le, nat_lt, Option, Some, None, Result, Ok, Err, slice_get, option_and_then, option_map, position, codes, decimal, bytes_eq, if◌then◌else◌}
+use Rattle.std.specs.Prelude.{ℕ, ◌≡◌, ◌+◌, ◌-◌, ◌*◌, ◌^◌, ◌<◌, ◌==◌, Bool, true, false, ◌&&◌, List, [], ◌∷◌, ◌++◌, length, take, drop, nat_le, nat_lt, Option, Some, None, Result, Ok, Err, slice_get, option_and_then, option_map, position, codes, decimal, bytes_eq, IfSome, IsSome, MatchOption, MatchResult, if◌then◌else◌}
 use Rattle.lasso_parts.specs.Texts.{Text}
 use Rattle.lasso_input.specs.Numbers.{digits_value}
 use Rattle.lasso_input.specs.Workers.{most_workers}
+use Rattle.lasso_columns.specs.Rows.{word_of}
 use Rattle.lasso_codes.specs.declared.arguments.Verb.{Verb}
 use Rattle.lasso_codes.specs.declared.arguments.Verb.TheVariants.{Counts, Decode, Distinct, Encode, Merge}
 use Rattle.lasso_codes.specs.declared.arguments.Settings.{Settings}
@@ -208,6 +209,25 @@ options_of verb settings null None (word ∷ words) =
     (λ setting. options_of verb settings null (Some (setting, word)) words)
     (λ setting at. on_value (value_of settings null setting (drop (at + 1) word) word) (λ after given. options_of verb after given None words))
     (Err (not_option word))
+
+-- the command that the rest of the words gives after what was read
+abbrev pub asked_after : Verb → Reading → List Text → Asked
+asked_after verb reading words = options_of verb reading.settings (word_of reading.null) (wanted_of reading) words
+
+-- one word was read, and `asked` is the command that the rest of the words gives after that, or `--help`; or it is the
+-- error's message
+abbrev pub ReadsWord : Verb → Asked → List Text → Result (Option Reading) ArgumentError → Type 0
+ReadsWord verb asked words result =
+    MatchResult result
+    (λ next. MatchOption next (asked ≡ Ok (VerbHelp verb, None)) (λ after. asked ≡ asked_after verb after words))
+    (λ error. asked ≡ Err (argument_text error))
+
+-- the settings and the null of what was read are these, and no value is wanted; or these are the error's message
+abbrev pub ReadsValue : Result (Settings × Option Text) (List ℕ) → Result (Option Reading) ArgumentError → Type 0
+ReadsValue value result =
+    MatchResult result
+    (λ next. IfSome next (λ after. (value ≡ Ok (after.settings, word_of after.null)) × (after.wanted ≡ None)) × IsSome next)
+    (λ error. value ≡ Err (argument_text error))
 
 -- ---- verbs
 

@@ -1,5 +1,5 @@
 -- What `decode` writes, and how it ends.
-use Rattle.std.specs.Prelude.{true, ℕ, zero, suc, ◌≡◌, ◌+◌, ◌<◌, Bool, List, [], ◌++◌, take, flat_map, Option, Some, None, Result, Ok, Err, MatchResult, slice_get}
+use Rattle.std.specs.Prelude.{true, ℕ, zero, suc, ◌≡◌, ◌+◌, ◌<◌, ◌⊎◌, Bool, List, [], ◌++◌, take, flat_map, Option, Some, None, Result, Ok, Err, MatchResult, slice_get}
 use Rattle.lasso_parts.specs.Texts.{Text}
 use Rattle.lasso_parts.specs.declared.util.LassoErrorKind.TheVariants.{FailedAllocation}
 use Rattle.lasso_input.specs.Lines.{lines_of}
@@ -8,8 +8,8 @@ use Rattle.lasso_codes.specs.Distinct.{with_feed}
 use Rattle.lasso_codes.specs.Encode.{EncodeEnd}
 use Rattle.lasso_codes.specs.Errors.{AreTooMany}
 use Rattle.lasso_codes.specs.Limits.{line_texts, Admits}
-use Rattle.lasso_codes.specs.Reading.{Makes, ReadItems, texts_at, read_column, IsEntryError, IsColumnError}
-use Rattle.lasso_codes.specs.Streams.{Begins, WritesAll}
+use Rattle.lasso_codes.specs.Reading.{Makes, ReadItems, texts_at, read_column, IsCut, IsEntryError, IsColumnError, LacksEntry}
+use Rattle.lasso_codes.specs.Streams.{Begins, StopsShort, WritesAll}
 use Rattle.lasso_codes.specs.declared.entries.Entry.TheVariants.{Missing, Bad, Null, Code}
 use Rattle.lasso_codes.specs.declared.error.ColumnError.{ColumnError}
 use Rattle.lasso_codes.specs.declared.error.ColumnError.TheVariants.{TextRefused, NoEntry, NotEntry, PastTexts, IsNull}
@@ -72,10 +72,12 @@ abbrev pub WritesEntry : Result Text ColumnError → ℕ → Result (Unit {0}) R
 WritesEntry (Ok line) column result part = WritesAll (with_feed line) result part
 WritesEntry (Err error) column result part = (result ≡ Err (Column column error)) × (part ≡ [])
 
--- all lines of the column with this number were written, and the bytes after it are left
-abbrev pub WritesLines : ReadItems Text → ℕ → Option (List ℕ) → List ℕ → Result (Unit {0}) RunError → Type 0
-WritesLines read column after part result =
-    MatchResult result (λ _. (rest : List ℕ) × (after ≡ Some rest) × (read.1 ≡ Ok rest) × (part ≡ fed_lines read.0)) (DecodingError read column part)
+-- all lines of the column with this number were written, and the bytes after it are left. `reads` reads the lines from
+-- bytes. If a read failed, an entry is missing in what was read, and the lines before it were written
+abbrev pub WritesLines : (List ℕ → ReadItems Text) → List ℕ → ℕ → Option (List ℕ) → List ℕ → Result (Unit {0}) RunError → Type 0
+WritesLines reads bytes column after part result =
+    MatchResult result (λ _. (rest : List ℕ) × (after ≡ Some rest) × ((reads bytes).1 ≡ Ok rest) × (part ≡ fed_lines (reads bytes).0))
+    (λ error. DecodingError (reads bytes) column part error × (error ≡ ReadFailed → StopsShort bytes after (LacksEntry reads (λ lines. part ≡ fed_lines lines))))
 
 -- ---- how a run ends
 
@@ -95,24 +97,42 @@ abbrev pub lines_before : Bool → Option Text → List ℕ → ColumnError → 
 lines_before only null bytes (TextRefused number error) = []
 lines_before only null bytes error = (decoded only null bytes).0
 
--- how a run ends with an error after it has written the part
-abbrev pub DecodeError : List ℕ → Bool → ℕ → Option Text → List ℕ → RunError → Type 0
-DecodeError input only limit null part (Line error) = (error ≡ Refused 0 FailedAllocation) × IsWhole input only limit null part
-DecodeError input only limit null part TooManyLines =
+-- the bytes are none, or end within a column, as an error says. The part is these lines, and then those of the column
+-- that come before its end
+abbrev pub DecodesPart : Bool → ℕ → Option Text → List Text → List ℕ → List ℕ → Type 0
+DecodesPart only limit null lines part bytes =
+    ((bytes ≡ []) × (part ≡ fed_lines lines))
+    ⊎ ((error : ColumnError) × IsCut bytes error × IsColumnError only (line_at null) limit bytes error × (part ≡ fed_lines (lines ++ lines_before only null bytes error)))
+
+-- the bytes are columns, but may end within the last one. A new interner with this limit takes the dictionary of each, and
+-- the part is all lines in these bytes
+abbrev pub DecodesShort : Bool → ℕ → Option Text → List ℕ → List ℕ → Type 0
+DecodesShort only limit null part bytes =
+    (n : ℕ) × (lines : List Text) × (rest : List ℕ) × Reads only null n bytes lines rest × AdmitsEach only limit null n bytes × DecodesPart only limit null lines part rest
+
+-- how a run ends with an error after it has written the part, and what is left of the input then. If a read failed, it
+-- ends as if the input had ended there, and nothing was wrong in what was read
+abbrev pub DecodeError : List ℕ → Bool → ℕ → Option Text → Option (List ℕ) → List ℕ → RunError → Type 0
+DecodeError input only limit null after part (Line error) = (error ≡ Refused 0 FailedAllocation) × IsWhole input only limit null part
+DecodeError input only limit null after part TooManyLines =
     (n : ℕ) × (lines : List Text) × (rest : List ℕ) × Reads only null n input lines rest × AdmitsEach only limit null n input × AreTooMany n × (part ≡ fed_lines lines)
-DecodeError input only limit null part ReadFailed = IsWhole input only limit null part
-DecodeError input only limit null part WriteFailed = IsBegun input only null part
-DecodeError input only limit null part ReaderGone = IsBegun input only null part
-DecodeError input only limit null part (Column column error) =
+DecodeError input only limit null after part ReadFailed = IsWhole input only limit null part × StopsShort input after (DecodesShort only limit null part)
+DecodeError input only limit null after part WriteFailed = IsBegun input only null part
+DecodeError input only limit null after part ReaderGone = IsBegun input only null part
+DecodeError input only limit null after part (Column column error) =
     (n : ℕ) × (lines : List Text) × (rest : List ℕ) × Reads only null n input lines rest × AdmitsEach only limit null n input × (column ≡ n + 1)
     × IsColumnError only (line_at null) limit rest error × (part ≡ fed_lines (lines ++ lines_before only null rest error))
 
 -- how a run of `decode` ends: without an error, the input is columns, a new interner with this limit takes the
 -- dictionary of each, and the part is their lines
-abbrev pub DecodeEnd : List ℕ → Bool → ℕ → Option Text → List ℕ → Result (Unit {0}) RunError → Type 0
-DecodeEnd input only limit null part result =
+abbrev pub DecodeEnd : List ℕ → Bool → ℕ → Option Text → Option (List ℕ) → List ℕ → Result (Unit {0}) RunError → Type 0
+DecodeEnd input only limit null after part result =
     MatchResult result (λ _. (n : ℕ) × (lines : List Text) × Reads only null n input lines [] × AdmitsEach only limit null n input × (part ≡ fed_lines lines))
-    (DecodeError input only limit null part)
+    (DecodeError input only limit null after part)
+
+-- the same, of the input and the part
+abbrev pub DecodeEnds : Bool → ℕ → Option Text → Option (List ℕ) → Result (Unit {0}) RunError → List ℕ → List ℕ → Type 0
+DecodeEnds only limit null after result input part = DecodeEnd input only limit null after part result
 
 -- ---- the law
 
@@ -120,5 +140,5 @@ DecodeEnd input only limit null part result =
 -- UTF-8 is let in, and `encode` let in no more
 abbrev pub DecodingGivesLines : Type 0
 DecodingGivesLines =
-    (input : List ℕ) (only strict : Bool) (limit : ℕ) (null : Option Text) (binary : Bool) (part rest : List ℕ)
-    → (strict ≡ true → only ≡ true) → EncodeEnd input only limit null binary part (Ok tt) → decoded strict null (part ++ rest) ≡ (lines_of input, Ok rest)
+    (input : List ℕ) (only strict : Bool) (limit : ℕ) (null : Option Text) (binary : Bool) (part rest : List ℕ) (after : Option (List ℕ))
+    → (strict ≡ true → only ≡ true) → EncodeEnd input only limit null binary after part (Ok tt) → decoded strict null (part ++ rest) ≡ (lines_of input, Ok rest)

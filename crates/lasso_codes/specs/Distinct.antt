@@ -80,3 +80,7 @@ DistinctError input only limit after part (Column column error) = ⊥
 abbrev pub DistinctEnd : List ℕ → Bool → ℕ → Option (List ℕ) → List ℕ → Result (Unit {0}) RunError → Type 0
 DistinctEnd input only limit after part result =
     MatchResult result (λ _. AreTaken only limit (lines_of input) × (part ≡ distinct_report (lines_of input))) (DistinctError input only limit after part)
+
+-- the same, of the input and the part
+abbrev pub DistinctEnds : Bool → ℕ → Option (List ℕ) → Result (Unit {0}) RunError → List ℕ → List ℕ → Type 0
+DistinctEnds only limit after result input part = DistinctEnd input only limit after part result

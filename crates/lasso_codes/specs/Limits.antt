@@ -1,21 +1,16 @@
 -- Which lines are taken, what an interner with a limit takes, and why it takes no more.
-use Rattle.std.specs.Prelude.{ℕ, ◌≡◌, ◌+◌, ◌≤◌, ◌⊎◌, Bool, true, false, List, length, map, All, Ok, IsSomeAnd, slice_get}
-use Rattle.std.specs.Str.{is_utf8}
+use Rattle.std.specs.Prelude.{ℕ, ◌≡◌, ◌+◌, ◌≤◌, ◌⊎◌, Bool, true, false, List, length, map, All, Ok, IsSomeAnd, is_none, slice_get}
 use Rattle.hex.specs.Hex.{IsBytes}
-use Rattle.lasso_parts.specs.Texts.{Text}
+use Rattle.lasso_parts.specs.Texts.{Text, position_of}
 use Rattle.lasso_parts.specs.declared.util.LassoError.{LassoError}
 use Rattle.lasso_parts.specs.declared.util.LassoErrorKind.TheVariants.{FailedAllocation}
 use Rattle.lasso_single.specs.Filling.{extend}
+use Rattle.lasso_single.specs.Intern.{InternsIn}
 use Rattle.lasso_single.specs.Interner.{InternerView, made_with}
 use Rattle.lasso_single.specs.Coding.{spur_at, IsAdmitted, IsRefused}
-use Rattle.lasso_input.specs.Texts.{is_own_text, text_of}
+use Rattle.lasso_input.specs.Texts.{is_let_in, is_own_text, text_of}
 use Rattle.lasso_columns.specs.declared.faults.LineError.{LineError}
 use Rattle.lasso_columns.specs.declared.faults.LineError.TheVariants.{Refused, NotText}
-
--- whether the line is let in: any line, or only one that is UTF-8
-abbrev pub is_let_in : Bool → List ℕ → Bool
-is_let_in false line = true
-is_let_in true line = is_utf8 line
 
 -- the line is a list of bytes, and is let in
 abbrev pub IsLetIn : Bool → List ℕ → Type 0
@@ -28,6 +23,27 @@ AreLetIn only lines = All (IsLetIn only) lines
 -- the texts of the lines
 abbrev pub line_texts : List (List ℕ) → List Text
 line_texts lines = map text_of lines
+
+-- the line is let in, and its text is interned
+abbrev pub InternsLine : Bool → InternerView → List ℕ → InternerView → Type 0
+InternsLine only old line new = IsLetIn only line × ((key : ℕ) × InternsIn {K = ℕ} spur_at old (text_of line) (Ok key) new)
+
+-- the same, and whether the text is new
+abbrev pub InternsOrFinds : Bool → InternerView → List ℕ → InternerView → Bool → Type 0
+InternsOrFinds only old line new is_new =
+    IsLetIn only line × ((key : ℕ) × InternsIn {K = ℕ} spur_at old (text_of line) (Ok key) new) × (is_new ≡ is_none (position_of old.texts (text_of line)))
+
+-- the texts of the lines are interned
+abbrev pub InternsLines : InternerView → List (List ℕ) → InternerView → Type 0
+InternsLines old lines new = extend spur_at old (line_texts lines) (Ok tt) new
+
+-- the interner's own texts were interned, from the first one on
+abbrev pub InternsOwn : InternerView → InternerView → Type 0
+InternsOwn old new = extend spur_at old new.texts (Ok tt) new
+
+-- if the interner is new, P holds of its limit
+abbrev pub IfNew : InternerView → (ℕ → Type 0) → Type 0
+IfNew old P = (limit : ℕ) → old ≡ made_with 4096 limit → P limit
 
 -- a new interner with this limit takes the texts
 abbrev pub Admits : ℕ → List Text → Type 0

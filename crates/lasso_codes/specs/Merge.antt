@@ -14,8 +14,8 @@ use Rattle.lasso_codes.specs.Columns.{column_of, entry_at}
 use Rattle.lasso_codes.specs.Decode.{decoded, Reads}
 use Rattle.lasso_codes.specs.Errors.{AreTooMany}
 use Rattle.lasso_codes.specs.Limits.{line_texts, Admits}
-use Rattle.lasso_codes.specs.Reading.{Makes, ReadItems, texts_at, read_column, IsEntryError, IsColumnError}
-use Rattle.lasso_codes.specs.Streams.{Begins}
+use Rattle.lasso_codes.specs.Reading.{Makes, ReadItems, texts_at, read_column, IsCut, IsEntryError, IsColumnError, LacksEntry}
+use Rattle.lasso_codes.specs.Streams.{Begins, StopsShort}
 use Rattle.lasso_codes.specs.declared.entries.Entry.TheVariants.{Missing, Bad, Null, Code}
 use Rattle.lasso_codes.specs.declared.error.ColumnError.{ColumnError}
 use Rattle.lasso_codes.specs.declared.error.ColumnError.TheVariants.{NoEntry, NotEntry, PastTexts, NotMerged}
@@ -82,10 +82,13 @@ AddsEntry (Ok entry) column before after result =
     MatchResult result (λ _. (number : ℕ) × (entry ≡ entry_at number) × (after ≡ before ++ number ∷ [])) (λ error. error ≡ Line (Refused 0 FailedAllocation))
 AddsEntry (Err error) column before after result = result ≡ Err (Column column error)
 
--- the entries of the column with this number were added, and the bytes after them are left
-abbrev pub AddsEntries : ReadItems (Option ℕ) → ℕ → Option (List ℕ) → List ℕ → List ℕ → Result (Unit {0}) RunError → Type 0
-AddsEntries read column left before after result =
-    MatchResult result (λ _. (rest : List ℕ) × (left ≡ Some rest) × (read.1 ≡ Ok rest) × (map entry_at after ≡ map entry_at before ++ read.0)) (EntriesError read column)
+-- the entries of the column with this number were added, and the bytes after them are left. `reads` reads the entries from
+-- bytes. If a read failed, an entry is missing in what was read
+abbrev pub AddsEntries : (List ℕ → ReadItems (Option ℕ)) → List ℕ → ℕ → Option (List ℕ) → List ℕ → List ℕ → Result (Unit {0}) RunError → Type 0
+AddsEntries reads bytes column left before after result =
+    MatchResult result
+    (λ _. (rest : List ℕ) × (left ≡ Some rest) × ((reads bytes).1 ≡ Ok rest) × (map entry_at after ≡ map entry_at before ++ (reads bytes).0))
+    (λ error. EntriesError (reads bytes) column error × (error ≡ ReadFailed → StopsShort bytes left (LacksEntry reads (λ _. Unit {0}))))
 
 -- ---- how a run ends
 
@@ -112,27 +115,33 @@ abbrev pub AreMerged : List ℕ → Bool → ℕ → List Text → List ℕ → 
 AreMerged input only limit list numbers =
     (n : ℕ) × (texts : List Text) × MergesWithin only limit n input texts (map entry_at numbers) [] × (list ≡ line_texts (distinct_of texts)) × All IsBytes texts × (length list < 2 ^ 32)
 
--- why columns were not merged
-abbrev pub MergingError : List ℕ → Bool → ℕ → RunError → Type 0
-MergingError input only limit (Line error) = error ≡ Refused 0 FailedAllocation
-MergingError input only limit TooManyLines =
+-- the bytes are columns, but may end within the last one. The whole ones are merged within this limit
+abbrev pub MergesShort : Bool → ℕ → List ℕ → Type 0
+MergesShort only limit bytes =
+    (n : ℕ) × (texts : List Text) × (entries : List (Option ℕ)) × (rest : List ℕ) × MergesWithin only limit n bytes texts entries rest
+    × ((rest ≡ []) ⊎ ((error : ColumnError) × IsCut rest error × IsMergeError only limit texts rest error))
+
+-- why columns were not merged, and what is left of the input then. If a read failed, nothing was wrong in what was read
+abbrev pub MergingError : List ℕ → Bool → ℕ → Option (List ℕ) → RunError → Type 0
+MergingError input only limit after (Line error) = error ≡ Refused 0 FailedAllocation
+MergingError input only limit after TooManyLines =
     (n : ℕ) × (texts : List Text) × (entries : List (Option ℕ)) × (rest : List ℕ) × MergesWithin only limit n input texts entries rest × AreTooMany n
-MergingError input only limit ReadFailed = Unit {0}
-MergingError input only limit WriteFailed = ⊥
-MergingError input only limit ReaderGone = ⊥
-MergingError input only limit (Column column error) =
+MergingError input only limit after ReadFailed = StopsShort input after (MergesShort only limit)
+MergingError input only limit after WriteFailed = ⊥
+MergingError input only limit after ReaderGone = ⊥
+MergingError input only limit after (Column column error) =
     (n : ℕ) × (texts : List Text) × (entries : List (Option ℕ)) × (rest : List ℕ) × MergesWithin only limit n input texts entries rest × (column ≡ n + 1)
     × IsMergeError only limit texts rest error
 
--- how a run ends with an error after it has written the part. Nothing was written unless all columns were
--- merged
-abbrev pub MergeError : List ℕ → Bool → ℕ → Bool → List ℕ → RunError → Type 0
-MergeError input only limit binary part (Line error) = (part ≡ []) × MergingError input only limit (Line error)
-MergeError input only limit binary part TooManyLines = (part ≡ []) × MergingError input only limit TooManyLines
-MergeError input only limit binary part ReadFailed = part ≡ []
-MergeError input only limit binary part WriteFailed = IsMergeBegun input only binary part
-MergeError input only limit binary part ReaderGone = IsMergeBegun input only binary part
-MergeError input only limit binary part (Column column error) = (part ≡ []) × MergingError input only limit (Column column error)
+-- how a run ends with an error after it has written the part, and what is left of the input then. Nothing was written
+-- unless all columns were merged
+abbrev pub MergeError : List ℕ → Bool → ℕ → Bool → Option (List ℕ) → List ℕ → RunError → Type 0
+MergeError input only limit binary after part (Line error) = (part ≡ []) × MergingError input only limit after (Line error)
+MergeError input only limit binary after part TooManyLines = (part ≡ []) × MergingError input only limit after TooManyLines
+MergeError input only limit binary after part ReadFailed = (part ≡ []) × MergingError input only limit after ReadFailed
+MergeError input only limit binary after part WriteFailed = IsMergeBegun input only binary part
+MergeError input only limit binary after part ReaderGone = IsMergeBegun input only binary part
+MergeError input only limit binary after part (Column column error) = (part ≡ []) × MergingError input only limit after (Column column error)
 
 -- the codes and the number of entries fit into a column
 abbrev pub AreFew : List Text → List (Option ℕ) → Type 0
@@ -140,12 +149,16 @@ AreFew list entries = (length list < 2 ^ 32) × (length entries < 2 ^ 64)
 
 -- how a run of `merge` ends: without an error, the input is columns, they are merged within this limit, and the
 -- part is the merged column
-abbrev pub MergeEnd : List ℕ → Bool → ℕ → Bool → List ℕ → Result (Unit {0}) RunError → Type 0
-MergeEnd input only limit binary part result =
+abbrev pub MergeEnd : List ℕ → Bool → ℕ → Bool → Option (List ℕ) → List ℕ → Result (Unit {0}) RunError → Type 0
+MergeEnd input only limit binary after part result =
     MatchResult result
     (λ _. (n : ℕ) × (texts : List Text) × (entries : List (Option ℕ)) × MergesWithin only limit n input texts entries [] × AreFew (distinct_of texts) entries
     × (part ≡ column_of binary (distinct_of texts) entries))
-    (MergeError input only limit binary part)
+    (MergeError input only limit binary after part)
+
+-- the same, of the input and the part
+abbrev pub MergeEnds : Bool → ℕ → Bool → Option (List ℕ) → Result (Unit {0}) RunError → List ℕ → List ℕ → Type 0
+MergeEnds only limit binary after result input part = MergeEnd input only limit binary after part result
 
 -- ---- the laws
 

@@ -1,7 +1,7 @@
 -- How a column is read from bytes: a header line, the texts of its dictionary, and its entries.
 use Rattle.std.specs.Prelude.{ℕ, zero, suc, ◌≡◌, ◌+◌, ◌-◌, ◌<◌, ◌==◌, ◌⊎◌, Bool, true, false, List, [], ◌∷◌, ◌++◌, length, take, drop, is_some, All, Option, Some, None, Result, Ok, Err, option_map, position, bytes_eq, if◌then◌else◌}
 use Rattle.std.specs.Int.{w32, from_le_bytes}
-use Rattle.lasso_input.specs.Texts.{text_of}
+use Rattle.lasso_input.specs.Texts.{is_let_in, text_of}
 use Rattle.hex.specs.Hex.{IsBytes}
 use Rattle.lasso_parts.specs.Texts.{Text, position_of}
 use Rattle.lasso_parts.specs.declared.util.LassoError.{LassoError}
@@ -12,8 +12,8 @@ use Rattle.lasso_single.specs.Coding.{spur_at, IsRefused}
 use Rattle.lasso_input.specs.Numbers.{digits_value}
 use Rattle.lasso_codes.specs.Columns.{header_front}
 use Rattle.lasso_codes.specs.Errors.{IsReadError}
-use Rattle.lasso_codes.specs.Limits.{is_let_in, line_texts, Admits, IsLetIn, IsTextLackingMemory}
-use Rattle.lasso_codes.specs.Streams.{cut_line}
+use Rattle.lasso_codes.specs.Limits.{line_texts, Admits, IsLetIn, IsTextLackingMemory}
+use Rattle.lasso_codes.specs.Streams.{cut_line, IfKnown, LosesLine, StopsShort}
 use Rattle.lasso_codes.specs.declared.error.ColumnError.{ColumnError}
 use Rattle.lasso_codes.specs.declared.error.ColumnError.TheVariants.{NoHeader, NoText, NotUtf8, Doubled, TextRefused, NoEntry, NotEntry, PastTexts, IsNull, NotMerged}
 use Rattle.lasso_codes.specs.declared.error.RunError.{RunError}
@@ -69,8 +69,8 @@ abbrev pub HasNoHeader : List ℕ → Type 0
 HasNoHeader bytes = (0 < length bytes) × (head_of bytes ≡ None)
 
 -- why the header of the column with this number was not read
-abbrev pub HeaderError : Option (List ℕ) → ℕ → RunError → Type 0
-HeaderError before column error = IsReadError 0 error ⊎ ((error ≡ Column column NoHeader) × ((bytes : List ℕ) → before ≡ Some bytes → HasNoHeader bytes))
+abbrev pub HeaderError : Option (List ℕ) → Option (List ℕ) → ℕ → RunError → Type 0
+HeaderError before after column error = (IsReadError 0 error × LosesLine before after) ⊎ ((error ≡ Column column NoHeader) × IfKnown before HasNoHeader)
 
 -- ---- the dictionary
 
@@ -151,9 +151,16 @@ IsTextError only limit distinct bytes (PastTexts number) = ⊥
 IsTextError only limit distinct bytes (IsNull number) = ⊥
 IsTextError only limit distinct bytes error = (texts_from only distinct [] bytes ≡ Err error) × Admits limit (line_texts (texts_before only distinct bytes error))
 
--- why the texts of the column with this number were not read
-abbrev pub TextsError : Bool → ℕ → ℕ → ℕ → List ℕ → RunError → Type 0
-TextsError only limit distinct column bytes error = IsReadError 0 error ⊎ ((reason : ColumnError) × (error ≡ Column column reason) × IsTextError only limit distinct bytes reason)
+-- one of the texts is missing
+abbrev pub LacksText : Bool → ℕ → ℕ → List ℕ → Type 0
+LacksText only limit distinct bytes = (number : ℕ) × IsTextError only limit distinct bytes (NoText number)
+
+-- why the texts of the column with this number were not read, and what is left of the bytes then. If a read failed or
+-- memory ran out for a line, a text is missing in what was read
+abbrev pub TextsError : Bool → ℕ → ℕ → ℕ → List ℕ → Option (List ℕ) → RunError → Type 0
+TextsError only limit distinct column bytes after error =
+    (IsReadError 0 error × StopsShort bytes after (LacksText only limit distinct))
+    ⊎ ((reason : ColumnError) × (error ≡ Column column reason) × IsTextError only limit distinct bytes reason)
 
 -- ---- entries
 
@@ -189,6 +196,10 @@ cut_entry false bytes = on_entry_line (cut_line bytes)
 abbrev pub TakesEntry : Bool → Option (List ℕ) → Option (List ℕ) → Entry → Type 0
 TakesEntry binary before after entry = (bytes : List ℕ) → before ≡ Some bytes → (rest : List ℕ) × (after ≡ Some rest) × (cut_entry binary bytes ≡ (entry, rest))
 
+-- a read of an entry failed: none is in what was read of the known bytes
+abbrev pub LosesEntry : Bool → Option (List ℕ) → Option (List ℕ) → Type 0
+LosesEntry binary before after = IfKnown before (λ bytes. StopsShort bytes after (λ seen. cut_entry binary seen ≡ (Missing, [])))
+
 -- ---- what is made of the entries
 
 -- turns the entry with this number into an item, or returns what is wrong with it
@@ -208,6 +219,14 @@ abbrev pub items_from : {X : Type 0} → Makes X → ℕ → Bool → ℕ → Li
 items_from make zero binary number bytes = ([], Ok bytes)
 items_from make (suc n) binary number bytes =
     let cut = cut_entry binary bytes in on_item (make cut.0 number) (items_from make n binary (number + 1) cut.1)
+
+-- the items of the entries of a column with this header
+abbrev pub entry_items : {X : Type 0} → Makes X → Header → List ℕ → ReadItems X
+entry_items make header bytes = items_from make header.lines header.binary 1 bytes
+
+-- one of the items is missing, since its entry is. P holds of the items before it
+abbrev pub LacksEntry : {X : Type 0} → (List ℕ → ReadItems X) → (List X → Type 0) → List ℕ → Type 0
+LacksEntry reads P bytes = (number : ℕ) × ((reads bytes).1 ≡ Err (NoEntry number)) × P (reads bytes).0
 
 -- it is the error of an entry
 abbrev pub IsEntryError : ColumnError → Type 0
@@ -257,3 +276,11 @@ IsColumnError only make limit bytes (TextRefused number error) =
     (head : Header × List ℕ) × (head_of bytes ≡ Some head) × IsTextRefused only limit head.0.distinct head.1 number error
 IsColumnError only make limit bytes NoHeader = HasNoHeader bytes
 IsColumnError only make limit bytes error = ((read_column only make bytes).1 ≡ Err error) × Admits limit (line_texts (head_before only (head_of bytes) error))
+
+-- the error says that the bytes, which begin with a column, end within it: before the end of the header line, of a text
+-- or of an entry
+abbrev pub IsCut : List ℕ → ColumnError → Type 0
+IsCut bytes NoHeader = cut_line bytes ≡ None
+IsCut bytes (NoText number) = Unit {0}
+IsCut bytes (NoEntry number) = Unit {0}
+IsCut bytes error = ⊥

@@ -1,18 +1,14 @@
 //! Counts the lines.
-ghost use Rattle.std.specs.Prelude.{◌≡◌, ◌+◌, ◌-◌, ◌^◌, ◌<◌, ◌≤◌, ◌++◌, ◌∷◌, [], ℕ, List, Some, Ok, Err, OnOk, IfOk, IfErr, MatchResult, length, drop, map, sum, flat_map, vec_len};
-ghost use Rattle.lasso_parts.specs.Texts.{Text};
-ghost use Rattle.lasso_single.specs.Filling.{extend};
-ghost use Rattle.lasso_single.specs.Intern.{InternsIn};
-ghost use Rattle.lasso_single.specs.Interner.{InternerView, made_with};
-ghost use Rattle.lasso_single.specs.Coding.{spur_at};
+ghost use Rattle.std.specs.Prelude.{◌≡◌, ◌+◌, ◌-◌, ◌^◌, ◌<◌, ◌≤◌, [], Err, OnOk, IfOk, IfErr, length, map, sum, flat_map, vec_len};
 ghost use Rattle.lasso_input.specs.Lines.{lines_of};
 ghost use Rattle.lasso_input.specs.Texts.{text_of};
-ghost use Rattle.lasso_columns.specs.Counts.{AreCounts};
-ghost use Rattle.lasso_codes.specs.Counts.{CountsEnd, CountingError, RefusesNewLine, count_line, pair_by};
-ghost use Rattle.lasso_codes.specs.Limits.{line_texts, AreLetIn, IsLetIn, IsLineFault};
-ghost use Rattle.lasso_codes.specs.Stages.{Counting};
-ghost use Rattle.lasso_codes.specs.Streams.{Writes, WritesAll};
-ghost use Rattle.lasso_codes.specs.Errors.{failed_reads, failed_writes, gone_readers, FailsWriting, IsWriteEnd, IsDataError, IsInputError};
+ghost use Rattle.lasso_columns.specs.Adding.{CountsCodes};
+ghost use Rattle.lasso_columns.specs.Counts.{CountsOneMore};
+ghost use Rattle.lasso_codes.specs.Counts.{CountsEnds, CountingError, CountsLines, RefusesNewLine, StopsCountingRound, count_line, grown_to, pair_by};
+ghost use Rattle.lasso_codes.specs.Limits.{IfNew, InternsLine, InternsLines, IsLineFault};
+ghost use Rattle.lasso_codes.specs.Stages.{CountsOn, StopsCounting};
+ghost use Rattle.lasso_codes.specs.Streams.{IfKnown, Reports, ReportsFailure, Writes, WritesAll};
+ghost use Rattle.lasso_codes.specs.Errors.{failed_reads, failed_writes, gone_readers, IsWriteEnd, IsDataError, IsInputError};
 
 use crate::arguments::Settings;
 use crate::error::RunError;
@@ -35,7 +31,7 @@ use std::thread::Threads;
 
 /// Counts the lines, and writes each distinct line after its count, the most frequent first. Lines with equal
 /// counts are in the order of their bytes. At most `top` lines are written. Several workers encode blocks of the
-/// input, as `encode_stream` says, and then the codes are counted.
+/// input, as `encode_stream` says, and the codes of each round are counted after it.
 ///
 /// # Errors
 /// A line that is refused or not let in, a failed read, or out of memory: nothing is written. After a
@@ -46,14 +42,12 @@ pub fn counts<H: AllocGlobal + Threads + Sync, R: Read + Drop, W: Write + Drop>(
     output: &mut Output<W>,
     settings: Settings,
 ) -> Result<(), RunError>
-    ensures report { (bytes : List ℕ) → input.old.left ≡ Some bytes →
-        Writes output.old.written output.new.written (λ part. CountsEnd bytes settings.only_utf8 settings.limit settings.top part result) }
+    ensures report { Reports input.old output.old output.new (CountsEnds settings input.new.left result) }
     ensures flushed { ¬ (IsWriteEnd result) → output.new.pending ≡ [] }
     ensures reads { ¬ (result ≡ Err RunError.WriteFailed) → input.new.failures ≡ input.old.failures + failed_reads result }
     ensures writes { output.new.failures ≡ output.old.failures + failed_writes result }
     ensures gone { ¬ (result ≡ Err RunError.WriteFailed) → output.new.gone ≡ output.old.gone + gone_readers result }
-    ensures write_failed { result ≡ Err RunError.WriteFailed → FailsWriting input.old input.new output.old output.new (λ error. (bytes : List ℕ) → input.old.left ≡ Some bytes →
-        Writes output.old.written output.new.written (λ part. CountsEnd bytes settings.only_utf8 settings.limit settings.top part (Err error))) }
+    ensures write_failed { ReportsFailure result input.old input.new output.old output.new (CountsEnds settings input.new.left) }
 {
     let result = write_counts(rt, input, output, settings);
     end_flushed(output, result)
@@ -66,8 +60,7 @@ fn write_counts<H: AllocGlobal + Threads + Sync, R: Read + Drop, W: Write + Drop
     output: &mut Output<W>,
     settings: Settings,
 ) -> Result<(), RunError>
-    ensures report { (bytes : List ℕ) → input.old.left ≡ Some bytes →
-        Writes output.old.written output.new.written (λ part. CountsEnd bytes settings.only_utf8 settings.limit settings.top part result) }
+    ensures report { Reports input.old output.old output.new (CountsEnds settings input.new.left result) }
     ensures reads { input.new.failures ≡ input.old.failures + failed_reads result }
     ensures writes { output.new.failures ≡ output.old.failures + failed_writes result }
     ensures gone { output.new.gone ≡ output.old.gone + gone_readers result }
@@ -101,12 +94,11 @@ fn count_all<H: AllocGlobal + Threads + Sync, R: Read + Drop>(
 ) -> Result<(), RunError>
     requires no_texts { rodeo.old.texts ≡ [] }
     requires no_counts { counts.old.items ≡ [] }
-    ensures counted { OnOk result ((bytes : List ℕ) → input.old.left ≡ Some bytes →
-        AreLetIn settings.only_utf8 (lines_of bytes) × AreCounts (line_texts (lines_of bytes)) rodeo.new.texts counts.new.items) }
-    ensures interned { OnOk result ((bytes : List ℕ) → input.old.left ≡ Some bytes → extend spur_at rodeo.old (line_texts (lines_of bytes)) (Ok tt) rodeo.new) }
+    ensures counted { OnOk result (IfKnown input.old.left (λ bytes. CountsLines settings.only_utf8 (lines_of bytes) rodeo.new.texts counts.new.items)) }
+    ensures interned { OnOk result (IfKnown input.old.left (λ bytes. InternsLines rodeo.old (lines_of bytes) rodeo.new)) }
     ensures lengths { OnOk result (vec_len counts.new ≡ length rodeo.new.texts) }
-    ensures error { IfErr result (λ error. (bytes : List ℕ) → input.old.left ≡ Some bytes →
-        (limit : ℕ) → rodeo.old ≡ made_with 4096 limit → CountingError settings.only_utf8 limit (lines_of bytes) error) }
+    ensures error { IfErr result (λ error. IfKnown input.old.left (λ bytes. IfNew rodeo.old (λ limit.
+        CountingError settings.only_utf8 limit (lines_of bytes) input.new.left error))) }
     ensures faults { IfErr result IsInputError }
     ensures reads { input.new.failures ≡ input.old.failures + failed_reads result }
 {
@@ -129,12 +121,11 @@ fn count_lines<R: Read + Drop>(
 ) -> Result<(), RunError>
     requires no_texts { rodeo.old.texts ≡ [] }
     requires no_counts { counts.old.items ≡ [] }
-    ensures counted { OnOk result ((bytes : List ℕ) → input.old.left ≡ Some bytes →
-        AreLetIn rule.only_utf8 (lines_of bytes) × AreCounts (line_texts (lines_of bytes)) rodeo.new.texts counts.new.items) }
-    ensures interned { OnOk result ((bytes : List ℕ) → input.old.left ≡ Some bytes → extend spur_at rodeo.old (line_texts (lines_of bytes)) (Ok tt) rodeo.new) }
+    ensures counted { OnOk result (IfKnown input.old.left (λ bytes. CountsLines rule.only_utf8 (lines_of bytes) rodeo.new.texts counts.new.items)) }
+    ensures interned { OnOk result (IfKnown input.old.left (λ bytes. InternsLines rodeo.old (lines_of bytes) rodeo.new)) }
     ensures lengths { vec_len counts.new ≡ length rodeo.new.texts }
-    ensures error { IfErr result (λ error. (bytes : List ℕ) → input.old.left ≡ Some bytes →
-        (limit : ℕ) → rodeo.old ≡ made_with 4096 limit → CountingError rule.only_utf8 limit (lines_of bytes) error) }
+    ensures error { IfErr result (λ error. IfKnown input.old.left (λ bytes. IfNew rodeo.old (λ limit.
+        CountingError rule.only_utf8 limit (lines_of bytes) input.new.left error))) }
     ensures faults { IfErr result IsInputError }
     ensures reads { input.new.failures ≡ input.old.failures + failed_reads result }
 {
@@ -169,15 +160,13 @@ fn count_stretch(
 ) -> Result<(usize, usize), RunError>
     requires lengths { vec_len counts.old ≡ length rodeo.old.texts }
     requires total { sum counts.old.items + 1 ≡ first }
-    ensures counted { IfOk result (λ at. (input later : List ℕ) (start : InternerView) →
-        Counting input (stretch.now ++ later) rule.only_utf8 first start rodeo.old counts.old.items → Counting input (drop at.1 stretch.now ++ later) rule.only_utf8 at.0 start rodeo.new counts.new.items) }
+    ensures counted { IfOk result (λ at. CountsOn rule.only_utf8 stretch.now first rodeo.old counts.old.items at rodeo.new counts.new.items) }
     ensures lengths { vec_len counts.new ≡ length rodeo.new.texts }
     ensures total { IfOk result (λ at. sum counts.new.items + 1 ≡ at.0) }
     ensures more { IfOk result (λ at. first ≤ at.0) }
     ensures number { IfOk result (λ at. at.0 < 2 ^ 64 - 1) }
     ensures within { IfOk result (λ at. at.1 ≤ length stretch.now) }
-    ensures error { IfErr result (λ error. (input later : List ℕ) (limit : ℕ) →
-        Counting input (stretch.now ++ later) rule.only_utf8 first (made_with 4096 limit) rodeo.old counts.old.items → CountingError rule.only_utf8 limit (lines_of input) error) }
+    ensures error { IfErr result (StopsCounting rule.only_utf8 stretch.now first rodeo.old counts.old.items) }
     ensures faults { IfErr result IsDataError }
 {
     let mut lines = Stretch::new(stretch);
@@ -204,8 +193,8 @@ fn count_line(
 ) -> Result<(), LineError>
     requires lengths { vec_len counts.old ≡ length rodeo.old.texts }
     requires fits { sum counts.old.items < 2 ^ 64 - 1 }
-    ensures interned { OnOk result (IsLetIn rule.only_utf8 line.now × ((key : ℕ) × InternsIn {K = ℕ} spur_at rodeo.old (text_of line.now) (Ok key) rodeo.new)) }
-    ensures counted { OnOk result ((texts : List Text) → AreCounts texts rodeo.old.texts counts.old.items → AreCounts (texts ++ text_of line.now ∷ []) rodeo.new.texts counts.new.items) }
+    ensures interned { OnOk result (InternsLine rule.only_utf8 rodeo.old line.now rodeo.new) }
+    ensures counted { OnOk result (CountsOneMore (text_of line.now) rodeo.old.texts counts.old.items rodeo.new.texts counts.new.items) }
     ensures total { OnOk result (sum counts.new.items ≡ sum counts.old.items + 1) }
     ensures lengths { vec_len counts.new ≡ length rodeo.new.texts }
     ensures error { IfErr result (IsLineFault rule.only_utf8 rodeo.old line.now number) }
@@ -232,8 +221,8 @@ fn count_any(
 ) -> Result<(), LineError>
     requires lengths { vec_len counts.old ≡ length rodeo.old.texts }
     requires fits { sum counts.old.items < 2 ^ 64 - 1 }
-    ensures interned { OnOk result (IsLetIn rule.only_utf8 line.now × ((key : ℕ) × InternsIn {K = ℕ} spur_at rodeo.old (text_of line.now) (Ok key) rodeo.new)) }
-    ensures counted { OnOk result ((texts : List Text) → AreCounts texts rodeo.old.texts counts.old.items → AreCounts (texts ++ text_of line.now ∷ []) rodeo.new.texts counts.new.items) }
+    ensures interned { OnOk result (InternsLine rule.only_utf8 rodeo.old line.now rodeo.new) }
+    ensures counted { OnOk result (CountsOneMore (text_of line.now) rodeo.old.texts counts.old.items rodeo.new.texts counts.new.items) }
     ensures total { OnOk result (sum counts.new.items ≡ sum counts.old.items + 1) }
     ensures lengths { vec_len counts.new ≡ length rodeo.new.texts }
     ensures error { IfErr result (IsLineFault rule.only_utf8 rodeo.old line.now number) }
@@ -246,7 +235,7 @@ fn count_any(
     }
 }
 
-// Encodes all lines with several workers, and counts their codes.
+// Encodes all lines with several workers round by round, and counts the codes of each round.
 fn count_stream<H: AllocGlobal + Threads + Sync, R: Read + Drop>(
     rt: &H,
     rule: TextRule,
@@ -257,22 +246,48 @@ fn count_stream<H: AllocGlobal + Threads + Sync, R: Read + Drop>(
 ) -> Result<(), RunError>
     requires no_texts { rodeo.old.texts ≡ [] }
     requires no_counts { counts.old.items ≡ [] }
-    ensures counted { OnOk result ((bytes : List ℕ) → input.old.left ≡ Some bytes →
-        AreLetIn rule.only_utf8 (lines_of bytes) × AreCounts (line_texts (lines_of bytes)) rodeo.new.texts counts.new.items) }
-    ensures interned { OnOk result ((bytes : List ℕ) → input.old.left ≡ Some bytes → extend spur_at rodeo.old (line_texts (lines_of bytes)) (Ok tt) rodeo.new) }
+    ensures counted { OnOk result (IfKnown input.old.left (λ bytes. CountsLines rule.only_utf8 (lines_of bytes) rodeo.new.texts counts.new.items)) }
+    ensures interned { OnOk result (IfKnown input.old.left (λ bytes. InternsLines rodeo.old (lines_of bytes) rodeo.new)) }
     ensures lengths { OnOk result (vec_len counts.new ≡ length rodeo.new.texts) }
-    ensures error { IfErr result (λ error. (bytes : List ℕ) → input.old.left ≡ Some bytes →
-        (limit : ℕ) → rodeo.old ≡ made_with 4096 limit → CountingError rule.only_utf8 limit (lines_of bytes) error) }
+    ensures error { IfErr result (λ error. IfKnown input.old.left (λ bytes. IfNew rodeo.old (λ limit.
+        CountingError rule.only_utf8 limit (lines_of bytes) input.new.left error))) }
     ensures faults { IfErr result IsInputError }
     ensures reads { input.new.failures ≡ input.old.failures + failed_reads result }
 {
-    let mut codes = Vec::new(rt.alloc());
-    input.encode_stream(rt, rule, rodeo, &mut codes, None, workers)?;
-    let Ok(()) = counts.resize(rodeo.len(), 0) else {
+    let mut encoder = input.stream_encoder(rule, workers)?;
+    let mut codes = Vec::new(rule.alloc);
+    let mut number = 0;
+    let mut goes_on = true;
+    while goes_on {
+        goes_on = input.encode_round(rt, &mut encoder, rodeo, &mut codes, number)?;
+        number = count_round(&codes, rodeo.len(), counts, number)?;
+    }
+    Ok(())
+}
+
+// Counts the codes of a round, in which there are this number of texts. `before` is the number of codes in earlier
+// rounds. Returns the number with those of this round.
+fn count_round(
+    codes: &[u32],
+    texts: usize,
+    counts: &mut Vec<u64>,
+    before: usize,
+) -> Result<usize, RunError>
+    requires { sum counts.old.items ≤ before }
+    ensures counted { OnOk result (CountsCodes codes.now (grown_to texts counts.old.items) counts.new.items) }
+    ensures lengths { OnOk result (vec_len counts.new ≡ texts) }
+    ensures total { IfOk result (λ number. sum counts.new.items ≤ number) }
+    ensures number { IfOk result (λ number. number ≡ before + length codes.now) }
+    ensures error { IfErr result (StopsCountingRound (before + length codes.now)) }
+{
+    let Some(number) = before.checked_add(codes.len()) else {
+        return Err(RunError::TooManyLines);
+    };
+    let Ok(()) = counts.resize(texts, 0) else {
         return Err(RunError::no_memory(0));
     };
-    count_codes(&codes, counts);
-    Ok(())
+    count_codes(codes, counts);
+    Ok(number)
 }
 
 // Writes each count and its line.

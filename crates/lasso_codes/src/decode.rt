@@ -1,12 +1,11 @@
 //! Decodes columns into their lines.
-ghost use Rattle.std.specs.Prelude.{◌≡◌, ◌+◌, ◌-◌, ◌≤◌, ◌++◌, [], ℕ, List, Option, Some, Err, IfOk, IfErr, drop, length};
+ghost use Rattle.std.specs.Prelude.{◌≡◌, ◌+◌, ◌-◌, ◌≤◌, [], Err, IfOk, IfErr, length};
 ghost use Rattle.lasso_columns.specs.Rows.{word_of};
-ghost use Rattle.lasso_codes.specs.Decode.{line_at, DecodeEnd, DecodingError, WritesEntry, WritesLines};
-ghost use Rattle.lasso_codes.specs.Errors.{failed_reads, failed_writes, gone_readers, FailsWriting, IsWriteEnd, IsOutputError};
-ghost use Rattle.lasso_codes.specs.Reading.{items_from, ReadItems};
-ghost use Rattle.lasso_codes.specs.Stages.{LinesAhead};
-ghost use Rattle.lasso_parts.specs.Texts.{Text};
-ghost use Rattle.lasso_codes.specs.Streams.{Writes};
+ghost use Rattle.lasso_codes.specs.Decode.{line_at, DecodeEnds, WritesEntry, WritesLines};
+ghost use Rattle.lasso_codes.specs.Errors.{failed_reads, failed_writes, gone_readers, IsWriteEnd, IsOutputError};
+ghost use Rattle.lasso_codes.specs.Reading.{entry_items};
+ghost use Rattle.lasso_codes.specs.Stages.{DecodesOn, StopsDecoding};
+ghost use Rattle.lasso_codes.specs.Streams.{IfKnown, Reports, ReportsFailure, Writes};
 
 use crate::entries::{Entry, first_entry, line_at, next_entry};
 use crate::error::RunError;
@@ -32,14 +31,13 @@ pub fn decode<R: Read + Drop, W: Write + Drop>(
     limits: MemoryLimits,
     null: Option<&[u8]>,
 ) -> Result<(), RunError>
-    ensures report { (bytes : List ℕ) → input.old.left ≡ Some bytes →
-        Writes output.old.written output.new.written (λ part. DecodeEnd bytes rule.only_utf8 limits (word_of null.entry) part result) }
+    ensures report { Reports input.old output.old output.new (DecodeEnds rule.only_utf8 limits (word_of null.entry) input.new.left result) }
     ensures flushed { ¬ (IsWriteEnd result) → output.new.pending ≡ [] }
     ensures reads { ¬ (result ≡ Err RunError.WriteFailed) → input.new.failures ≡ input.old.failures + failed_reads result }
     ensures writes { output.new.failures ≡ output.old.failures + failed_writes result }
     ensures gone { ¬ (result ≡ Err RunError.WriteFailed) → output.new.gone ≡ output.old.gone + gone_readers result }
-    ensures write_failed { result ≡ Err RunError.WriteFailed → FailsWriting input.old input.new output.old output.new (λ error. (bytes : List ℕ) → input.old.left ≡ Some bytes →
-        Writes output.old.written output.new.written (λ part. DecodeEnd bytes rule.only_utf8 limits (word_of null.entry) part (Err error))) }
+    ensures write_failed { ReportsFailure result input.old input.new output.old output.new
+        (DecodeEnds rule.only_utf8 limits (word_of null.entry) input.new.left) }
 {
     let result = write_decoded(rule, input, output, limits, null);
     end_flushed(output, result)
@@ -53,8 +51,7 @@ fn write_decoded<R: Read + Drop, W: Write + Drop>(
     limits: MemoryLimits,
     null: Option<&[u8]>,
 ) -> Result<(), RunError>
-    ensures report { (bytes : List ℕ) → input.old.left ≡ Some bytes →
-        Writes output.old.written output.new.written (λ part. DecodeEnd bytes rule.only_utf8 limits (word_of null.entry) part result) }
+    ensures report { Reports input.old output.old output.new (DecodeEnds rule.only_utf8 limits (word_of null.entry) input.new.left result) }
     ensures reads { input.new.failures ≡ input.old.failures + failed_reads result }
     ensures writes { output.new.failures ≡ output.old.failures + failed_writes result }
     ensures gone { output.new.gone ≡ output.old.gone + gone_readers result }
@@ -82,9 +79,8 @@ fn write_lines<R: Read + Drop, W: Write + Drop>(
     null: Option<&[u8]>,
     column: usize,
 ) -> Result<(), RunError>
-    ensures written { (bytes : List ℕ) → input.old.left ≡ Some bytes →
-        Writes output.old.written output.new.written (λ part. WritesLines (items_from (line_at (word_of null.entry) table.now) header.lines header.binary 1 bytes)
-        column input.new.left part result) }
+    ensures written { IfKnown input.old.left (λ bytes. Writes output.old.written output.new.written (λ part.
+        WritesLines (entry_items (line_at (word_of null.entry) table.now) header) bytes column input.new.left part result)) }
     ensures reads { input.new.failures ≡ input.old.failures + failed_reads result }
     ensures writes { output.new.failures ≡ output.old.failures + failed_writes result }
     ensures gone { output.new.gone ≡ output.old.gone + gone_readers result }
@@ -116,14 +112,12 @@ fn write_stretch<W: Write + Drop>(
     count: usize,
 ) -> Result<(usize, usize), RunError>
     requires { count ≤ header.lines }
-    ensures written { IfOk result (λ at. (read : ReadItems Text) (later : List ℕ) (before : Option (List ℕ)) →
-        Writes before output.old.written (LinesAhead (items_from (line_at (word_of null.entry) table.now) (header.lines - count) header.binary (count + 1) (stretch.now ++ later)) read) →
-        Writes before output.new.written (LinesAhead (items_from (line_at (word_of null.entry) table.now) (header.lines - at.0) header.binary (at.0 + 1) (drop at.1 stretch.now ++ later)) read)) }
+    ensures written { IfOk result (λ at.
+        DecodesOn (line_at (word_of null.entry) table.now) header.binary stretch.now count output.old.written at output.new.written) }
     ensures more { IfOk result (λ at. (count ≤ at.0) × (at.0 ≤ header.lines)) }
     ensures within { IfOk result (λ at. at.1 ≤ length stretch.now) }
-    ensures error { IfErr result (λ error. (read : ReadItems Text) (later : List ℕ) (before : Option (List ℕ)) →
-        Writes before output.old.written (LinesAhead (items_from (line_at (word_of null.entry) table.now) (header.lines - count) header.binary (count + 1) (stretch.now ++ later)) read) →
-        Writes before output.new.written (λ part. DecodingError read column part error)) }
+    ensures error { IfErr result
+        (StopsDecoding (line_at (word_of null.entry) table.now) header column stretch.now count output.old.written output.new.written) }
     ensures faults { IfErr result IsOutputError }
     ensures writes { output.new.failures ≡ output.old.failures + failed_writes result }
     ensures gone { output.new.gone ≡ output.old.gone + gone_readers result }

@@ -1,9 +1,9 @@
 //! Lists the distinct lines.
-ghost use Rattle.std.specs.Prelude.{◌≡◌, ◌+◌, ◌<◌, ◌≤◌, ◌-◌, ◌^◌, ◌++◌, ℕ, List, [], Option, Some, Err, IfOk, IfErr, drop, length};
-ghost use Rattle.lasso_codes.specs.Stages.{OnTheWay};
-ghost use Rattle.lasso_codes.specs.Streams.{Writes};
-ghost use Rattle.lasso_codes.specs.Distinct.{DistinctEnd, PassesLine};
-ghost use Rattle.lasso_codes.specs.Errors.{failed_reads, failed_writes, gone_readers, FailsWriting, IsWriteEnd, IsOutputError};
+ghost use Rattle.std.specs.Prelude.{◌≡◌, ◌+◌, ◌<◌, ◌≤◌, ◌-◌, ◌^◌, [], Err, IfOk, IfErr, length};
+ghost use Rattle.lasso_codes.specs.Stages.{PassesOn, StopsPassing};
+ghost use Rattle.lasso_codes.specs.Streams.{Reports, ReportsFailure, Writes};
+ghost use Rattle.lasso_codes.specs.Distinct.{DistinctEnds, PassesLine};
+ghost use Rattle.lasso_codes.specs.Errors.{failed_reads, failed_writes, gone_readers, IsWriteEnd, IsOutputError};
 
 use crate::error::RunError;
 use crate::input::next_line;
@@ -28,14 +28,12 @@ pub fn distinct<R: Read + Drop, W: Write + Drop>(
     output: &mut Output<W>,
     limits: MemoryLimits,
 ) -> Result<(), RunError>
-    ensures report { (bytes : List ℕ) → input.old.left ≡ Some bytes →
-        Writes output.old.written output.new.written (λ part. DistinctEnd bytes rule.only_utf8 limits input.new.left part result) }
+    ensures report { Reports input.old output.old output.new (DistinctEnds rule.only_utf8 limits input.new.left result) }
     ensures flushed { ¬ (IsWriteEnd result) → output.new.pending ≡ [] }
     ensures reads { ¬ (result ≡ Err RunError.WriteFailed) → input.new.failures ≡ input.old.failures + failed_reads result }
     ensures writes { output.new.failures ≡ output.old.failures + failed_writes result }
     ensures gone { ¬ (result ≡ Err RunError.WriteFailed) → output.new.gone ≡ output.old.gone + gone_readers result }
-    ensures write_failed { result ≡ Err RunError.WriteFailed → FailsWriting input.old input.new output.old output.new (λ error. (bytes : List ℕ) → input.old.left ≡ Some bytes →
-        Writes output.old.written output.new.written (λ part. DistinctEnd bytes rule.only_utf8 limits input.new.left part (Err error))) }
+    ensures write_failed { ReportsFailure result input.old input.new output.old output.new (DistinctEnds rule.only_utf8 limits input.new.left) }
 {
     let result = write_distinct(rule, input, output, limits);
     end_flushed(output, result)
@@ -48,8 +46,7 @@ fn write_distinct<R: Read + Drop, W: Write + Drop>(
     output: &mut Output<W>,
     limits: MemoryLimits,
 ) -> Result<(), RunError>
-    ensures report { (bytes : List ℕ) → input.old.left ≡ Some bytes →
-        Writes output.old.written output.new.written (λ part. DistinctEnd bytes rule.only_utf8 limits input.new.left part result) }
+    ensures report { Reports input.old output.old output.new (DistinctEnds rule.only_utf8 limits input.new.left result) }
     ensures reads { input.new.failures ≡ input.old.failures + failed_reads result }
     ensures writes { output.new.failures ≡ output.old.failures + failed_writes result }
     ensures gone { output.new.gone ≡ output.old.gone + gone_readers result }
@@ -84,15 +81,11 @@ fn pass_stretch<W: Write + Drop>(
     first: usize,
     output: &mut Output<W>,
 ) -> Result<(usize, usize), RunError>
-    ensures passed { IfOk result (λ at. (input later : List ℕ) (limit : ℕ) (before : Option (List ℕ)) →
-        Writes before output.old.written (OnTheWay input rule.only_utf8 limit (stretch.now ++ later) first rodeo.old) →
-        Writes before output.new.written (OnTheWay input rule.only_utf8 limit (drop at.1 stretch.now ++ later) at.0 rodeo.new)) }
+    ensures passed { IfOk result (λ at. PassesOn rule.only_utf8 stretch.now first rodeo.old output.old.written at rodeo.new output.new.written) }
     ensures more { IfOk result (λ at. first ≤ at.0) }
     ensures number { IfOk result (λ at. at.0 < 2 ^ 64 - 1) }
     ensures within { IfOk result (λ at. at.1 ≤ length stretch.now) }
-    ensures error { IfErr result (λ error. (input later : List ℕ) (limit : ℕ) (before after : Option (List ℕ)) →
-        Writes before output.old.written (OnTheWay input rule.only_utf8 limit (stretch.now ++ later) first rodeo.old) →
-        Writes before output.new.written (λ part. DistinctEnd input rule.only_utf8 limit after part (Err error))) }
+    ensures error { IfErr result (StopsPassing rule.only_utf8 stretch.now first rodeo.old output.old.written output.new.written) }
     ensures faults { IfErr result IsOutputError }
     ensures writes { output.new.failures ≡ output.old.failures + failed_writes result }
     ensures gone { output.new.gone ≡ output.old.gone + gone_readers result }

@@ -1,20 +1,17 @@
 //! Encodes lines as a column.
-ghost use Rattle.std.specs.Prelude.{◌≡◌, ◌+◌, ◌<◌, ◌≤◌, ◌-◌, ◌^◌, ◌++◌, ◌∷◌, [], ℕ, List, false, Some, Ok, Err, OnOk, IfOk, IfErr, IfSome, MatchResult, drop, length, map, option_map};
+ghost use Rattle.std.specs.Prelude.{◌≡◌, ◌+◌, ◌-◌, ◌^◌, ◌<◌, ◌≤◌, [], Err, OnOk, IfOk, IfErr, IfSome, MatchResult, length, option_map};
 ghost use Rattle.hex.specs.Hex.{IsBytes};
 ghost use Rattle.std.specs.Cow.{cow_str_bytes};
-ghost use Rattle.lasso_single.specs.Filling.{extend};
-ghost use Rattle.lasso_single.specs.Interner.{InternerView, made_with};
-ghost use Rattle.lasso_single.specs.Coding.{spur_at, IsAdmitted, IsRefused};
 ghost use Rattle.lasso_input.specs.Lines.{lines_of};
 ghost use Rattle.lasso_input.specs.Texts.{text_of};
 ghost use Rattle.lasso_parts.specs.declared.util.LassoErrorKind.TheVariants.{FailedAllocation};
 ghost use Rattle.lasso_columns.specs.declared.faults.LineError.TheVariants.{Refused};
 ghost use Rattle.lasso_columns.specs.Rows.{texts_of, word_of};
-ghost use Rattle.lasso_codes.specs.Encode.{AreNumbered, EncodeEnd, EntryMayLackMemory, EncodingError, IsNoNull, IsNumbered};
-ghost use Rattle.lasso_codes.specs.Errors.{failed_reads, failed_writes, gone_readers, FailsWriting, IsWriteEnd, IsDataError, IsInputError};
-ghost use Rattle.lasso_codes.specs.Limits.{line_texts, AreLetIn, IsLetIn, IsLineFault, LacksMemory};
-ghost use Rattle.lasso_codes.specs.Stages.{Encoding};
-ghost use Rattle.lasso_codes.specs.Streams.{Writes};
+ghost use Rattle.lasso_codes.specs.Encode.{AddsNumber, EncodeEnds, EncodingError, EntryMayLackMemory, IsEntryFault, IsNoNull, IsNumbered, NumbersLines};
+ghost use Rattle.lasso_codes.specs.Errors.{failed_reads, failed_writes, gone_readers, IsWriteEnd, IsDataError, IsInputError};
+ghost use Rattle.lasso_codes.specs.Limits.{IfNew, InternsLines, IsLetIn, IsLineFault};
+ghost use Rattle.lasso_codes.specs.Stages.{EncodesOn, StopsNumbering};
+ghost use Rattle.lasso_codes.specs.Streams.{IfKnown, Reports, ReportsFailure};
 
 use crate::arguments::Settings;
 use crate::columns::append;
@@ -48,14 +45,12 @@ pub fn encode<H: AllocGlobal + Threads + Sync, R: Read + Drop, W: Write + Drop>(
     settings: Settings,
     null: Option<&[u8]>,
 ) -> Result<(), RunError>
-    ensures report { (bytes : List ℕ) → input.old.left ≡ Some bytes →
-        Writes output.old.written output.new.written (λ part. EncodeEnd bytes settings.only_utf8 settings.limit (word_of null.entry) settings.binary part result) }
+    ensures report { Reports input.old output.old output.new (EncodeEnds settings (word_of null.entry) input.new.left result) }
     ensures flushed { ¬ (IsWriteEnd result) → output.new.pending ≡ [] }
     ensures reads { ¬ (result ≡ Err RunError.WriteFailed) → input.new.failures ≡ input.old.failures + failed_reads result }
     ensures writes { output.new.failures ≡ output.old.failures + failed_writes result }
     ensures gone { ¬ (result ≡ Err RunError.WriteFailed) → output.new.gone ≡ output.old.gone + gone_readers result }
-    ensures write_failed { result ≡ Err RunError.WriteFailed → FailsWriting input.old input.new output.old output.new (λ error. (bytes : List ℕ) → input.old.left ≡ Some bytes →
-        Writes output.old.written output.new.written (λ part. EncodeEnd bytes settings.only_utf8 settings.limit (word_of null.entry) settings.binary part (Err error))) }
+    ensures write_failed { ReportsFailure result input.old input.new output.old output.new (EncodeEnds settings (word_of null.entry) input.new.left) }
 {
     let result = write_encoded(rt, input, output, settings, null);
     end_flushed(output, result)
@@ -69,8 +64,7 @@ fn write_encoded<H: AllocGlobal + Threads + Sync, R: Read + Drop, W: Write + Dro
     settings: Settings,
     null: Option<&[u8]>,
 ) -> Result<(), RunError>
-    ensures report { (bytes : List ℕ) → input.old.left ≡ Some bytes →
-        Writes output.old.written output.new.written (λ part. EncodeEnd bytes settings.only_utf8 settings.limit (word_of null.entry) settings.binary part result) }
+    ensures report { Reports input.old output.old output.new (EncodeEnds settings (word_of null.entry) input.new.left result) }
     ensures reads { input.new.failures ≡ input.old.failures + failed_reads result }
     ensures writes { output.new.failures ≡ output.old.failures + failed_writes result }
     ensures gone { output.new.gone ≡ output.old.gone + gone_readers result }
@@ -100,12 +94,11 @@ fn number_lines<H: AllocGlobal + Threads + Sync, R: Read + Drop>(
 ) -> Result<(), RunError>
     requires no_texts { rodeo.old.texts ≡ [] }
     requires no_numbers { numbers.old.items ≡ [] }
-    ensures numbered { OnOk result ((bytes : List ℕ) → input.old.left ≡ Some bytes →
-        AreLetIn settings.only_utf8 (lines_of bytes) × AreNumbered (word_of null.entry) (lines_of bytes) rodeo.new.texts numbers.new.items) }
-    ensures interned { OnOk result ((bytes : List ℕ) → input.old.left ≡ Some bytes →
-        extend spur_at rodeo.old (line_texts (texts_of (word_of null.entry) (lines_of bytes))) (Ok tt) rodeo.new) }
-    ensures error { IfErr result (λ error. (bytes : List ℕ) → input.old.left ≡ Some bytes →
-        (limit : ℕ) → rodeo.old ≡ made_with 4096 limit → EncodingError settings.only_utf8 limit (word_of null.entry) (lines_of bytes) error) }
+    ensures numbered { OnOk result (IfKnown input.old.left (λ bytes.
+        NumbersLines settings.only_utf8 (word_of null.entry) (lines_of bytes) rodeo.new.texts numbers.new.items)) }
+    ensures interned { OnOk result (IfKnown input.old.left (λ bytes. InternsLines rodeo.old (texts_of (word_of null.entry) (lines_of bytes)) rodeo.new)) }
+    ensures error { IfErr result (λ error. IfKnown input.old.left (λ bytes. IfNew rodeo.old (λ limit.
+        EncodingError settings.only_utf8 limit (word_of null.entry) (lines_of bytes) input.new.left error))) }
     ensures faults { IfErr result IsInputError }
     ensures reads { input.new.failures ≡ input.old.failures + failed_reads result }
 {
@@ -157,12 +150,11 @@ fn encode_lines<R: Read + Drop>(
 ) -> Result<(), RunError>
     requires no_texts { rodeo.old.texts ≡ [] }
     requires no_numbers { numbers.old.items ≡ [] }
-    ensures numbered { OnOk result ((bytes : List ℕ) → input.old.left ≡ Some bytes →
-        AreLetIn rule.only_utf8 (lines_of bytes) × AreNumbered (word_of null.entry) (lines_of bytes) rodeo.new.texts numbers.new.items) }
-    ensures interned { OnOk result ((bytes : List ℕ) → input.old.left ≡ Some bytes →
-        extend spur_at rodeo.old (line_texts (texts_of (word_of null.entry) (lines_of bytes))) (Ok tt) rodeo.new) }
-    ensures error { IfErr result (λ error. (bytes : List ℕ) → input.old.left ≡ Some bytes →
-        (limit : ℕ) → rodeo.old ≡ made_with 4096 limit → EncodingError rule.only_utf8 limit (word_of null.entry) (lines_of bytes) error) }
+    ensures numbered { OnOk result (IfKnown input.old.left (λ bytes.
+        NumbersLines rule.only_utf8 (word_of null.entry) (lines_of bytes) rodeo.new.texts numbers.new.items)) }
+    ensures interned { OnOk result (IfKnown input.old.left (λ bytes. InternsLines rodeo.old (texts_of (word_of null.entry) (lines_of bytes)) rodeo.new)) }
+    ensures error { IfErr result (λ error. IfKnown input.old.left (λ bytes. IfNew rodeo.old (λ limit.
+        EncodingError rule.only_utf8 limit (word_of null.entry) (lines_of bytes) input.new.left error))) }
     ensures faults { IfErr result IsInputError }
     ensures reads { input.new.failures ≡ input.old.failures + failed_reads result }
 {
@@ -196,15 +188,12 @@ fn encode_stretch(
     stretch: &[u8],
     first: usize,
 ) -> Result<(usize, usize), RunError>
-    ensures numbered { IfOk result (λ at. (input later : List ℕ) (start : InternerView) →
-        Encoding input (stretch.now ++ later) rule.only_utf8 first (word_of null.entry) start rodeo.old numbers.old.items →
-        Encoding input (drop at.1 stretch.now ++ later) rule.only_utf8 at.0 (word_of null.entry) start rodeo.new numbers.new.items) }
+    ensures numbered { IfOk result (λ at.
+        EncodesOn rule.only_utf8 (word_of null.entry) stretch.now first rodeo.old numbers.old.items at rodeo.new numbers.new.items) }
     ensures more { IfOk result (λ at. first ≤ at.0) }
     ensures number { IfOk result (λ at. at.0 < 2 ^ 64 - 1) }
     ensures within { IfOk result (λ at. at.1 ≤ length stretch.now) }
-    ensures error { IfErr result (λ error. (input later : List ℕ) (limit : ℕ) →
-        Encoding input (stretch.now ++ later) rule.only_utf8 first (word_of null.entry) (made_with 4096 limit) rodeo.old numbers.old.items →
-        EncodingError rule.only_utf8 limit (word_of null.entry) (lines_of input) error) }
+    ensures error { IfErr result (StopsNumbering rule.only_utf8 (word_of null.entry) stretch.now first rodeo.old numbers.old.items) }
     ensures faults { IfErr result IsDataError }
 {
     let mut lines = Stretch::new(stretch);
@@ -230,7 +219,7 @@ fn encode_line(
     line: &Line<'_>,
     number: usize,
 ) -> Result<(), LineError>
-    ensures numbered { OnOk result (IsLetIn rule.only_utf8 line.now × ((entry : ℕ) × IsNumbered (word_of null.entry) rodeo.old line.now rodeo.new entry × (numbers.new.items ≡ numbers.old.items ++ entry ∷ []))) }
+    ensures numbered { OnOk result (AddsNumber rule.only_utf8 (word_of null.entry) rodeo.old line.now rodeo.new numbers.old.items numbers.new.items) }
     ensures error { IfErr result (IsLineFault rule.only_utf8 rodeo.old line.now number) }
     ensures memory { IfErr result (EntryMayLackMemory rodeo.old numbers.old line.now) }
     ensures null { IfErr result (IsNoNull (word_of null.entry) line.now) }
@@ -251,7 +240,7 @@ fn entry_of(
 ) -> Result<u32, LineError>
     ensures { MatchResult result
         (λ entry. IsLetIn rule.only_utf8 line.now × IsNumbered (word_of null.entry) rodeo.old line.now rodeo.new entry)
-        (λ error. IsLineFault rule.only_utf8 rodeo.old line.now number error × LacksMemory rodeo.old line.now error × IsNoNull (word_of null.entry) line.now error) }
+        (IsEntryFault rule.only_utf8 (word_of null.entry) rodeo.old line.now number) }
 {
     let Some(text) = plain_text_in(rule, line) else {
         return any_entry_of(rule, rodeo, walk, null, line, number);
@@ -278,7 +267,7 @@ fn any_entry_of(
 ) -> Result<u32, LineError>
     ensures { MatchResult result
         (λ entry. IsLetIn rule.only_utf8 line.now × IsNumbered (word_of null.entry) rodeo.old line.now rodeo.new entry)
-        (λ error. IsLineFault rule.only_utf8 rodeo.old line.now number error × LacksMemory rodeo.old line.now error × IsNoNull (word_of null.entry) line.now error) }
+        (IsEntryFault rule.only_utf8 (word_of null.entry) rodeo.old line.now number) }
 {
     let text = text_in(rule, &mut walk.text, line, number)?;
     if is_null(null, line.bytes()) {

@@ -1,8 +1,8 @@
 //! Reads the entries of a column.
-ghost use Rattle.std.specs.Prelude.{◌≡◌, ◌+◌, ◌≤◌, ◌++◌, ℕ, List, true, Some, Ok, Err, IfOk, IfErr, IfSome, MatchResult, drop, length};
+ghost use Rattle.std.specs.Prelude.{◌≡◌, ◌+◌, ◌≤◌, ◌++◌, ℕ, List, true, Some, Ok, Err, IfOk, IfErr, IfSome, OnErr, MatchResult, drop, length};
 ghost use Rattle.lasso_columns.specs.Rows.{word_of};
 ghost use Rattle.lasso_codes.specs.Decode.{line_at};
-ghost use Rattle.lasso_codes.specs.Reading.{cut_entry, cut_number, entry_in, number_entry, TakesEntry};
+ghost use Rattle.lasso_codes.specs.Reading.{cut_entry, cut_number, entry_in, number_entry, LosesEntry, TakesEntry};
 ghost use Rattle.lasso_codes.specs.Errors.{failed_reads, IsReadError};
 
 use crate::error::{ColumnError, RunError};
@@ -36,6 +36,7 @@ pub fn next_entry<R: Read + Drop>(
     binary: bool,
 ) -> Result<Entry, RunError>
     ensures taken { IfOk result (TakesEntry binary input.old.left input.new.left) }
+    ensures lost { OnErr result (LosesEntry binary input.old.left input.new.left) }
     ensures errors { IfErr result (IsReadError 0) }
     ensures reads { input.new.failures ≡ input.old.failures + failed_reads result }
 {
@@ -51,6 +52,7 @@ pub fn next_entry<R: Read + Drop>(
 // Reads an entry of four bytes.
 fn next_number<R: Read + Drop>(input: &mut Input<R>) -> Result<Entry, RunError>
     ensures taken { IfOk result (TakesEntry true input.old.left input.new.left) }
+    ensures lost { OnErr result (LosesEntry true input.old.left input.new.left) }
     ensures errors { IfErr result (IsReadError 0) }
     ensures reads { input.new.failures ≡ input.old.failures + failed_reads result }
 {

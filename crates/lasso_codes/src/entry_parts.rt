@@ -3,10 +3,10 @@
 //! In each round every worker puts the entries of one part into a buffer of its own, and then the calling thread
 //! writes these buffers in order. The buffers are used again, so a long column takes no more memory than a
 //! round.
-ghost use Rattle.std.specs.Prelude.{◌≡◌, ◌+◌, ◌*◌, ◌<◌, ◌≤◌, ℕ, Some, IfOk, OnOk, length, map, slice_index_or, vec_len};
+ghost use Rattle.std.specs.Prelude.{◌≡◌, ◌+◌, ◌*◌, ◌<◌, ◌≤◌, Some, IfOk, OnOk, length, map, vec_len};
 ghost use Rattle.std.specs.Fork.{slice_chunk};
 ghost use Rattle.lasso_codes.specs.Columns.{column_of, entries_of, entry_at};
-ghost use Rattle.lasso_codes.specs.EntryParts.{IsFilled};
+ghost use Rattle.lasso_codes.specs.EntryParts.{PartsHoldEntries, HoldsEntries};
 ghost use Rattle.lasso_codes.specs.Streams.{Writes, WritesAll};
 ghost use Rattle.lasso_codes.specs.Errors.{failed_writes, gone_readers};
 
@@ -130,11 +130,11 @@ fn new_parts(alloc: Global, count: usize) -> Result<Vec<Part>, AllocError>
 // Puts the entries of each part into its buffer, each by a thread if one can be started.
 fn fill_parts<H: Threads + Sync>(rt: &H, parts: &mut [Part], binary: bool, numbers: &[u32])
     requires some { 0 < length parts.old }
-    ensures { (i : ℕ) (d : _) → i < length parts.old → IsFilled binary (slice_chunk numbers.now 262144 i) (slice_index_or parts.new i d).bytes.items (slice_index_or parts.new i d).filled }
+    ensures { PartsHoldEntries binary numbers.now (length parts.old) parts.new }
 {
     let threads = parts.len();
     let fill = |index: usize, part: &mut Part|
-        ensures { IsFilled binary (slice_chunk numbers.entry.now 262144 index) part.exit.now.bytes.items part.exit.now.filled }
+        ensures { HoldsEntries binary (slice_chunk numbers.entry.now 262144 index) part.exit.now.bytes.items part.exit.now.filled }
     { fill_part(part, binary, numbers, index) };
     for_each_mut(rt, parts, threads, &fill);
 }
@@ -151,7 +151,7 @@ fn part_at(numbers: &[u32], index: usize) -> &[u32]
 
 // Puts the entries of the part at the index into its buffer.
 fn fill_part(part: &mut Part, binary: bool, numbers: &[u32], index: usize)
-    ensures { IsFilled binary (slice_chunk numbers.now 262144 index) part.new.bytes.items part.new.filled }
+    ensures { HoldsEntries binary (slice_chunk numbers.now 262144 index) part.new.bytes.items part.new.filled }
 {
     let here = part_at(numbers, index);
     part.filled = None;
@@ -177,7 +177,7 @@ fn make_room(bytes: &mut Vec<u8>, entries: usize) -> Result<(), AllocError>
 // Puts the entries of the numbers at the begin of the bytes. Returns how many bytes they take.
 fn put_entries(bytes: &mut [u8], binary: bool, numbers: &[u32]) -> usize
     requires { length numbers.now * 11 ≤ length bytes.old }
-    ensures { IsFilled binary numbers.now bytes.new (Some result) }
+    ensures { HoldsEntries binary numbers.now bytes.new (Some result) }
 {
     let mut filled = 0;
     for number in numbers {
@@ -193,7 +193,7 @@ fn write_parts<W: Write + Drop>(
     binary: bool,
     numbers: &[u32],
 ) -> Result<(), RunError>
-    requires filled { (i : ℕ) (d : _) → i < length parts.now → IsFilled binary (slice_chunk numbers.now 262144 i) (slice_index_or parts.now i d).bytes.items (slice_index_or parts.now i d).filled }
+    requires filled { PartsHoldEntries binary numbers.now (length parts.now) parts.now }
     requires reach { length numbers.now ≤ length parts.now * 262144 }
     ensures written { Writes output.old.written output.new.written (WritesAll (entries_of binary numbers.now) result) }
     ensures writes { output.new.failures ≡ output.old.failures + failed_writes result }
@@ -212,7 +212,7 @@ fn write_part<W: Write + Drop>(
     binary: bool,
     numbers: &[u32],
 ) -> Result<(), RunError>
-    requires { IsFilled binary numbers.now part.now.bytes.items part.now.filled }
+    requires { HoldsEntries binary numbers.now part.now.bytes.items part.now.filled }
     ensures written { Writes output.old.written output.new.written (WritesAll (entries_of binary numbers.now) result) }
     ensures writes { output.new.failures ≡ output.old.failures + failed_writes result }
     ensures gone { output.new.gone ≡ output.old.gone + gone_readers result }

@@ -1,7 +1,7 @@
 //! Reads lines.
 ghost use Rattle.std.specs.Prelude.{◌≡◌, ◌+◌, ℕ, List, [], ◌∷◌, ◌++◌, IfOk, IfErr, OnErr};
 ghost use Rattle.lasso_input.specs.Lines.{NoFeed};
-ghost use Rattle.lasso_codes.specs.Streams.{CutsLine, LosesPart, TakesLine};
+ghost use Rattle.lasso_codes.specs.Streams.{CutsLine, LosesLine, LosesPart, TakesLine};
 ghost use Rattle.lasso_codes.specs.Errors.{failed_reads, IsReadError};
 
 use crate::error::RunError;
@@ -54,6 +54,7 @@ pub fn next_whole_line<R: Read + Drop>(
     line: &mut Vec<u8>,
 ) -> Result<Cut, RunError>
     ensures taken { IfOk result (λ cut. CutsLine input.old.left input.new.left cut line.new.items) }
+    ensures lost { OnErr result (LosesLine input.old.left input.new.left) }
     ensures errors { IfErr result (IsReadError 0) }
     ensures reads { input.new.failures ≡ input.old.failures + failed_reads result }
 {

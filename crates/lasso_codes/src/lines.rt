@@ -1,14 +1,11 @@
 //! Interns lines, and says how far a stretch of them is taken.
-ghost use Rattle.std.specs.Prelude.{◌≡◌, ◌-◌, ◌≤◌, false, ℕ, Ok, IfErr, IfSome, MatchResult, drop, is_none, length};
+ghost use Rattle.std.specs.Prelude.{◌≡◌, ◌-◌, ◌≤◌, false, IfErr, IfSome, MatchResult, drop, length};
 ghost use Rattle.hex.specs.Hex.{IsBytes};
-ghost use Rattle.lasso_parts.specs.Texts.{position_of};
-ghost use Rattle.lasso_single.specs.Intern.{InternsIn};
-ghost use Rattle.lasso_single.specs.Coding.{spur_at};
 ghost use Rattle.lasso_input.specs.Texts.{is_own_text, text_of};
-ghost use Rattle.lasso_codes.specs.Limits.{is_let_in, IsLetIn, IsLineFault, IsNotLetIn, LacksMemory};
+ghost use Rattle.lasso_codes.specs.Limits.{InternsOrFinds, IsLetIn, IsLineFault, IsNotLetIn, LacksMemory};
 
 use lasso_columns::LineError;
-use lasso_input::{Line, Stretch, escape_in, own_text};
+use lasso_input::{Line, Stretch, escape_in, is_let_in, own_text};
 use lasso_parts::keys::Spur;
 use lasso_parts::util::{LassoError, LassoErrorKind};
 use lasso_single::batch::{Batch, intern_next};
@@ -95,7 +92,7 @@ fn made_text<'a>(
         (λ text. IsLetIn rule.only_utf8 line.now × (text.now ≡ text_of line.now))
         (IsNotLetIn rule.only_utf8 line.now number) }
 {
-    if !is_let_in(rule.only_utf8, line) {
+    if !is_let_in(line, rule.only_utf8) {
         return Err(LineError::NotText(number));
     }
     match escape_in(buffer, line.bytes()) {
@@ -115,20 +112,6 @@ pub fn known_bytes(bytes: &[u8])
     let _ = bytes;
 }
 
-// Whether the line is let in: any line, or only one that is UTF-8.
-#[inline(always)]
-fn is_let_in(only_utf8: bool, line: &Line<'_>) -> bool
-    ensures { result ≡ is_let_in only_utf8 line.now }
-{
-    if !only_utf8 {
-        return true;
-    }
-    match line.text() {
-        Ok(_) => true,
-        Err(_) => false,
-    }
-}
-
 /// Interns the text of the line with this number, the next one of the walk, and returns whether it is new.
 ///
 /// # Errors
@@ -142,7 +125,7 @@ pub fn intern_line<S: BuildHasher, A: Allocator + Clone>(
     number: usize,
 ) -> Result<bool, LineError>
     ensures interned { MatchResult result
-        (λ is_new. IsLetIn rule.only_utf8 line.now × ((key : ℕ) × InternsIn {K = ℕ} spur_at rodeo.old (text_of line.now) (Ok key) rodeo.new) × (is_new ≡ is_none (position_of rodeo.old.texts (text_of line.now))))
+        (InternsOrFinds rule.only_utf8 rodeo.old line.now rodeo.new)
         (λ error. (rodeo.new ≡ rodeo.old) × IsLineFault rule.only_utf8 rodeo.old line.now number error) }
     ensures memory { IfErr result (LacksMemory rodeo.old line.now) }
 {
@@ -166,7 +149,7 @@ fn intern_any<S: BuildHasher, A: Allocator + Clone>(
     number: usize,
 ) -> Result<bool, LineError>
     ensures interned { MatchResult result
-        (λ is_new. IsLetIn rule.only_utf8 line.now × ((key : ℕ) × InternsIn {K = ℕ} spur_at rodeo.old (text_of line.now) (Ok key) rodeo.new) × (is_new ≡ is_none (position_of rodeo.old.texts (text_of line.now))))
+        (InternsOrFinds rule.only_utf8 rodeo.old line.now rodeo.new)
         (λ error. (rodeo.new ≡ rodeo.old) × IsLineFault rule.only_utf8 rodeo.old line.now number error) }
     ensures memory { IfErr result (LacksMemory rodeo.old line.now) }
 {

@@ -1,16 +1,16 @@
 //! Merges columns into one column.
-ghost use Rattle.std.specs.Prelude.{◌≡◌, ◌+◌, ◌-◌, ◌<◌, ◌≤◌, ◌^◌, ◌++◌, ◌∷◌, [], ℕ, List, drop, length, Option, Some, Ok, Err, OnOk, IfOk, IfErr, MatchResult};
+ghost use Rattle.std.specs.Prelude.{◌≡◌, ◌+◌, ◌-◌, ◌<◌, ◌≤◌, ◌^◌, ◌++◌, ◌∷◌, [], List, length, Ok, Err, OnOk, IfOk, IfErr, MatchResult};
 ghost use Rattle.lasso_parts.specs.Texts.{Text};
 ghost use Rattle.lasso_single.specs.Interner.{made_with};
 ghost use Rattle.lasso_single.specs.Codes.{AreCodes};
 ghost use Rattle.lasso_columns.specs.declared.faults.LineError.TheVariants.{Refused};
 ghost use Rattle.lasso_parts.specs.declared.util.LassoErrorKind.TheVariants.{FailedAllocation};
 ghost use Rattle.lasso_codes.specs.Columns.{entry_at};
-ghost use Rattle.lasso_codes.specs.Errors.{failed_reads, failed_writes, gone_readers, FailsWriting, IsWriteEnd, IsDataError, IsInputError};
-ghost use Rattle.lasso_codes.specs.Merge.{recoded, AddsEntries, AddsEntry, AreMerged, EntriesError, MergeEnd, MergingError};
-ghost use Rattle.lasso_codes.specs.Stages.{EntriesAhead};
-ghost use Rattle.lasso_codes.specs.Reading.{items_from, ReadItems};
-ghost use Rattle.lasso_codes.specs.Streams.{Writes};
+ghost use Rattle.lasso_codes.specs.Errors.{failed_reads, failed_writes, gone_readers, IsWriteEnd, IsDataError, IsInputError};
+ghost use Rattle.lasso_codes.specs.Merge.{recoded, AddsEntries, AddsEntry, AreMerged, MergeEnds, MergingError};
+ghost use Rattle.lasso_codes.specs.Stages.{AddsOn, StopsAdding};
+ghost use Rattle.lasso_codes.specs.Reading.{entry_items};
+ghost use Rattle.lasso_codes.specs.Streams.{IfKnown, Reports, ReportsFailure};
 
 use crate::columns::{append, write_column};
 use crate::entries::{Entry, first_entry, next_entry};
@@ -38,14 +38,12 @@ pub fn merge<R: Read + Drop, W: Write + Drop>(
     limits: MemoryLimits,
     binary: bool,
 ) -> Result<(), RunError>
-    ensures report { (bytes : List ℕ) → input.old.left ≡ Some bytes →
-        Writes output.old.written output.new.written (λ part. MergeEnd bytes rule.only_utf8 limits binary part result) }
+    ensures report { Reports input.old output.old output.new (MergeEnds rule.only_utf8 limits binary input.new.left result) }
     ensures flushed { ¬ (IsWriteEnd result) → output.new.pending ≡ [] }
     ensures reads { ¬ (result ≡ Err RunError.WriteFailed) → input.new.failures ≡ input.old.failures + failed_reads result }
     ensures writes { output.new.failures ≡ output.old.failures + failed_writes result }
     ensures gone { ¬ (result ≡ Err RunError.WriteFailed) → output.new.gone ≡ output.old.gone + gone_readers result }
-    ensures write_failed { result ≡ Err RunError.WriteFailed → FailsWriting input.old input.new output.old output.new (λ error. (bytes : List ℕ) → input.old.left ≡ Some bytes →
-        Writes output.old.written output.new.written (λ part. MergeEnd bytes rule.only_utf8 limits binary part (Err error))) }
+    ensures write_failed { ReportsFailure result input.old input.new output.old output.new (MergeEnds rule.only_utf8 limits binary input.new.left) }
 {
     let result = write_merged(rule, input, output, limits, binary);
     end_flushed(output, result)
@@ -59,8 +57,7 @@ fn write_merged<R: Read + Drop, W: Write + Drop>(
     limits: MemoryLimits,
     binary: bool,
 ) -> Result<(), RunError>
-    ensures report { (bytes : List ℕ) → input.old.left ≡ Some bytes →
-        Writes output.old.written output.new.written (λ part. MergeEnd bytes rule.only_utf8 limits binary part result) }
+    ensures report { Reports input.old output.old output.new (MergeEnds rule.only_utf8 limits binary input.new.left result) }
     ensures reads { input.new.failures ≡ input.old.failures + failed_reads result }
     ensures writes { output.new.failures ≡ output.old.failures + failed_writes result }
     ensures gone { output.new.gone ≡ output.old.gone + gone_readers result }
@@ -82,8 +79,8 @@ fn merge_columns<R: Read + Drop>(
 ) -> Result<(), RunError>
     requires made { rodeo.old ≡ made_with 4096 limits }
     requires no_numbers { numbers.old.items ≡ [] }
-    ensures merged { OnOk result ((bytes : List ℕ) → input.old.left ≡ Some bytes → AreMerged bytes rule.only_utf8 limits rodeo.new.texts numbers.new.items) }
-    ensures error { IfErr result (λ error. (bytes : List ℕ) → input.old.left ≡ Some bytes → MergingError bytes rule.only_utf8 limits error) }
+    ensures merged { OnOk result (IfKnown input.old.left (λ bytes. AreMerged bytes rule.only_utf8 limits rodeo.new.texts numbers.new.items)) }
+    ensures error { IfErr result (λ error. IfKnown input.old.left (λ bytes. MergingError bytes rule.only_utf8 limits input.new.left error)) }
     ensures faults { IfErr result IsInputError }
     ensures reads { input.new.failures ≡ input.old.failures + failed_reads result }
 {
@@ -111,9 +108,8 @@ fn add_numbers<R: Read + Drop>(
     header: Header,
     column: usize,
 ) -> Result<(), RunError>
-    ensures added { (list texts : List Text) → AreCodes list texts table.now → length list < 2 ^ 32 →
-        (bytes : List ℕ) → input.old.left ≡ Some bytes →
-        AddsEntries (items_from (recoded list texts) header.lines header.binary 1 bytes) column input.new.left numbers.old.items numbers.new.items result }
+    ensures added { (list texts : List Text) → AreCodes list texts table.now → length list < 2 ^ 32 → IfKnown input.old.left (λ bytes.
+        AddsEntries (entry_items (recoded list texts) header) bytes column input.new.left numbers.old.items numbers.new.items result) }
     ensures faults { IfErr result IsInputError }
     ensures reads { input.new.failures ≡ input.old.failures + failed_reads result }
 {
@@ -142,16 +138,10 @@ fn add_stretch(
     count: usize,
 ) -> Result<(usize, usize), RunError>
     requires { count ≤ header.lines }
-    ensures added { IfOk result (λ at. (list texts : List Text) → AreCodes list texts table.now → length list < 2 ^ 32 →
-        (read : ReadItems (Option ℕ)) (later before : List ℕ) →
-        EntriesAhead (items_from (recoded list texts) (header.lines - count) header.binary (count + 1) (stretch.now ++ later)) read before numbers.old.items →
-        EntriesAhead (items_from (recoded list texts) (header.lines - at.0) header.binary (at.0 + 1) (drop at.1 stretch.now ++ later)) read before numbers.new.items) }
+    ensures added { IfOk result (λ at. AddsOn table.now header.binary stretch.now count numbers.old.items at numbers.new.items) }
     ensures more { IfOk result (λ at. (count ≤ at.0) × (at.0 ≤ header.lines)) }
     ensures within { IfOk result (λ at. at.1 ≤ length stretch.now) }
-    ensures error { IfErr result (λ error. (list texts : List Text) → AreCodes list texts table.now → length list < 2 ^ 32 →
-        (read : ReadItems (Option ℕ)) (later before : List ℕ) →
-        EntriesAhead (items_from (recoded list texts) (header.lines - count) header.binary (count + 1) (stretch.now ++ later)) read before numbers.old.items →
-        EntriesError read column error) }
+    ensures error { IfErr result (StopsAdding table.now header column stretch.now count numbers.old.items) }
     ensures faults { IfErr result IsDataError }
 {
     let mut used = 0;

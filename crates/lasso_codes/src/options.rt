@@ -1,8 +1,8 @@
 //! The options of a verb.
-ghost use Rattle.std.specs.Prelude.{◌≡◌, ◌+◌, ◌≤◌, ◌∷◌, List, None, Some, Ok, Err, IfSome, IsSome, MatchOption, MatchResult, drop, length, map, string_bytes};
+ghost use Rattle.std.specs.Prelude.{◌≡◌, ◌+◌, ◌≤◌, ◌∷◌, List, None, Some, Ok, Err, MatchResult, drop, length, map, string_bytes};
 ghost use Rattle.lasso_parts.specs.Texts.{Text};
 ghost use Rattle.lasso_columns.specs.Rows.{word_of};
-ghost use Rattle.lasso_codes.specs.Arguments.{IsWithin, argument_text, is_binary, meaning_of, no_value, not_number, number_of, options_of, setting_of, takes_binary, takes_null, takes_workers, unset, value_of, wanted_of, workers_of};
+ghost use Rattle.lasso_codes.specs.Arguments.{IsWithin, argument_text, is_binary, meaning_of, no_value, not_number, number_of, options_of, setting_of, takes_binary, takes_null, takes_workers, unset, value_of, workers_of, asked_after, ReadsValue, ReadsWord};
 
 use crate::arguments::{ArgumentError, Command, Request, Settings, Verb};
 use crate::numbers::parse_number;
@@ -103,9 +103,7 @@ fn read_word<'a>(
     mut reading: Reading<'a>,
     word: &'a str,
 ) -> Result<Option<Reading<'a>>, ArgumentError<'a>>
-    ensures { (words : List Text) → let asked = options_of verb reading.entry.settings (word_of reading.entry.null) (wanted_of reading.entry) (word.now ∷ words) in MatchResult result
-        (λ next. MatchOption next (asked ≡ Ok (Command.VerbHelp verb, None)) (λ after. asked ≡ options_of verb after.settings (word_of after.null) (wanted_of after) words))
-        (λ error. asked ≡ Err (argument_text error)) }
+    ensures { (words : List Text) → ReadsWord verb (asked_after verb reading.entry (word.now ∷ words)) words result }
 {
     if let Some((setting, _)) = reading.wanted {
         return with_value(reading, setting, word, 0);
@@ -214,9 +212,7 @@ fn with_value<'a>(
     from: usize,
 ) -> Result<Option<Reading<'a>>, ArgumentError<'a>>
     requires { from ≤ length word.now }
-    ensures { MatchResult result
-        (λ next. IfSome next (λ after. (value_of reading.entry.settings (word_of reading.entry.null) setting (drop from word.now) word.now ≡ Ok (after.settings, word_of after.null)) × (after.wanted ≡ None)) × IsSome next)
-        (λ error. value_of reading.entry.settings (word_of reading.entry.null) setting (drop from word.now) word.now ≡ Err (argument_text error)) }
+    ensures { ReadsValue (value_of reading.entry.settings (word_of reading.entry.null) setting (drop from word.now) word.now) result }
 {
     let value = &word.as_bytes()[from..];
     let mut null = reading.null;

@@ -1,14 +1,14 @@
 //! The program without its streams: runs a request over a reader and a writer.
-ghost use Rattle.std.specs.Prelude.{◌≡◌, ◌+◌, ℕ, List, [], Some, Err, IfErr};
+ghost use Rattle.std.specs.Prelude.{◌≡◌, ◌+◌, [], Err, IfErr};
 ghost use Rattle.lasso_columns.specs.Rows.{word_of};
-ghost use Rattle.lasso_codes.specs.Counts.{CountsEnd};
-ghost use Rattle.lasso_codes.specs.Decode.{DecodeEnd};
-ghost use Rattle.lasso_codes.specs.Distinct.{DistinctEnd};
-ghost use Rattle.lasso_codes.specs.Encode.{EncodeEnd};
-ghost use Rattle.lasso_codes.specs.Errors.{failed_reads, failed_writes, gone_readers, FailsWriting, IsWriteEnd, IsWriteError};
-ghost use Rattle.lasso_codes.specs.Merge.{MergeEnd};
-ghost use Rattle.lasso_codes.specs.Requests.{RequestEnd, VerbEnd};
-ghost use Rattle.lasso_codes.specs.Streams.{Writes};
+ghost use Rattle.lasso_codes.specs.Counts.{CountsEnds};
+ghost use Rattle.lasso_codes.specs.Decode.{DecodeEnds};
+ghost use Rattle.lasso_codes.specs.Distinct.{DistinctEnds};
+ghost use Rattle.lasso_codes.specs.Encode.{EncodeEnds};
+ghost use Rattle.lasso_codes.specs.Errors.{failed_reads, failed_writes, gone_readers, IsWriteEnd, IsWriteError};
+ghost use Rattle.lasso_codes.specs.Merge.{MergeEnds};
+ghost use Rattle.lasso_codes.specs.Requests.{RequestEnds, VerbEnds};
+ghost use Rattle.lasso_codes.specs.Streams.{Reports, ReportsFailure, Writes, WritesAll};
 ghost use Rattle.lasso_columns.specs.declared.faults.LineError.TheVariants.{Refused};
 ghost use Rattle.lasso_parts.specs.declared.util.LassoErrorKind.TheVariants.{FailedAllocation};
 ghost use Rattle.lasso_codes.specs.declared.arguments.Settings.{Settings};
@@ -69,8 +69,8 @@ pub fn run<'a, H: AllocGlobal + Threads + Sync, R: Read + Drop, W: Write + Drop>
     output: &mut Output<W>,
 ) -> Ran<'a>
     ensures request { result.request ≡ request.now }
-    ensures report { (verb : Verb) (settings : Settings) (bytes : List ℕ) → request.now.command ≡ Run verb settings → input.old.left ≡ Some bytes →
-        Writes output.old.written output.new.written (λ part. VerbEnd verb settings (word_of request.now.null) bytes input.new.left part result.ended) }
+    ensures report { (verb : Verb) (settings : Settings) → request.now.command ≡ Run verb settings →
+        Reports input.old output.old output.new (VerbEnds verb settings (word_of request.now.null) input.new.left result.ended) }
     ensures help { request.now.command ≡ Help → input.new ≡ input.old }
     ensures verb_help { (verb : Verb) → request.now.command ≡ VerbHelp verb → input.new ≡ input.old }
     ensures version { request.now.command ≡ Version → input.new ≡ input.old }
@@ -78,8 +78,8 @@ pub fn run<'a, H: AllocGlobal + Threads + Sync, R: Read + Drop, W: Write + Drop>
     ensures reads { ¬ (result.ended ≡ Err RunError.WriteFailed) → input.new.failures ≡ input.old.failures + failed_reads result.ended }
     ensures writes { output.new.failures ≡ output.old.failures + failed_writes result.ended }
     ensures gone { ¬ (result.ended ≡ Err RunError.WriteFailed) → output.new.gone ≡ output.old.gone + gone_readers result.ended }
-    ensures write_failed { result.ended ≡ Err RunError.WriteFailed → FailsWriting input.old input.new output.old output.new (λ error. (bytes : List ℕ) → input.old.left ≡ Some bytes →
-        Writes output.old.written output.new.written (λ part. RequestEnd request.now.command (word_of request.now.null) bytes input.new.left part (Err error))) }
+    ensures write_failed { ReportsFailure result.ended input.old input.new output.old output.new
+        (RequestEnds request.now.command (word_of request.now.null) input.new.left) }
 {
     let ended = run_request(rt, request, input, output);
     Ran {
@@ -98,16 +98,16 @@ pub fn run_request<H: AllocGlobal + Threads + Sync, R: Read + Drop, W: Write + D
     input: &mut Input<R>,
     output: &mut Output<W>,
 ) -> Result<(), RunError>
-    ensures distinct { (settings : Settings) (bytes : List ℕ) → request.now.command ≡ Run Distinct settings → input.old.left ≡ Some bytes →
-        Writes output.old.written output.new.written (λ part. DistinctEnd bytes settings.only_utf8 settings.limit input.new.left part result) }
-    ensures counts { (settings : Settings) (bytes : List ℕ) → request.now.command ≡ Run Counts settings → input.old.left ≡ Some bytes →
-        Writes output.old.written output.new.written (λ part. CountsEnd bytes settings.only_utf8 settings.limit settings.top part result) }
-    ensures decode { (settings : Settings) (bytes : List ℕ) → request.now.command ≡ Run Decode settings → input.old.left ≡ Some bytes →
-        Writes output.old.written output.new.written (λ part. DecodeEnd bytes settings.only_utf8 settings.limit (word_of request.now.null) part result) }
-    ensures encode { (settings : Settings) (bytes : List ℕ) → request.now.command ≡ Run Encode settings → input.old.left ≡ Some bytes →
-        Writes output.old.written output.new.written (λ part. EncodeEnd bytes settings.only_utf8 settings.limit (word_of request.now.null) settings.binary part result) }
-    ensures merge { (settings : Settings) (bytes : List ℕ) → request.now.command ≡ Run Merge settings → input.old.left ≡ Some bytes →
-        Writes output.old.written output.new.written (λ part. MergeEnd bytes settings.only_utf8 settings.limit settings.binary part result) }
+    ensures distinct { (settings : Settings) → request.now.command ≡ Run Distinct settings →
+        Reports input.old output.old output.new (DistinctEnds settings.only_utf8 settings.limit input.new.left result) }
+    ensures counts { (settings : Settings) → request.now.command ≡ Run Counts settings →
+        Reports input.old output.old output.new (CountsEnds settings input.new.left result) }
+    ensures decode { (settings : Settings) → request.now.command ≡ Run Decode settings →
+        Reports input.old output.old output.new (DecodeEnds settings.only_utf8 settings.limit (word_of request.now.null) input.new.left result) }
+    ensures encode { (settings : Settings) → request.now.command ≡ Run Encode settings →
+        Reports input.old output.old output.new (EncodeEnds settings (word_of request.now.null) input.new.left result) }
+    ensures merge { (settings : Settings) → request.now.command ≡ Run Merge settings →
+        Reports input.old output.old output.new (MergeEnds settings.only_utf8 settings.limit settings.binary input.new.left result) }
     ensures help { request.now.command ≡ Help → input.new ≡ input.old }
     ensures verb_help { (verb : Verb) → request.now.command ≡ VerbHelp verb → input.new ≡ input.old }
     ensures version { request.now.command ≡ Version → input.new ≡ input.old }
@@ -115,8 +115,8 @@ pub fn run_request<H: AllocGlobal + Threads + Sync, R: Read + Drop, W: Write + D
     ensures reads { ¬ (result ≡ Err RunError.WriteFailed) → input.new.failures ≡ input.old.failures + failed_reads result }
     ensures writes { output.new.failures ≡ output.old.failures + failed_writes result }
     ensures gone { ¬ (result ≡ Err RunError.WriteFailed) → output.new.gone ≡ output.old.gone + gone_readers result }
-    ensures write_failed { result ≡ Err RunError.WriteFailed → FailsWriting input.old input.new output.old output.new (λ error. (bytes : List ℕ) → input.old.left ≡ Some bytes →
-        Writes output.old.written output.new.written (λ part. RequestEnd request.now.command (word_of request.now.null) bytes input.new.left part (Err error))) }
+    ensures write_failed { ReportsFailure result input.old input.new output.old output.new
+        (RequestEnds request.now.command (word_of request.now.null) input.new.left) }
 {
     let null = request.null;
     match request.command {
@@ -142,6 +142,7 @@ pub fn run_request<H: AllocGlobal + Threads + Sync, R: Read + Drop, W: Write + D
 
 // Writes the text, and flushes it.
 fn show<W: Write + Drop>(output: &mut Output<W>, text: &str) -> Result<(), RunError>
+    ensures written { Writes output.old.written output.new.written (WritesAll text.now result) }
     ensures flushed { ¬ (IsWriteEnd result) → output.new.pending ≡ [] }
     ensures errors { IfErr result IsWriteError }
     ensures writes { output.new.failures ≡ output.old.failures + failed_writes result }

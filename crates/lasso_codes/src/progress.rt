@@ -146,14 +146,24 @@ impl<R: Read, H: Clock + Eprint> Read for Watched<'_, R, H> {
 
     fn read(&mut self, buf: &mut [u8]) -> io::Result<usize> {
         let ended = self.inner.read(buf);
-        if let Some(progress) = &mut self.progress {
-            match &ended {
-                Ok(0) => progress.wipe(),
-                Ok(count) => progress.advance(*count),
-                Err(error) if error.kind() == ErrorKind::Interrupted => {}
-                Err(_) => progress.wipe(),
-            }
-        }
-        ended
+        handed_on(&mut self.progress, ended)
     }
+}
+
+// Shows how a read of the inner reader ended, and returns that.
+fn handed_on<H: Clock + Eprint>(
+    progress: &mut Option<Progress<'_, H>>,
+    ended: io::Result<usize>,
+) -> io::Result<usize>
+    ensures { result ≡ ended }
+{
+    if let Some(progress) = progress {
+        match &ended {
+            Ok(0) => progress.wipe(),
+            Ok(count) => progress.advance(*count),
+            Err(error) if error.kind() == ErrorKind::Interrupted => {}
+            Err(_) => progress.wipe(),
+        }
+    }
+    ended
 }

@@ -1,10 +1,10 @@
 //! Reads the header and the dictionary of a column.
-ghost use Rattle.std.specs.Prelude.{◌≡◌, ◌+◌, ◌≤◌, ◌-◌, ◌++◌, ◌∷◌, [], ℕ, List, Some, Ok, IfOk, IfErr, OnOk, MatchResult, drop, length};
-ghost use Rattle.lasso_single.specs.Filling.{extend};
-ghost use Rattle.lasso_single.specs.Interner.{InternerView, made_with};
-ghost use Rattle.lasso_single.specs.Coding.{spur_at};
+ghost use Rattle.std.specs.Prelude.{◌≡◌, ◌+◌, ◌≤◌, [], IfOk, IfErr, OnOk, MatchResult, length};
+ghost use Rattle.lasso_single.specs.Interner.{InternerView};
 ghost use Rattle.lasso_columns.specs.Rows.{word_of};
-ghost use Rattle.lasso_codes.specs.Stages.{Reading};
+ghost use Rattle.lasso_codes.specs.Limits.{IfNew, InternsOwn};
+ghost use Rattle.lasso_codes.specs.Stages.{ReadsOn, StopsReading};
+ghost use Rattle.lasso_codes.specs.Streams.{IfKnown};
 ghost use Rattle.lasso_codes.specs.Reading.{after_front, header_in, header_of, header_with, AddError, AddsText, HeaderError, TakesHeader, TakesTexts, TextsError};
 ghost use Rattle.lasso_codes.specs.Errors.{failed_reads, IsDataError, IsInputError};
 
@@ -40,7 +40,7 @@ pub fn next_header<R: Read + Drop>(
     column: usize,
 ) -> Result<Option<Header>, RunError>
     ensures taken { IfOk result (TakesHeader input.old.left input.new.left) }
-    ensures error { IfErr result (HeaderError input.old.left column) }
+    ensures error { IfErr result (HeaderError input.old.left input.new.left column) }
     ensures reads { input.new.failures ≡ input.old.failures + failed_reads result }
 {
     match next_whole_line(input, line)? {
@@ -68,9 +68,9 @@ pub fn read_texts<R: Read + Drop>(
 ) -> Result<(), RunError>
     requires { rodeo.old.texts ≡ [] }
     ensures taken { OnOk result (TakesTexts rule.only_utf8 input.old.left input.new.left distinct rodeo.new.texts) }
-    ensures list { OnOk result (extend spur_at rodeo.old rodeo.new.texts (Ok tt) rodeo.new) }
-    ensures error { IfErr result (λ error. (bytes : List ℕ) → input.old.left ≡ Some bytes →
-        (limit : ℕ) → rodeo.old ≡ made_with 4096 limit → TextsError rule.only_utf8 limit distinct column bytes error) }
+    ensures list { OnOk result (InternsOwn rodeo.old rodeo.new) }
+    ensures error { IfErr result (λ error. IfKnown input.old.left (λ bytes. IfNew rodeo.old (λ limit.
+        TextsError rule.only_utf8 limit distinct column bytes input.new.left error))) }
     ensures faults { IfErr result IsInputError }
     ensures reads { input.new.failures ≡ input.old.failures + failed_reads result }
 {
@@ -112,12 +112,11 @@ fn add_texts(
     column: usize,
 ) -> Result<(usize, usize), RunError>
     requires { count ≤ distinct }
-    ensures added { IfOk result (λ at. (bytes later : List ℕ) → Reading rule.only_utf8 bytes (stretch.now ++ later) count rodeo.old → Reading rule.only_utf8 bytes (drop at.1 stretch.now ++ later) at.0 rodeo.new) }
-    ensures list { OnOk result ((start : InternerView) → extend spur_at start rodeo.old.texts (Ok tt) rodeo.old → extend spur_at start rodeo.new.texts (Ok tt) rodeo.new) }
+    ensures added { IfOk result (λ at. ReadsOn rule.only_utf8 stretch.now count rodeo.old at rodeo.new) }
+    ensures list { OnOk result ((start : InternerView) → InternsOwn start rodeo.old → InternsOwn start rodeo.new) }
     ensures more { IfOk result (λ at. (count ≤ at.0) × (at.0 ≤ distinct)) }
     ensures within { IfOk result (λ at. at.1 ≤ length stretch.now) }
-    ensures error { IfErr result (λ error. (bytes later : List ℕ) (limit : ℕ) → Reading rule.only_utf8 bytes (stretch.now ++ later) count rodeo.old →
-        extend spur_at (made_with 4096 limit) rodeo.old.texts (Ok tt) rodeo.old → TextsError rule.only_utf8 limit distinct column bytes error) }
+    ensures error { IfErr result (StopsReading rule.only_utf8 distinct column stretch.now count rodeo.old) }
     ensures faults { IfErr result IsDataError }
 {
     let mut lines = Stretch::new(stretch);

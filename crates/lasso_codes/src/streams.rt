@@ -3,7 +3,7 @@
 //! No contract can say that a call of the inner reader or writer returned an error. So each of the two types
 //! counts the errors that it gets, in one method, `failed`, and only the methods of this file can call it: the
 //! others see the counts by their contracts, and can't change them.
-ghost use Rattle.std.specs.Prelude.{◌≡◌, ◌+◌, ◌<◌, ◌≤◌, ℕ, All, List, ◌++◌, Some, IfOk, Err, IfErr, IfSome, OnOk, OnErr, [], drop, length, vec_len};
+ghost use Rattle.std.specs.Prelude.{◌≡◌, ◌+◌, ◌<◌, ◌≤◌, ℕ, All, List, ◌++◌, None, Some, IfOk, Err, IfErr, IfSome, OnOk, OnErr, [], drop, length, vec_len};
 ghost use Rattle.std.specs.Io.{WritesAtMost};
 ghost use Rattle.std.specs.Io.BufRead.{DropsThrough, take_through};
 ghost use Rattle.std.specs.Io.Buffered.{reader_buffer, reader_remaining, writer_buffer, writer_contents};
@@ -12,17 +12,19 @@ ghost use Rattle.std.specs.IoError.{error_kind};
 ghost use Rattle.hex.specs.Hex.{IsBytes};
 ghost use Rattle.lasso_input.specs.Lines.{lines_of};
 ghost use Rattle.lasso_columns.specs.Rows.{word_of, EncodesRows};
+ghost use Rattle.lasso_columns.specs.Steps.{AreLeft, AreLeftAfter, EncodesFirst};
 ghost use Rattle.lasso_columns.specs.Texts.{texts_by};
 ghost use Rattle.lasso_columns.specs.declared.line_texts.LineTexts.TheVariants.{OfBytes};
+ghost use Rattle.lasso_codes.specs.Counts.{StopsRound};
 ghost use Rattle.lasso_codes.specs.Encode.{StopsEncoding};
 ghost use Rattle.lasso_codes.specs.Errors.{failed_reads, failed_writes, gone_readers, IsInputError, IsReadError, IsWriteError};
-ghost use Rattle.lasso_codes.specs.Streams.{LosesPart, TakesByte};
+ghost use Rattle.lasso_codes.specs.Streams.{IfKnown, LosesPart, TakesByte};
 ghost use Rattle.lasso_columns.specs.declared.faults.LineError.TheVariants.{Refused};
 ghost use Rattle.lasso_parts.specs.declared.util.LassoErrorKind.TheVariants.{FailedAllocation};
 
 use crate::error::RunError;
 use crate::lines::TextRule;
-use lasso_columns::{LineTexts, Rounds, SpurRodeo, StreamError, encode_stream_by};
+use lasso_columns::{LineTexts, Rounds, SpurRodeo, StreamEncoder, StreamError, encode_stream_by};
 use lasso_input::failures::Failures;
 use std::io;
 use std::io::{BufRead, BufReader, BufWriter, ErrorKind, Read, Write};
@@ -81,7 +83,8 @@ impl<R: Read + Drop> Input<R> {
     /// Removes the first `count` bytes from the buffer.
     pub fn consume(&mut self, count: usize)
         requires { count ≤ length self.old.at_hand }
-        ensures left { (later : List ℕ) → self.old.left ≡ Some (self.old.at_hand ++ later) → self.new.left ≡ Some (drop count self.old.at_hand ++ later) }
+        ensures left { (later : List ℕ) → self.old.left ≡ Some (self.old.at_hand ++ later) →
+            self.new.left ≡ Some (drop count self.old.at_hand ++ later) }
         ensures reads { self.new.failures ≡ self.old.failures }
     {
         self.inner.consume(count);
@@ -122,11 +125,11 @@ impl<R: Read + Drop> Input<R> {
         null: Option<&[u8]>,
         workers: usize,
     ) -> Result<(), RunError>
-        ensures rows { OnOk result ((bytes : List ℕ) → self.old.left ≡ Some bytes →
-            EncodesRows (word_of null.entry) rodeo.old (texts_by (OfBytes rule.only_utf8) (lines_of bytes)) [] entries.old.items rodeo.new entries.new.items) }
-        ensures bytes { OnOk result ((bytes : List ℕ) → self.old.left ≡ Some bytes → All IsBytes (lines_of bytes)) }
-        ensures stops { IfErr result (λ error. (bytes : List ℕ) → self.old.left ≡ Some bytes →
-            StopsEncoding rule.only_utf8 (word_of null.entry) rodeo.old (lines_of bytes) entries.old.items rodeo.new entries.new error) }
+        ensures rows { OnOk result (IfKnown self.old.left (λ bytes.
+            EncodesRows (word_of null.entry) rodeo.old (texts_by (OfBytes rule.only_utf8) (lines_of bytes)) [] entries.old.items rodeo.new entries.new.items)) }
+        ensures bytes { OnOk result (IfKnown self.old.left (λ bytes. All IsBytes (lines_of bytes))) }
+        ensures stops { IfErr result (λ error. IfKnown self.old.left (λ bytes.
+            StopsEncoding rule.only_utf8 (word_of null.entry) rodeo.old (lines_of bytes) entries.old.items rodeo.new entries.new self.new.left error)) }
         ensures faults { IfErr result IsInputError }
         ensures reads { self.new.failures ≡ self.old.failures + failed_reads result }
     {
@@ -142,12 +145,71 @@ impl<R: Read + Drop> Input<R> {
         }
     }
 
+    /// Reads the first lines that are left, for rounds with up to `workers` threads.
+    ///
+    /// # Errors
+    /// Out of memory. Nothing was read.
+    pub fn stream_encoder(
+        &mut self,
+        rule: TextRule,
+        workers: usize,
+    ) -> Result<StreamEncoder, RunError>
+        ensures by { IfOk result (λ encoder. encoder.by ≡ OfBytes rule.only_utf8) }
+        ensures left { IfOk result (λ encoder. IfKnown self.old.left (λ bytes. AreLeft encoder self.new.left (lines_of bytes))) }
+        ensures kept { OnErr result (self.new.left ≡ self.old.left) }
+        ensures errors { IfErr result (IsReadError 1) }
+        ensures reads { self.new.failures ≡ self.old.failures + failed_reads result }
+    {
+        let by = LineTexts::OfBytes(rule.only_utf8);
+        match StreamEncoder::new(rule.alloc, &mut self.inner, Rounds::new(workers), by) {
+            Ok(encoder) => Ok(encoder),
+            Err(error) => Err(self.failed_unless_full(&error, 1)),
+        }
+    }
+
+    /// Encodes the lines of the encoder's next round. `codes` has theirs afterwards, and no others. Returns whether
+    /// more lines follow. `before` is the number of lines in earlier rounds.
+    ///
+    /// # Errors
+    /// Those of `encode_stream`. Or there are more lines than `usize` can number.
+    pub fn encode_round<H: AllocGlobal + Threads + Sync>(
+        &mut self,
+        rt: &H,
+        encoder: &mut StreamEncoder,
+        rodeo: &mut SpurRodeo,
+        codes: &mut Vec<u32>,
+        before: usize,
+    ) -> Result<bool, RunError>
+        ensures by { encoder.new.by ≡ encoder.old.by }
+        ensures rows { IfOk result (λ goes_on. (lines : List (List ℕ)) → AreLeft encoder.old self.old.left lines →
+            EncodesFirst encoder.old.by None rodeo.old lines [] rodeo.new codes.new.items (AreLeftAfter goes_on encoder.new self.new.left)) }
+        ensures stops { IfErr result (λ error. (only : _) (lines : List (List ℕ)) → encoder.old.by ≡ OfBytes only → AreLeft encoder.old self.old.left lines →
+            StopsRound before only rodeo.old lines rodeo.new codes.new self.new.left error) }
+        ensures rounds { OnOk result (encoder.new.rounds_left < encoder.old.rounds_left) }
+        ensures faults { IfErr result IsInputError }
+        ensures reads { self.new.failures ≡ self.old.failures + failed_reads result }
+    {
+        codes.clear();
+        let error = match encoder.encode_round(rt, &mut self.inner, rodeo, None, codes) {
+            Ok(goes_on) => return Ok(goes_on),
+            Err(error) => error,
+        };
+        let Some(number) = before.checked_add(codes.len() + 1) else {
+            return Err(RunError::TooManyLines);
+        };
+        match error {
+            StreamError::Line(error) => Err(RunError::Line(error.at_line(number))),
+            StreamError::Read(error) => Err(self.failed_unless_full(&error, number)),
+        }
+    }
+
     /// Reads the next byte. `None` at the end of the input.
     ///
     /// # Errors
     /// The reader failed.
     pub fn next_byte(&mut self) -> Result<Option<u8>, RunError>
         ensures taken { IfOk result (TakesByte self.old.left self.new.left) }
+        ensures kept { OnErr result (Keeps self.old.left self.new.left) }
         ensures errors { IfErr result (λ error. error ≡ RunError.ReadFailed) }
         ensures reads { self.new.failures ≡ self.old.failures + failed_reads result }
     {
@@ -186,6 +248,7 @@ impl<R: Read + Drop> Input<R> {
 // Reads the next byte. A read that was interrupted is tried again, 2^64 - 1 times at most.
 fn read_byte<R: Read + Drop>(inner: &mut BufReader<R>) -> io::Result<Option<u8>>
     ensures taken { IfOk result (TakesByte (reader_remaining R.remaining inner.old) (reader_remaining R.remaining inner.new)) }
+    ensures kept { OnErr result (Keeps (reader_remaining R.remaining inner.old) (reader_remaining R.remaining inner.new)) }
     ensures retried { IfErr result (λ error. ¬ (error_kind error ≡ ErrorKind.Interrupted)) }
 {
     let mut byte = [0];

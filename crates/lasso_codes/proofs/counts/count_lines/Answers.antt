@@ -26,7 +26,7 @@ returns-in_err-next-clause-error g c =
     let ahead = at.invariant.ahead bytes e in
     let hand = c.buffered-shown.ensures.first ahead.0 ahead.1 in
     let so_far = subst (λ bs. Counting bytes bs c.args.rule.only_utf8 at.number c.args.rodeo.now at.rodeo at.counts.items) hand.1 ahead.2 in
-    c.in_err-next.ensures.error bytes hand.0 limit (subst (λ (i : InternerView). Counting bytes (c.buffered-shown.result.now ++ hand.0) c.args.rule.only_utf8 at.number i at.rodeo at.counts.items) made so_far))
+    c.in_err-next.ensures.error bytes hand.0 limit at.input.left (subst (λ (i : InternerView). Counting bytes (c.buffered-shown.result.now ++ hand.0) c.args.rule.only_utf8 at.number i at.rodeo at.counts.items) made so_far))
 
 pub returns-in_err-next_line-clause-error : goal.returns-in_err-next_line-clause-error
 returns-in_err-next_line-clause-error g c =
@@ -35,10 +35,12 @@ returns-in_err-next_line-clause-error g c =
     rw (p.1, p.2) (λ bytes e limit made.
     let ahead = at.invariant.ahead bytes e in
     let hand = c.buffered-shown.ensures.first ahead.0 ahead.1 in
-    let left = drop c.in_ok-next.used c.buffered-shown.result.now ++ hand.0 in
+    let shown = c.buffered-shown.result.now in
+    let left = drop c.in_ok-next.used shown ++ hand.0 in
     let so_far = subst (λ bs. Counting bytes bs c.args.rule.only_utf8 at.number c.args.rodeo.now at.rodeo at.counts.items) hand.1 ahead.2 in
     let then = c.in_ok-next.ensures.counted bytes hand.0 c.args.rodeo.now so_far in
-    counting_read_fails bytes left c.args.rule.only_utf8 c.in_ok-next.next c.args.rodeo.now c.count_stretch.new.rodeo c.count_stretch.new.counts.items then limit c.in_err-next_line.field-0.0 made c.in_err-next_line.ensures.errors)
+    let known = left_after _ _ _ shown hand.0 ahead.0 c.in_ok-next.used c.buffered-shown.ensures.value c.consume.ensures.left ahead.1 hand.1 in
+    counting_read_fails bytes left c.args.rule.only_utf8 c.in_ok-next.next c.args.rodeo.now c.count_stretch.new.rodeo c.count_stretch.new.counts.items then limit c.consume.new.self.left c.next_line.new.input.left c.in_err-next_line.field-0.0 made known c.in_err-next_line.ensures.lost c.in_err-next_line.ensures.errors)
 
 pub returns-then-not-branch-clause-counted : goal.returns-then-not-branch-clause-counted
 returns-then-not-branch-clause-counted g c = λ bytes e.
@@ -76,7 +78,7 @@ returns-in-Err-clause-error g c = λ bytes e limit made.
     let known = left_after _ _ _ shown hand.0 ahead.0 c.in_ok-next.used c.buffered-shown.ensures.value c.consume.ensures.left ahead.1 hand.1 in
     let cut = one_line _ _ c.in_ok-next_line.field-0 _ c.in_ok-next_line.ensures.taken c.if-not-branch.false left known in
     let is = subst (λ l. IsLineFault c.args.rule.only_utf8 c.count_stretch.new.rodeo l c.in_ok-next.next c.in-Err.error) (c.untested-whole.ensures ∙ c.deref.ensures.value) c.in-Err.ensures.error in
-    counting_line_fails bytes left c.args.rule.only_utf8 c.in_ok-next.next c.args.rodeo.now c.count_stretch.new.rodeo c.count_stretch.new.counts.items then limit c.next_line.new.line.items cut.0 c.in-Err.error made cut.2 is
+    counting_line_fails bytes left c.args.rule.only_utf8 c.in_ok-next.next c.args.rodeo.now c.count_stretch.new.rodeo c.count_stretch.new.counts.items then limit c.next_line.new.input.left c.next_line.new.line.items cut.0 c.in-Err.error made cut.2 is
 
 pub loop-number-preserved : goal.loop-number-preserved
 loop-number-preserved g c =
@@ -103,4 +105,4 @@ pub returns-clause-error : goal.returns-clause-error
 returns-clause-error g c = λ bytes e limit made.
     let at = c.loop-number in
     let ahead = at.invariant.ahead bytes e in
-    counting_many bytes ahead.0 c.args.rule.only_utf8 at.number c.args.rodeo.now at.rodeo at.counts.items ahead.2 limit (omega (arith, c.loop-number-test.false))
+    counting_many bytes ahead.0 c.args.rule.only_utf8 at.number c.args.rodeo.now at.rodeo at.counts.items ahead.2 limit at.input.left (omega (arith, c.loop-number-test.false))

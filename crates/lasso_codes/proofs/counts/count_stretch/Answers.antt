@@ -23,12 +23,12 @@ returns-in_default-clause-counted c = λ input later start so_far.
     subst (λ bs. Counting input (bs ++ later) c.args.rule.only_utf8 at.number start at.rodeo at.counts.items) (sym (c.taken.ensures.left ∙ c.in_default.ensures.line.1)) (at.invariant.counted input later start so_far)
 
 pub returns-in-Err-clause-error : goal.returns-in-Err-clause-error
-returns-in-Err-clause-error c = λ input later limit so_far.
+returns-in-Err-clause-error c = λ input later limit after so_far.
     let at = c.loop-number in
     let line = c.in-Some.line in
     let rest = c.next_ended.new.self in
     let start = made_with 4096 limit in
-    counting_line_fails input (at.lines ++ later) c.args.rule.only_utf8 at.number start at.rodeo at.counts.items (at.invariant.counted input later start so_far) limit line (rest ++ later) c.in-Err.error refl
+    counting_line_fails input (at.lines ++ later) c.args.rule.only_utf8 at.number start at.rodeo at.counts.items (at.invariant.counted input later start so_far) limit after line (rest ++ later) c.in-Err.error refl
     (lines_fed at.lines line rest later c.in-Some.ensures.line) c.in-Err.ensures.error
 
 pub loop-number-preserved : goal.loop-number-preserved
@@ -48,7 +48,7 @@ loop-number-preserved c =
     }
 
 pub returns-clause-error : goal.returns-clause-error
-returns-clause-error c = λ input later limit so_far.
+returns-clause-error c = λ input later limit after so_far.
     let at = c.loop-number in
     let start = made_with 4096 limit in
-    counting_many input (at.lines ++ later) c.args.rule.only_utf8 at.number start at.rodeo at.counts.items (at.invariant.counted input later start so_far) limit (omega (arith, c.loop-number-test.false))
+    counting_many input (at.lines ++ later) c.args.rule.only_utf8 at.number start at.rodeo at.counts.items (at.invariant.counted input later start so_far) limit after (omega (arith, c.loop-number-test.false))

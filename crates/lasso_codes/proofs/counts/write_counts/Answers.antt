@@ -24,20 +24,20 @@ pub returns-in_err-rodeo-clause-report : goal.returns-in_err-rodeo-clause-report
 returns-in_err-rodeo-clause-report g c = λ bytes e.
     let p = err_from_is_err_and c.from_residual.result c.from_residual.ensures.1 in
     let error = c.in_err-rodeo.field-0.0 in
-    rw (p.1, p.2) (writes_none _ _ (none_written bytes c.args.settings.only_utf8 c.args.settings.limit c.args.settings.top error (unmade c.args.settings.only_utf8 c.args.settings.limit (lines_of bytes) error c.in_err-rodeo.ensures.refused)))
+    rw (p.1, p.2) (writes_none _ _ (none_written bytes c.args.settings.only_utf8 c.args.settings.limit c.args.settings.top c.args.input.now.left error (unmade c.args.settings.only_utf8 c.args.settings.limit (lines_of bytes) c.args.input.now.left error c.in_err-rodeo.ensures.refused)))
 
 pub returns-in_err-count_all-clause-report : goal.returns-in_err-count_all-clause-report
 returns-in_err-count_all-clause-report g c = λ bytes e.
     let p = err_from_is_err_and c.from_residual-in_err-count_all.result c.from_residual-in_err-count_all.ensures.1 in
     let error = c.in_err-count_all.field-0.0 in
-    rw (p.1, p.2) (writes_none _ _ (none_written bytes c.args.settings.only_utf8 c.args.settings.limit c.args.settings.top error (c.in_err-count_all.ensures.error bytes e c.args.settings.limit (c.in_ok-rodeo.ensures.made ∙ ap (λ n. made_with 4096 n) c.new.ensures))))
+    rw (p.1, p.2) (writes_none _ _ (none_written bytes c.args.settings.only_utf8 c.args.settings.limit c.args.settings.top c.count_all.new.input.left error (c.in_err-count_all.ensures.error bytes e c.args.settings.limit (c.in_ok-rodeo.ensures.made ∙ ap (λ n. made_with 4096 n) c.new.ensures))))
 
 pub returns-in_err-table-clause-report : goal.returns-in_err-table-clause-report
 returns-in_err-table-clause-report g c = λ bytes e.
     let p = err_from_is_err_and c.from_residual-in_err-table.result c.from_residual-in_err-table.ensures.1 in
     let only = c.args.settings.only_utf8 in
     let error = c.in_err-table.field-0.0 in
-    rw (p.1, p.2) (writes_none _ _ (none_written bytes only c.args.settings.limit c.args.settings.top error (unmade only c.args.settings.limit (lines_of bytes) error c.in_err-table.ensures.refused)))
+    rw (p.1, p.2) (writes_none _ _ (none_written bytes only c.args.settings.limit c.args.settings.top c.count_all.new.input.left error (unmade only c.args.settings.limit (lines_of bytes) c.count_all.new.input.left error c.in_err-table.ensures.refused)))
 
 pub returns-clause-report : goal.returns-clause-report
 returns-clause-report g c = λ bytes e.
@@ -51,8 +51,8 @@ returns-clause-report g c = λ bytes e.
     let made = c.in_ok-rodeo.ensures.made ∙ ap (λ n. made_with 4096 n) c.new.ensures in
     let list = subst (λ (i : InternerView). extend spur_at i (line_texts (lines_of bytes)) accepted c.count_all.new.rodeo) made (c.in_ok-count_all.ensures.interned bytes e) in
     let result = c.write_ranked-2.result in
-    writes_as _ _ (WritesAll (flat_map count_line (map pair_of (take c.min-most.result c.deref-3.result.now))) result) (λ part. CountsEnd bytes c.args.settings.only_utf8 c.args.settings.limit c.args.settings.top part result) c.write_ranked-2.ensures.written (λ part w.
-    report_written bytes c.args.settings.only_utf8 c.args.settings.limit c.args.settings.top (map pair_of items) part result (counted.0, (c.count_all.new.rodeo, list)) order c.in-Ok-by_frequency.ensures.order total (subst (λ ps. WritesAll (flat_map count_line ps) result part) slice_is w))
+    writes_as _ _ (WritesAll (flat_map count_line (map pair_of (take c.min-most.result c.deref-3.result.now))) result) (λ part. CountsEnd bytes c.args.settings.only_utf8 c.args.settings.limit c.args.settings.top c.count_all.new.input.left part result) c.write_ranked-2.ensures.written (λ part w.
+    report_written bytes c.args.settings.only_utf8 c.args.settings.limit c.args.settings.top c.count_all.new.input.left (map pair_of items) part result (counted.0, (c.count_all.new.rodeo, list)) order c.in-Ok-by_frequency.ensures.order total (subst (λ ps. WritesAll (flat_map count_line ps) result part) slice_is w))
 
 pub returns-in_default-clause-report : goal.returns-in_default-clause-report
 returns-in_default-clause-report g c = λ bytes e.
@@ -66,20 +66,20 @@ returns-in_default-clause-report g c = λ bytes e.
     let made = c.in_ok-rodeo.ensures.made ∙ ap (λ n. made_with 4096 n) c.new.ensures in
     let list = subst (λ (i : InternerView). extend spur_at i (line_texts (lines_of bytes)) accepted c.count_all.new.rodeo) made (c.in_ok-count_all.ensures.interned bytes e) in
     let result = c.write_ranked.result in
-    writes_as _ _ (WritesAll (flat_map count_line (map pair_of (take c.min-count.result c.deref-in_default.result.now))) result) (λ part. CountsEnd bytes c.args.settings.only_utf8 c.args.settings.limit c.args.settings.top part result) c.write_ranked.ensures.written (λ part w.
-    report_written bytes c.args.settings.only_utf8 c.args.settings.limit c.args.settings.top (map pair_of items) part result (counted.0, (c.count_all.new.rodeo, list)) order c.in-Ok.ensures.order total (subst (λ ps. WritesAll (flat_map count_line ps) result part) slice_is w))
+    writes_as _ _ (WritesAll (flat_map count_line (map pair_of (take c.min-count.result c.deref-in_default.result.now))) result) (λ part. CountsEnd bytes c.args.settings.only_utf8 c.args.settings.limit c.args.settings.top c.count_all.new.input.left part result) c.write_ranked.ensures.written (λ part w.
+    report_written bytes c.args.settings.only_utf8 c.args.settings.limit c.args.settings.top c.count_all.new.input.left (map pair_of items) part result (counted.0, (c.count_all.new.rodeo, list)) order c.in-Ok.ensures.order total (subst (λ ps. WritesAll (flat_map count_line ps) result part) slice_is w))
 
 pub returns-in_default-lines_by_frequency-clause-report : goal.returns-in_default-lines_by_frequency-clause-report
 returns-in_default-lines_by_frequency-clause-report g c = λ bytes e.
     let only = c.args.settings.only_utf8 in
     let error = c.no_memory.result in
-    writes_none _ _ (none_written bytes only c.args.settings.limit c.args.settings.top error (unmade only c.args.settings.limit (lines_of bytes) error c.no_memory.ensures))
+    writes_none _ _ (none_written bytes only c.args.settings.limit c.args.settings.top c.count_all.new.input.left error (unmade only c.args.settings.limit (lines_of bytes) c.count_all.new.input.left error c.no_memory.ensures))
 
 pub returns-in_default-by_frequency-clause-report : goal.returns-in_default-by_frequency-clause-report
 returns-in_default-by_frequency-clause-report g c = λ bytes e.
     let only = c.args.settings.only_utf8 in
     let error = c.no_memory-in_default-by_frequency.result in
-    writes_none _ _ (none_written bytes only c.args.settings.limit c.args.settings.top error (unmade only c.args.settings.limit (lines_of bytes) error c.no_memory-in_default-by_frequency.ensures))
+    writes_none _ _ (none_written bytes only c.args.settings.limit c.args.settings.top c.count_all.new.input.left error (unmade only c.args.settings.limit (lines_of bytes) c.count_all.new.input.left error c.no_memory-in_default-by_frequency.ensures))
 
 pub returns-clause-reads : goal.returns-clause-reads
 returns-clause-reads g c =

@@ -10,7 +10,7 @@ use Rattle.lasso_codes.proofs.decode.decode.Goals as goal
 
 pub returns-clause-report : goal.returns-clause-report
 returns-clause-report g c = λ bytes e.
-    writes_kept _ _ _ _ _ (c.write_decoded-result.ensures.report bytes e) c.end_flushed.ensures.kept (λ part end. end_then c.args.rule.only_utf8 bytes c.args.limits (word_of c.args.null) part c.write_decoded-result.result c.end_flushed.result end c.end_flushed.ensures.ends)
+    writes_kept _ _ _ _ _ (c.write_decoded-result.ensures.report bytes e) c.end_flushed.ensures.kept (λ part end. end_then c.args.rule.only_utf8 bytes c.args.limits (word_of c.args.null) c.write_decoded-result.new.input.left part c.write_decoded-result.result c.end_flushed.result end c.end_flushed.ensures.ends)
 
 pub returns-clause-reads : goal.returns-clause-reads
 returns-clause-reads g c =
@@ -34,6 +34,6 @@ returns-clause-write_failed g c = λ failed.
     let run = c.write_decoded-result in
     let last = c.end_flushed in
     let before = c.args.output.now.written in
-    let ends : RunError → Type 0 = λ error. (bytes : List ℕ) → c.args.input.now.left ≡ Some bytes → Writes before last.new.output.written (λ part. DecodeEnd bytes c.args.rule.only_utf8 c.args.limits (word_of c.args.null) part (Err error)) in
+    let ends : RunError → Type 0 = λ error. (bytes : List ℕ) → c.args.input.now.left ≡ Some bytes → Writes before last.new.output.written (λ part. DecodeEnd bytes c.args.rule.only_utf8 c.args.limits (word_of c.args.null) run.new.input.left part (Err error)) in
     fails_writing c.args.input.now run.new.input c.args.output.now run.new.output last.new.output last.result ends failed run.result last.ensures.no_flush run.ensures.reads run.ensures.gone last.ensures.gone_alone last.ensures.gone_most (λ error is bytes e.
-    writes_kept _ _ _ _ _ (run.ensures.report bytes e) last.ensures.kept (λ part end. subst (λ r. DecodeEnd bytes c.args.rule.only_utf8 c.args.limits (word_of c.args.null) part r) is end))
+    writes_kept _ _ _ _ _ (run.ensures.report bytes e) last.ensures.kept (λ part end. subst (λ r. DecodeEnd bytes c.args.rule.only_utf8 c.args.limits (word_of c.args.null) run.new.input.left part r) is end))

@@ -1,8 +1,7 @@
-use Rattle.std.proofs.Common.{ℕ, ◌≡◌, ◌+◌, ◌-◌, ◌≤◌, List, Some}
+use Rattle.std.proofs.Common.{ℕ, ◌≡◌, ◌-◌, ◌≤◌, List, Some}
 use Rattle.lasso_columns.specs.Rows.{word_of}
 use Rattle.lasso_codes.specs.Decode.{line_at}
 use Rattle.lasso_codes.specs.Stages.{LinesAhead}
-use Rattle.lasso_codes.specs.Reading.{items_from}
 use Rattle.lasso_codes.specs.Streams.{Writes}
 use Rattle.lasso_codes.proofs.decode.write_lines.Given as goal
 
@@ -11,8 +10,7 @@ abbrev pub invariant-loop-count : goal.invariant-loop-count
 invariant-loop-count g l = record {
   within : l.count ≤ l.header.lines;
   ahead : (bytes : List ℕ) → l.fn.input.left ≡ Some bytes → (rest : List ℕ) × (l.input.left ≡ Some rest)
-      × Writes l.fn.output.written l.output.written
-      (LinesAhead (items_from (line_at (word_of l.null) l.table) (l.header.lines - l.count) l.header.binary (l.count + 1) rest) (items_from (line_at (word_of l.null) l.table) l.header.lines l.header.binary 1 bytes));
+      × Writes l.fn.output.written l.output.written (LinesAhead (line_at (word_of l.null) l.table) l.header.binary bytes rest l.count);
   reads : l.input.failures ≡ l.fn.input.failures;
   writes : l.output.failures ≡ l.fn.output.failures;
   gone : l.output.gone ≡ l.fn.output.gone;

@@ -21,7 +21,7 @@ returns-in_err-next-clause-error g c =
     let ahead = at.invariant.ahead bytes e in
     let hand = c.buffered-shown.ensures.first ahead.0 ahead.1 in
     let so_far = subst (λ bs. Encoding bytes bs c.args.rule.only_utf8 at.number null c.args.rodeo.now at.rodeo at.numbers.items) hand.1 ahead.2 in
-    c.in_err-next.ensures.error bytes hand.0 limit (subst (λ (i : InternerView). Encoding bytes (c.buffered-shown.result.now ++ hand.0) c.args.rule.only_utf8 at.number null i at.rodeo at.numbers.items) made so_far))
+    c.in_err-next.ensures.error bytes hand.0 limit at.input.left (subst (λ (i : InternerView). Encoding bytes (c.buffered-shown.result.now ++ hand.0) c.args.rule.only_utf8 at.number null i at.rodeo at.numbers.items) made so_far))
 
 pub returns-in_err-next_line-clause-error : goal.returns-in_err-next_line-clause-error
 returns-in_err-next_line-clause-error g c =
@@ -31,10 +31,12 @@ returns-in_err-next_line-clause-error g c =
     rw (p.1, p.2) (λ bytes e limit made.
     let ahead = at.invariant.ahead bytes e in
     let hand = c.buffered-shown.ensures.first ahead.0 ahead.1 in
-    let left = drop c.in_ok-next.used c.buffered-shown.result.now ++ hand.0 in
+    let shown = c.buffered-shown.result.now in
+    let left = drop c.in_ok-next.used shown ++ hand.0 in
     let so_far = subst (λ bs. Encoding bytes bs c.args.rule.only_utf8 at.number null c.args.rodeo.now at.rodeo at.numbers.items) hand.1 ahead.2 in
     let then = c.in_ok-next.ensures.numbered bytes hand.0 c.args.rodeo.now so_far in
-    encoding_read_fails bytes left c.args.rule.only_utf8 c.in_ok-next.next null c.args.rodeo.now c.encode_stretch.new.rodeo c.encode_stretch.new.numbers.items then limit c.in_err-next_line.field-0.0 made c.in_err-next_line.ensures.errors)
+    let known = left_after _ _ _ shown hand.0 ahead.0 c.in_ok-next.used c.buffered-shown.ensures.value c.consume.ensures.left ahead.1 hand.1 in
+    encoding_read_fails bytes left c.args.rule.only_utf8 c.in_ok-next.next null c.args.rodeo.now c.encode_stretch.new.rodeo c.encode_stretch.new.numbers.items then limit c.consume.new.self.left c.next_line.new.input.left c.in_err-next_line.field-0.0 made known c.in_err-next_line.ensures.lost c.in_err-next_line.ensures.errors)
 
 pub returns-then-not-branch-clause-numbered : goal.returns-then-not-branch-clause-numbered
 returns-then-not-branch-clause-numbered g c = λ bytes e.
@@ -76,7 +78,7 @@ returns-in-Err-clause-error g c = λ bytes e limit made.
     let cut = one_line _ _ c.in_ok-next_line.field-0 _ c.in_ok-next_line.ensures.taken c.if-not-branch.false left known in
     let is = subst (λ l. IsLineFault c.args.rule.only_utf8 c.encode_stretch.new.rodeo l c.in_ok-next.next c.in-Err.error) (c.untested-whole.ensures ∙ c.deref.ensures.value) c.in-Err.ensures.error in
     let no_null = subst (λ l. IsNoNull null l c.in-Err.error) (c.untested-whole.ensures ∙ c.deref.ensures.value) c.in-Err.ensures.null in
-    encoding_line_fails bytes left c.args.rule.only_utf8 c.in_ok-next.next null c.args.rodeo.now c.encode_stretch.new.rodeo c.encode_stretch.new.numbers.items then limit c.next_line.new.line.items cut.0 c.in-Err.error made cut.2 is no_null
+    encoding_line_fails bytes left c.args.rule.only_utf8 c.in_ok-next.next null c.args.rodeo.now c.encode_stretch.new.rodeo c.encode_stretch.new.numbers.items then limit c.next_line.new.input.left c.next_line.new.line.items cut.0 c.in-Err.error made cut.2 is no_null
 
 pub loop-number-preserved : goal.loop-number-preserved
 loop-number-preserved g c =
@@ -102,4 +104,4 @@ pub returns-clause-error : goal.returns-clause-error
 returns-clause-error g c = λ bytes e limit made.
     let at = c.loop-number in
     let ahead = at.invariant.ahead bytes e in
-    encoding_many bytes ahead.0 c.args.rule.only_utf8 at.number (word_of c.args.null) c.args.rodeo.now at.rodeo at.numbers.items ahead.2 limit (omega (arith, c.loop-number-test.false))
+    encoding_many bytes ahead.0 c.args.rule.only_utf8 at.number (word_of c.args.null) c.args.rodeo.now at.rodeo at.numbers.items ahead.2 limit at.input.left (omega (arith, c.loop-number-test.false))

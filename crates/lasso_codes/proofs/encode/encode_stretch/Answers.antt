@@ -22,12 +22,12 @@ returns-in_default-clause-numbered c = λ input later start so_far.
     subst (λ bs. Encoding input (bs ++ later) c.args.rule.only_utf8 at.number (word_of c.args.null) start at.rodeo at.numbers.items) (sym (c.taken.ensures.left ∙ c.in_default.ensures.line.1)) (at.invariant.numbered input later start so_far)
 
 pub returns-in-Err-clause-error : goal.returns-in-Err-clause-error
-returns-in-Err-clause-error c = λ input later limit so_far.
+returns-in-Err-clause-error c = λ input later limit after so_far.
     let at = c.loop-number in
     let line = c.in-Some.line in
     let rest = c.next_ended.new.self in
     let start = made_with 4096 limit in
-    encoding_line_fails input (at.lines ++ later) c.args.rule.only_utf8 at.number (word_of c.args.null) start at.rodeo at.numbers.items (at.invariant.numbered input later start so_far) limit line (rest ++ later) c.in-Err.error refl
+    encoding_line_fails input (at.lines ++ later) c.args.rule.only_utf8 at.number (word_of c.args.null) start at.rodeo at.numbers.items (at.invariant.numbered input later start so_far) limit after line (rest ++ later) c.in-Err.error refl
     (lines_fed at.lines line rest later c.in-Some.ensures.line) c.in-Err.ensures.error c.in-Err.ensures.null
 
 pub loop-number-preserved : goal.loop-number-preserved
@@ -45,7 +45,7 @@ loop-number-preserved c =
     }
 
 pub returns-clause-error : goal.returns-clause-error
-returns-clause-error c = λ input later limit so_far.
+returns-clause-error c = λ input later limit after so_far.
     let at = c.loop-number in
     let start = made_with 4096 limit in
-    encoding_many input (at.lines ++ later) c.args.rule.only_utf8 at.number (word_of c.args.null) start at.rodeo at.numbers.items (at.invariant.numbered input later start so_far) limit (omega (arith, c.loop-number-test.false))
+    encoding_many input (at.lines ++ later) c.args.rule.only_utf8 at.number (word_of c.args.null) start at.rodeo at.numbers.items (at.invariant.numbered input later start so_far) limit after (omega (arith, c.loop-number-test.false))

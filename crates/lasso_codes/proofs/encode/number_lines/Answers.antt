@@ -22,5 +22,5 @@ returns-clause-interned g c = ok_both c.encode_stream.result c.encode_stream.ens
 pub returns-clause-error : goal.returns-clause-error
 returns-clause-error g c = err_then c.encode_stream.result c.encode_stream.ensures.stops (λ error stops bytes e limit made.
     let null = word_of c.args.null in
-    let told = subst (λ w. StopsEncoding c.args.settings.only_utf8 w c.args.rodeo.now (lines_of bytes) c.args.numbers.now.items c.encode_stream.new.rodeo c.encode_stream.new.entries error) (c.text_bytes-word.ensures ∙ c.in_ok-text.ensures.text) (stops bytes e) in
-    stream_fails c.args.settings.only_utf8 null c.args.rodeo.now c.encode_stream.new.rodeo (lines_of bytes) c.args.numbers.now.items c.encode_stream.new.entries limit error c.in_ok-text.ensures.bytes c.requires.no_numbers made told)
+    let told = subst (λ w. StopsEncoding c.args.settings.only_utf8 w c.args.rodeo.now (lines_of bytes) c.args.numbers.now.items c.encode_stream.new.rodeo c.encode_stream.new.entries c.encode_stream.new.self.left error) (c.text_bytes-word.ensures ∙ c.in_ok-text.ensures.text) (stops bytes e) in
+    stream_fails c.args.settings.only_utf8 null c.args.rodeo.now c.encode_stream.new.rodeo (lines_of bytes) c.args.numbers.now.items c.encode_stream.new.entries limit c.encode_stream.new.self.left error c.in_ok-text.ensures.bytes c.requires.no_numbers made told)

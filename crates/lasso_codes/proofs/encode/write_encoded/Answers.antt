@@ -18,14 +18,14 @@ returns-in_err-rodeo-clause-report g c = λ bytes e.
     let p = err_from_is_err_and c.from_residual.result c.from_residual.ensures.1 in
     let null = word_of c.args.null in
     let error = c.in_err-rodeo.field-0.0 in
-    rw (p.1, p.2) (writes_none _ _ (none_written bytes c.args.settings.only_utf8 c.args.settings.limit null c.args.settings.binary error (unmade c.args.settings.only_utf8 c.args.settings.limit null (lines_of bytes) error c.in_err-rodeo.ensures.refused)))
+    rw (p.1, p.2) (writes_none _ _ (none_written bytes c.args.settings.only_utf8 c.args.settings.limit null c.args.settings.binary c.args.input.now.left error (unmade c.args.settings.only_utf8 c.args.settings.limit null (lines_of bytes) c.args.input.now.left error c.in_err-rodeo.ensures.refused)))
 
 pub returns-in_err-number_lines-clause-report : goal.returns-in_err-number_lines-clause-report
 returns-in_err-number_lines-clause-report g c = λ bytes e.
     let p = err_from_is_err_and c.from_residual-in_err-number_lines.result c.from_residual-in_err-number_lines.ensures.1 in
     let null = word_of c.args.null in
     let error = c.in_err-number_lines.field-0.0 in
-    rw (p.1, p.2) (writes_none _ _ (none_written bytes c.args.settings.only_utf8 c.args.settings.limit null c.args.settings.binary error (c.in_err-number_lines.ensures.error bytes e c.args.settings.limit (c.in_ok-rodeo.ensures.made ∙ ap (λ n. made_with 4096 n) c.new.ensures))))
+    rw (p.1, p.2) (writes_none _ _ (none_written bytes c.args.settings.only_utf8 c.args.settings.limit null c.args.settings.binary c.number_lines.new.input.left error (c.in_err-number_lines.ensures.error bytes e c.args.settings.limit (c.in_ok-rodeo.ensures.made ∙ ap (λ n. made_with 4096 n) c.new.ensures))))
 
 pub returns-in_err-table-clause-report : goal.returns-in_err-table-clause-report
 returns-in_err-table-clause-report g c = λ bytes e.
@@ -33,7 +33,7 @@ returns-in_err-table-clause-report g c = λ bytes e.
     let null = word_of c.args.null in
     let only = c.args.settings.only_utf8 in
     let error = c.in_err-table.field-0.0 in
-    rw (p.1, p.2) (writes_none _ _ (none_written bytes only c.args.settings.limit null c.args.settings.binary error (unmade only c.args.settings.limit null (lines_of bytes) error c.in_err-table.ensures.refused)))
+    rw (p.1, p.2) (writes_none _ _ (none_written bytes only c.args.settings.limit null c.args.settings.binary c.number_lines.new.input.left error (unmade only c.args.settings.limit null (lines_of bytes) c.number_lines.new.input.left error c.in_err-table.ensures.refused)))
 
 pub returns-clause-report : goal.returns-clause-report
 returns-clause-report g c = λ bytes e.
@@ -48,8 +48,8 @@ returns-clause-report g c = λ bytes e.
     let made = c.in_ok-rodeo.ensures.made ∙ ap (λ n. made_with 4096 n) c.new.ensures in
     let interned = subst (λ (i : InternerView). extend spur_at i (line_texts (texts_of null (lines_of bytes))) accepted c.number_lines.new.rodeo) made (c.in_ok-number_lines.ensures.interned bytes e) in
     let result = c.write_column_in_parts.result in
-    writes_as _ _ _ (λ part. EncodeEnd bytes c.args.settings.only_utf8 c.args.settings.limit null c.args.settings.binary part result) c.write_column_in_parts.ensures.written (λ part w.
-    column_written bytes c.args.settings.only_utf8 c.args.settings.limit null c.args.settings.binary c.in_ok-table.table list numbers part result numbered.0 c.in_ok-table.ensures.lines are (c.number_lines.new.rodeo, interned) many w)
+    writes_as _ _ _ (λ part. EncodeEnd bytes c.args.settings.only_utf8 c.args.settings.limit null c.args.settings.binary c.number_lines.new.input.left part result) c.write_column_in_parts.ensures.written (λ part w.
+    column_written bytes c.args.settings.only_utf8 c.args.settings.limit null c.args.settings.binary c.number_lines.new.input.left c.in_ok-table.table list numbers part result numbered.0 c.in_ok-table.ensures.lines are (c.number_lines.new.rodeo, interned) many w)
 
 pub returns-clause-reads : goal.returns-clause-reads
 returns-clause-reads g c =

@@ -1,39 +1,70 @@
-use Rattle.std.proofs.Common.{ℕ, ◌≡◌, ◌∙◌, List, Some, Err, ap, sym, subst}
+use Rattle.std.proofs.Common.{◌≡◌, ◌∙◌, Err, ap, sym, subst}
 use Rattle.lasso_columns.specs.Rows.{word_of}
-use Rattle.lasso_codes.specs.Decode.{DecodeEnd}
-use Rattle.lasso_codes.specs.Distinct.{DistinctEnd}
+use Rattle.lasso_codes.specs.Decode.{DecodeEnds}
+use Rattle.lasso_codes.specs.Distinct.{DistinctEnds}
 use Rattle.lasso_codes.specs.Errors.{FailsWriting}
-use Rattle.lasso_codes.specs.Requests.{RequestEnd}
-use Rattle.lasso_codes.specs.Streams.{Writes}
+use Rattle.lasso_codes.specs.Merge.{MergeEnds}
+use Rattle.lasso_codes.specs.Requests.{RequestEnds}
+use Rattle.lasso_codes.specs.Streams.{Reports}
+use Rattle.lasso_codes.specs.declared.arguments.Command.{Command}
 use Rattle.lasso_codes.specs.declared.arguments.Command.TheVariants.{Run}
+use Rattle.lasso_codes.specs.declared.arguments.Settings.{Settings}
+use Rattle.lasso_codes.specs.declared.arguments.Verb.{Verb}
 use Rattle.lasso_codes.proofs.program.run_request.Goals as goal
+
+-- two commands that run a verb are equal only with equal settings
+run_settings : {verb verb' : Verb} {settings settings' : Settings} → Run verb settings ≡ Run verb' settings' → settings ≡ settings'
+run_settings same = cc
 
 pub returns-in-Counts-clause-write_failed : goal.returns-in-Counts-clause-write_failed
 returns-in-Counts-clause-write_failed g c = λ failed.
     let new = c.counts.new in
     let null = word_of c.args.request.now.null in
     let asked = c.in-Run.is ∙ ap (λ verb. Run verb c.in-Run.settings) c.in-Counts.is in
-    subst (λ command. FailsWriting c.args.input.now new.input c.args.output.now new.output (λ error. (bytes : List ℕ) → c.args.input.now.left ≡ Some bytes → Writes c.args.output.now.written new.output.written (λ part. RequestEnd command null bytes new.input.left part (Err error)))) (sym asked) (c.counts.ensures.write_failed failed)
+    subst (λ command. FailsWriting c.args.input.now new.input c.args.output.now new.output (λ error. Reports c.args.input.now c.args.output.now new.output (RequestEnds command null new.input.left (Err error)))) (sym asked) (c.counts.ensures.write_failed failed)
 
 pub returns-in-Decode-clause-write_failed : goal.returns-in-Decode-clause-write_failed
 returns-in-Decode-clause-write_failed g c = λ failed.
     let new = c.decode.new in
     let null = word_of c.args.request.now.null in
     let asked = c.in-Run.is ∙ ap (λ verb. Run verb c.in-Run.settings) c.in-Decode.is in
-    let told = subst (λ limit. FailsWriting c.args.input.now new.input c.args.output.now new.output (λ error. (bytes : List ℕ) → c.args.input.now.left ≡ Some bytes → Writes c.args.output.now.written new.output.written (λ part. DecodeEnd bytes c.in-Run.settings.only_utf8 limit null part (Err error)))) c.new-limits.ensures (c.decode.ensures.write_failed failed) in
-    subst (λ command. FailsWriting c.args.input.now new.input c.args.output.now new.output (λ error. (bytes : List ℕ) → c.args.input.now.left ≡ Some bytes → Writes c.args.output.now.written new.output.written (λ part. RequestEnd command null bytes new.input.left part (Err error)))) (sym asked) told
+    let told = subst (λ limit. FailsWriting c.args.input.now new.input c.args.output.now new.output (λ error. Reports c.args.input.now c.args.output.now new.output (DecodeEnds c.in-Run.settings.only_utf8 limit null new.input.left (Err error)))) c.new-limits.ensures (c.decode.ensures.write_failed failed) in
+    subst (λ command. FailsWriting c.args.input.now new.input c.args.output.now new.output (λ error. Reports c.args.input.now c.args.output.now new.output (RequestEnds command null new.input.left (Err error)))) (sym asked) told
 
 pub returns-in-Distinct-clause-write_failed : goal.returns-in-Distinct-clause-write_failed
 returns-in-Distinct-clause-write_failed g c = λ failed.
     let new = c.distinct.new in
     let null = word_of c.args.request.now.null in
     let asked = c.in-Run.is ∙ ap (λ verb. Run verb c.in-Run.settings) c.in-Distinct.is in
-    let told = subst (λ limit. FailsWriting c.args.input.now new.input c.args.output.now new.output (λ error. (bytes : List ℕ) → c.args.input.now.left ≡ Some bytes → Writes c.args.output.now.written new.output.written (λ part. DistinctEnd bytes c.in-Run.settings.only_utf8 limit new.input.left part (Err error)))) c.new-limits.ensures (c.distinct.ensures.write_failed failed) in
-    subst (λ command. FailsWriting c.args.input.now new.input c.args.output.now new.output (λ error. (bytes : List ℕ) → c.args.input.now.left ≡ Some bytes → Writes c.args.output.now.written new.output.written (λ part. RequestEnd command null bytes new.input.left part (Err error)))) (sym asked) told
+    let told = subst (λ limit. FailsWriting c.args.input.now new.input c.args.output.now new.output (λ error. Reports c.args.input.now c.args.output.now new.output (DistinctEnds c.in-Run.settings.only_utf8 limit new.input.left (Err error)))) c.new-limits.ensures (c.distinct.ensures.write_failed failed) in
+    subst (λ command. FailsWriting c.args.input.now new.input c.args.output.now new.output (λ error. Reports c.args.input.now c.args.output.now new.output (RequestEnds command null new.input.left (Err error)))) (sym asked) told
 
 pub returns-in-Encode-clause-write_failed : goal.returns-in-Encode-clause-write_failed
 returns-in-Encode-clause-write_failed g c = λ failed.
     let new = c.encode.new in
     let null = word_of c.args.request.now.null in
     let asked = c.in-Run.is ∙ ap (λ verb. Run verb c.in-Run.settings) c.in-Encode.is in
-    subst (λ command. FailsWriting c.args.input.now new.input c.args.output.now new.output (λ error. (bytes : List ℕ) → c.args.input.now.left ≡ Some bytes → Writes c.args.output.now.written new.output.written (λ part. RequestEnd command null bytes new.input.left part (Err error)))) (sym asked) (c.encode.ensures.write_failed failed)
+    subst (λ command. FailsWriting c.args.input.now new.input c.args.output.now new.output (λ error. Reports c.args.input.now c.args.output.now new.output (RequestEnds command null new.input.left (Err error)))) (sym asked) (c.encode.ensures.write_failed failed)
+
+pub returns-in-Merge-clause-write_failed : goal.returns-in-Merge-clause-write_failed
+returns-in-Merge-clause-write_failed g c = λ failed.
+    let new = c.merge.new in
+    let null = word_of c.args.request.now.null in
+    let asked = c.in-Run.is ∙ ap (λ verb. Run verb c.in-Run.settings) c.in-Merge.is in
+    let told = subst (λ limit. FailsWriting c.args.input.now new.input c.args.output.now new.output (λ error. Reports c.args.input.now c.args.output.now new.output (MergeEnds c.in-Run.settings.only_utf8 limit c.in-Run.settings.binary new.input.left (Err error)))) c.new-limits.ensures (c.merge.ensures.write_failed failed) in
+    subst (λ command. FailsWriting c.args.input.now new.input c.args.output.now new.output (λ error. Reports c.args.input.now c.args.output.now new.output (RequestEnds command null new.input.left (Err error)))) (sym asked) told
+
+pub returns-in-Decode-clause-decode : goal.returns-in-Decode-clause-decode
+returns-in-Decode-clause-decode g c = λ settings asked.
+    let new = c.decode.new in
+    let null = word_of c.args.request.now.null in
+    let same = run_settings (sym c.in-Run.is ∙ asked) in
+    let told = subst (λ limit. Reports c.args.input.now c.args.output.now new.output (DecodeEnds c.in-Run.settings.only_utf8 limit null new.input.left c.decode.result)) c.new-limits.ensures c.decode.ensures.report in
+    subst (λ (s : Settings). Reports c.args.input.now c.args.output.now new.output (DecodeEnds s.only_utf8 s.limit null new.input.left c.decode.result)) same told
+
+pub returns-in-Merge-clause-merge : goal.returns-in-Merge-clause-merge
+returns-in-Merge-clause-merge g c = λ settings asked.
+    let new = c.merge.new in
+    let same = run_settings (sym c.in-Run.is ∙ asked) in
+    let told = subst (λ limit. Reports c.args.input.now c.args.output.now new.output (MergeEnds c.in-Run.settings.only_utf8 limit c.in-Run.settings.binary new.input.left c.merge.result)) c.new-limits.ensures c.merge.ensures.report in
+    subst (λ (s : Settings). Reports c.args.input.now c.args.output.now new.output (MergeEnds s.only_utf8 s.limit s.binary new.input.left c.merge.result)) same told

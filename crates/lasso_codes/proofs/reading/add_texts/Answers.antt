@@ -22,11 +22,11 @@ returns-in_default-clause-added c = λ bytes later so_far.
     subst (λ bs. Reading c.args.rule.only_utf8 bytes (bs ++ later) at.position at.rodeo) (sym (c.taken.ensures.left ∙ c.in_default.ensures.line.1)) (at.invariant.added bytes later so_far)
 
 pub returns-in-Err-clause-error : goal.returns-in-Err-clause-error
-returns-in-Err-clause-error c = λ bytes later limit so_far list.
+returns-in-Err-clause-error c = λ bytes later limit after so_far list.
     let at = c.loop-position in
     let line = c.in-Some.line in
     let rest = c.next_ended.new.self in
-    reading_fails c.args.rule.only_utf8 bytes (at.lines ++ later) at.position c.args.distinct at.rodeo c.loop-position-test.true (at.invariant.added bytes later so_far) limit c.args.column line (rest ++ later) c.in-Err.error
+    reading_fails c.args.rule.only_utf8 bytes (at.lines ++ later) at.position c.args.distinct at.rodeo c.loop-position-test.true (at.invariant.added bytes later so_far) limit c.args.column after line (rest ++ later) c.in-Err.error
     (at.invariant.list (made_with 4096 limit) list) (line_cut at.lines line rest later c.in-Some.ensures.line) c.in-Err.ensures
 
 pub loop-position-preserved : goal.loop-position-preserved

@@ -1,4 +1,4 @@
-use Rattle.std.proofs.Common.{◌≡◌, ◌∙◌, ◌+◌, ◌<◌, [], ◌++◌, Ok, drop, subst, arith}
+use Rattle.std.proofs.Common.{◌≡◌, ◌∙◌, ◌+◌, ◌<◌, [], ◌++◌, Ok, drop, inl, subst, arith}
 use Rattle.std.proofs.lemmas.Result.{err_from_is_err_and}
 use Rattle.lasso_single.specs.Filling.{extend}
 use Rattle.lasso_single.specs.Interner.{InternerView}
@@ -7,6 +7,7 @@ use Rattle.lasso_single.specs.Coding.{spur_at}
 use Rattle.lasso_codes.specs.Stages.{Reading}
 use Rattle.lasso_codes.specs.Reading.{AddError, AddsText, texts_from}
 use Rattle.lasso_codes.specs.declared.input.Cut.TheVariants.{Whole}
+use Rattle.lasso_codes.proofs.Cuts.{texts_cut}
 use Rattle.lasso_codes.proofs.Feeds.{cut_as, no_cut}
 use Rattle.lasso_codes.proofs.ReadTexts.{reading_push, reading_misses, reading_fails, adds_more}
 use Rattle.lasso_codes.proofs.Stretches.{left_after}
@@ -22,7 +23,25 @@ returns-in_err-next-clause-error g c =
     let hand = c.buffered-shown.ensures.first ahead.0 ahead.1 in
     let so_far = subst (λ bs. Reading c.args.rule.only_utf8 bytes bs at.count at.rodeo) hand.1 ahead.2 in
     let list = subst (λ (i : InternerView). extend spur_at i at.rodeo.texts accepted at.rodeo) made at.invariant.list in
-    c.in_err-next.ensures.error bytes hand.0 limit so_far list)
+    c.in_err-next.ensures.error bytes hand.0 limit at.input.left so_far list)
+
+pub returns-in_err-next_whole_line-clause-error : goal.returns-in_err-next_whole_line-clause-error
+returns-in_err-next_whole_line-clause-error g c =
+    let p = err_from_is_err_and c.from_residual-in_err-next_whole_line.result c.from_residual-in_err-next_whole_line.ensures.1 in
+    let at = c.loop-count in
+    let next = c.in_ok-next.next in
+    rw (p.1, p.2) (λ bytes e limit made.
+    let ahead = at.invariant.ahead bytes e in
+    let shown = c.buffered-shown.result.now in
+    let hand = c.buffered-shown.ensures.first ahead.0 ahead.1 in
+    let so_far = subst (λ bs. Reading c.args.rule.only_utf8 bytes bs at.count at.rodeo) hand.1 ahead.2 in
+    let then = c.in_ok-next.ensures.added bytes hand.0 so_far in
+    let left = drop c.in_ok-next.used shown ++ hand.0 in
+    let known = left_after _ _ _ shown hand.0 ahead.0 c.in_ok-next.used c.buffered-shown.ensures.value c.consume.ensures.left ahead.1 hand.1 in
+    let small : next < c.args.distinct = omega (arith, c.in_ok-next.ensures.more, c.if-next-distinct.false) in
+    let now = c.add_texts.new.rodeo in
+    let list = subst (λ (i : InternerView). extend spur_at i now.texts accepted now) made (c.in_ok-next.ensures.list c.args.rodeo.now at.invariant.list) in
+    inl (c.in_err-next_whole_line.ensures.errors, texts_cut c.args.rule.only_utf8 bytes left next c.args.distinct now limit c.next_whole_line.new.input.left small then list (c.in_err-next_whole_line.ensures.lost left known)))
 
 -- the last text is in the buffer
 pub returns-then-next-distinct-clause-taken : goal.returns-then-next-distinct-clause-taken
@@ -57,7 +76,7 @@ returns-in-Err-clause-error g c = λ bytes e limit made.
     let cut = cut_as _ _ c.in_ok-next_whole_line.field-0 Whole line c.in_ok-next_whole_line.ensures.taken c.in-Whole.is left known in
     let list = subst (λ (i : InternerView). extend spur_at i now.texts accepted now) made (c.in_ok-next.ensures.list c.args.rodeo.now at.invariant.list) in
     let error = subst (λ l. AddError c.args.rule.only_utf8 now l (next + 1) c.in-Err.error) (c.untested-whole.ensures ∙ c.deref.ensures.value) c.in-Err.ensures in
-    reading_fails c.args.rule.only_utf8 bytes left next c.args.distinct now small then limit c.args.column line cut.0 c.in-Err.error list cut.2 error
+    reading_fails c.args.rule.only_utf8 bytes left next c.args.distinct now small then limit c.args.column c.next_whole_line.new.input.left line cut.0 c.in-Err.error list cut.2 error
 
 pub returns-in-Part : goal.returns-in-Part
 returns-in-Part g c = record {
@@ -79,7 +98,7 @@ returns-in-Part g c = record {
       let none = no_cut _ _ c.in_ok-next_whole_line.field-0 c.next_whole_line.new.line.items c.in_ok-next_whole_line.ensures.taken c.in-Part.is left known in
       let now = c.add_texts.new.rodeo in
       let list = subst (λ (i : InternerView). extend spur_at i now.texts accepted now) made (c.in_ok-next.ensures.list c.args.rodeo.now at.invariant.list) in
-      reading_misses c.args.rule.only_utf8 bytes left next c.args.distinct now small then limit c.args.column list none.1;
+      reading_misses c.args.rule.only_utf8 bytes left next c.args.distinct now small then limit c.args.column c.next_whole_line.new.input.left list none.1;
 }
 
 pub loop-count-preserved : goal.loop-count-preserved
