@@ -14,6 +14,7 @@ mod exclusive;
 mod frozen;
 mod lent;
 mod lent_mut;
+pub mod meanings;
 mod objects;
 mod shared;
 

@@ -1,6 +1,11 @@
 //! The laws of the definitions that contracts speak of: of keys, capacities and limits, of the account that an
-//! interner for one thread keeps, and of the histories of one that threads share, with what its callers can rely on. Each is the
-//! contract of a function that does nothing.
+//! interner for one thread keeps, of the histories of one that threads share, with what its callers can rely on, and of the
+//! lists that interfaces speak of. Each is the contract of a function that does nothing.
+pub use super::interface::meanings::{
+    boxed_means_the_same, lent_means_the_same, lent_mut_means_the_same, reader_means_its_texts,
+    reader_object_has_its_texts, resolver_means_its_texts, resolver_object_has_its_texts,
+    rodeo_means_its_texts, rodeo_object_has_its_texts, threaded_means_no_list,
+};
 pub use lasso_parts::laws::{
     capacities_compare_by_both, capacities_compare_texts_first, large_spur_number,
     large_spurs_compare_by_position, limits_compare_by_bytes, micro_spur_number,

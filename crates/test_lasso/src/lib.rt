@@ -18,7 +18,6 @@ pub mod laws;
 mod looking_up;
 #[cfg(test)]
 mod making;
-pub mod meanings;
 pub mod object_laws;
 #[cfg(test)]
 mod objects;

@@ -1,8 +1,8 @@
-//! What the meaning of each interner is: a meaning of none would meet every clause of the interfaces. These
-//! functions do nothing; what they say is in their contracts.
+//! The laws of the meaning of each interner: where it is none, every clause of the interfaces holds of any body.
+//! Each is the contract of a function that does nothing.
 ghost use Rattle.std.specs.Prelude.{◌≡◌, Some, None};
 
-use lasso::{Resolver, SpurResolver};
+use super::{Resolver, SpurResolver};
 use lasso_parts::keys::{Key, Spur};
 use lasso_shared::threaded::ThreadedRodeo;
 use lasso_single::reader::RodeoReader;
