@@ -279,7 +279,12 @@ codes_with_workers() {
 # Whether the verb was refused memory at a place that the input has, and wrote no more and no less than before that.
 ends_verb() {
     local verb=$1 place number text
-    [ "$status" -eq 1 ] && [[ $(< "$OUT/error") =~ $CODES_ERROR ]] || return 1
+    [ "$status" -eq 1 ] || return 1
+    if [ "$(< "$OUT/error")" = "$ARGUMENTS_ERROR" ]; then
+        [ ! -s "$OUT/answers" ]
+        return
+    fi
+    [[ $(< "$OUT/error") =~ $CODES_ERROR ]] || return 1
     place=${BASH_REMATCH[2]:-line} number=${BASH_REMATCH[3]:-0} text=${BASH_REMATCH[5]}
     case $verb-$place in
         distinct-line)
