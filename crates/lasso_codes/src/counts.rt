@@ -19,7 +19,7 @@ use crate::lines::{TextRule, Walk, plain_text_in, taken, text_in};
 use crate::output::{end_flushed, write_bytes, write_line, write_number};
 use crate::ranking::lines_by_frequency;
 use crate::streams::{Input, Output};
-use lasso_columns::counts::{by_frequency, count_codes, count_next};
+use lasso_columns::counts::{by_frequency_in_parts, count_codes, count_next};
 use lasso_columns::{LineError, SpurRodeo};
 use lasso_input::{Line, Stretch};
 use lasso_parts::util::MemoryLimits;
@@ -70,14 +70,14 @@ fn write_counts<H: AllocGlobal + Threads + Sync, R: Read + Drop, W: Write + Drop
     count_all(rt, input, &mut rodeo, &mut counts, settings)?;
     let table = LineTable::new(rt.alloc(), &rodeo)?;
     let Some(own) = table.own() else {
-        let Ok(lines) = lines_by_frequency(rt.alloc(), &table, &counts) else {
+        let Ok(lines) = lines_by_frequency(rt, rt.alloc(), &table, &counts, settings.workers) else {
             return Err(RunError::no_memory(0));
         };
         let count = lines.len().min(settings.top);
         return write_ranked(output, &lines[..count]);
     };
     // Texts are compared faster than bytes.
-    let Ok(ranked) = by_frequency(rt.alloc(), own, &counts) else {
+    let Ok(ranked) = by_frequency_in_parts(rt, rt.alloc(), own, &counts, settings.workers) else {
         return Err(RunError::no_memory(0));
     };
     let most = ranked.len().min(settings.top);

@@ -3,8 +3,10 @@ ghost use Rattle.std.specs.Prelude.{◌≡◌, List, IfOk, IsPermutation, IsSort
 ghost use Rattle.lasso_columns.specs.Counts.{ranked_cmp, pair_of};
 
 use crate::line_table::LineTable;
+use lasso_columns::counts::sort_in_parts;
 use std::alloc::{AllocError, Global};
 use std::cmp::Reverse;
+use std::thread::Threads;
 
 /// A count and its line. Their order is that of `lines_by_frequency`.
 pub type RankedLine<'r> = (Reverse<u64>, &'r [u8]);
@@ -16,10 +18,12 @@ pub type RankedLine<'r> = (Reverse<u64>, &'r [u8]);
 ///
 /// # Errors
 /// Out of memory.
-pub fn lines_by_frequency<'r>(
+pub fn lines_by_frequency<'r, H: Threads + Sync>(
+    rt: &H,
     alloc: Global,
     table: &'r LineTable<'_>,
     counts: &[u64],
+    workers: usize,
 ) -> Result<Vec<RankedLine<'r>>, AllocError>
     requires { length counts.now ≡ length table.now }
     ensures pairs { IfOk result (λ ranked. IsPermutation (zip counts.now table.now) (map pair_of ranked.items)) }
@@ -27,7 +31,7 @@ pub fn lines_by_frequency<'r>(
     ensures order { IfOk result (λ ranked. IsSorted ranked_cmp (map pair_of ranked.items)) }
 {
     let mut ranked = paired(alloc, table, counts)?;
-    ranked.sort_unstable();
+    sort_in_parts(rt, &mut ranked, workers);
     Ok(ranked)
 }
 

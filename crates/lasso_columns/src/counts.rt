@@ -18,4 +18,4 @@ pub use codes::count_codes;
 pub use counting::{count_next, count_text, count_texts};
 pub use error::CountError;
 pub use parts::count_in_parts;
-pub use ranking::{Ranked, by_frequency};
+pub use ranking::{Ranked, by_frequency, by_frequency_in_parts, sort_in_parts};

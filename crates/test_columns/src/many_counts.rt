@@ -1,20 +1,20 @@
 //! Thousands of distinct texts: no call runs out of memory on the way, and a refusal names its text.
 use lasso::{Capacity, LassoErrorKind, MemoryLimits, Rodeo, SpurRodeo};
-use lasso_columns::counts::{Ranked, by_frequency, count_in_parts};
+use lasso_columns::counts::{Ranked, by_frequency_in_parts, count_in_parts};
 use std::alloc::Global;
 use std::process::Abort;
 use std::test::Fail;
 use std::thread::Threads;
 
-const DISTINCT: usize = 3000;
+const DISTINCT: usize = 9000;
 
 // Each text has this number of bytes.
 const BYTES: usize = 23;
 
-// 3,000 distinct texts.
+// 9,000 distinct texts, enough for threads to share a sort of them.
 fn names(alloc: Global) -> Result<Vec<String>, Fail> {
     let mut names = Vec::new(alloc);
-    for number in 1000..4000u32 {
+    for number in 1000..10000u32 {
         names.push(format!(in alloc; "{number} is a text of bytes")?)?;
     }
     Ok(names)
@@ -56,7 +56,7 @@ fn are_counted<R: AllocGlobal + Threads + Sync>(
     if let Err(refused) = count_in_parts(rt, &mut rodeo, texts, &mut counts, workers) {
         return Err(Fail::from(refused.error));
     }
-    let ranked = by_frequency(rt.alloc(), &rodeo, &counts)?;
+    let ranked = by_frequency_in_parts(rt, rt.alloc(), &rodeo, &counts, workers)?;
     Ok(are_twice(&counts, &ranked))
 }
 
@@ -79,7 +79,7 @@ fn names_the_refused<R: AllocGlobal + Threads + Sync>(
     }
 }
 
-static WORKERS: [usize; 3] = [0, 1, 3];
+static WORKERS: [usize; 4] = [0, 1, 3, 64];
 
 fn is_so(rt: &impl Abort, holds: bool, workers: usize) {
     assert!(rt; holds, "{workers} workers");

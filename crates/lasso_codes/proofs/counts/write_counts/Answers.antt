@@ -42,17 +42,17 @@ returns-in_err-table-clause-report g c = λ bytes e.
 pub returns-clause-report : goal.returns-clause-report
 returns-clause-report g c = λ bytes e.
     let counted = c.in_ok-count_all.ensures.counted bytes e in
-    let items = c.in-Ok-by_frequency.ranked.items in
+    let items = c.in-Ok-by_frequency_in_parts.ranked.items in
     let counts_are = subst (λ cs. AreCounts (line_texts (lines_of bytes)) c.count_all.new.rodeo.texts cs) (sym c.deref-2.ensures.value) counted.1 in
-    let order = counted_order (lines_of bytes) c.in-Some.own.now.texts c.count_all.new.rodeo.texts c.deref-2.result.now (map pair_of items) (lines_are_bytes c.args.settings.only_utf8 (lines_of bytes) counted.0) (c.in-Some.ensures ∙ c.in_ok-table.ensures.lines) counts_are c.in-Ok-by_frequency.ensures.pairs in
-    let total = c.in-Ok-by_frequency.ensures.total ∙ ap sum c.deref-2.ensures.value ∙ counted.1.total ∙ length-map (lines_of bytes) text_of in
-    let most_is : c.min-most.result ≡ min (length items) c.args.settings.top = grind (arith, common_steps, c.min-most.ensures, c.len-2.ensures, c.in-Ok-by_frequency.ranked.ok.0) in
+    let order = counted_order (lines_of bytes) c.in-Some.own.now.texts c.count_all.new.rodeo.texts c.deref-2.result.now (map pair_of items) (lines_are_bytes c.args.settings.only_utf8 (lines_of bytes) counted.0) (c.in-Some.ensures ∙ c.in_ok-table.ensures.lines) counts_are c.in-Ok-by_frequency_in_parts.ensures.pairs in
+    let total = c.in-Ok-by_frequency_in_parts.ensures.total ∙ ap sum c.deref-2.ensures.value ∙ counted.1.total ∙ length-map (lines_of bytes) text_of in
+    let most_is : c.min-most.result ≡ min (length items) c.args.settings.top = grind (arith, common_steps, c.min-most.ensures, c.len-2.ensures, c.in-Ok-by_frequency_in_parts.ranked.ok.0) in
     let slice_is = first_ranked pair_of items c.deref-3.result.now c.args.settings.top c.min-most.result most_is c.deref-3.ensures.value in
     let made = c.in_ok-rodeo.ensures.made ∙ ap (λ n. made_with 4096 n) c.new.ensures in
     let list = subst (λ (i : InternerView). extend spur_at i (line_texts (lines_of bytes)) accepted c.count_all.new.rodeo) made (c.in_ok-count_all.ensures.interned bytes e) in
     let result = c.write_ranked-2.result in
     writes_as _ _ (WritesAll (flat_map count_line (map pair_of (take c.min-most.result c.deref-3.result.now))) result) (λ part. CountsEnd bytes c.args.settings.only_utf8 c.args.settings.limit c.args.settings.top c.count_all.new.input.left part result) c.write_ranked-2.ensures.written (λ part w.
-    report_written bytes c.args.settings.only_utf8 c.args.settings.limit c.args.settings.top c.count_all.new.input.left (map pair_of items) part result (counted.0, (c.count_all.new.rodeo, list)) order c.in-Ok-by_frequency.ensures.order total (subst (λ ps. WritesAll (flat_map count_line ps) result part) slice_is w))
+    report_written bytes c.args.settings.only_utf8 c.args.settings.limit c.args.settings.top c.count_all.new.input.left (map pair_of items) part result (counted.0, (c.count_all.new.rodeo, list)) order c.in-Ok-by_frequency_in_parts.ensures.order total (subst (λ ps. WritesAll (flat_map count_line ps) result part) slice_is w))
 
 pub returns-in_default-clause-report : goal.returns-in_default-clause-report
 returns-in_default-clause-report g c = λ bytes e.
@@ -75,11 +75,11 @@ returns-in_default-lines_by_frequency-clause-report g c = λ bytes e.
     let error = c.no_memory.result in
     writes_none _ _ (none_written bytes only c.args.settings.limit c.args.settings.top c.count_all.new.input.left error (unmade only c.args.settings.limit (lines_of bytes) c.count_all.new.input.left error c.no_memory.ensures))
 
-pub returns-in_default-by_frequency-clause-report : goal.returns-in_default-by_frequency-clause-report
-returns-in_default-by_frequency-clause-report g c = λ bytes e.
+pub returns-in_default-by_frequency_in_parts-clause-report : goal.returns-in_default-by_frequency_in_parts-clause-report
+returns-in_default-by_frequency_in_parts-clause-report g c = λ bytes e.
     let only = c.args.settings.only_utf8 in
-    let error = c.no_memory-in_default-by_frequency.result in
-    writes_none _ _ (none_written bytes only c.args.settings.limit c.args.settings.top c.count_all.new.input.left error (unmade only c.args.settings.limit (lines_of bytes) c.count_all.new.input.left error c.no_memory-in_default-by_frequency.ensures))
+    let error = c.no_memory-in_default-by_frequency_in_parts.result in
+    writes_none _ _ (none_written bytes only c.args.settings.limit c.args.settings.top c.count_all.new.input.left error (unmade only c.args.settings.limit (lines_of bytes) c.count_all.new.input.left error c.no_memory-in_default-by_frequency_in_parts.ensures))
 
 pub returns-clause-reads : goal.returns-clause-reads
 returns-clause-reads g c =
