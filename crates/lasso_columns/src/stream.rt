@@ -35,7 +35,12 @@ pub struct Rounds {
 
 impl Rounds {
     /// Blocks of 64 KiB to 2 MiB or up to 64 KiB more, for this number of workers.
-    pub fn new(workers: usize) -> Self {
+    pub fn new(workers: usize) -> Self
+        ensures workers { result.workers ≡ workers }
+        ensures alone { result.alone ≡ 262144 }
+        ensures smallest { result.smallest ≡ 65536 }
+        ensures largest { result.largest ≡ 2097152 }
+    {
         Rounds {
             workers,
             alone: 262_144,
