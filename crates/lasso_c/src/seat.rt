@@ -6,8 +6,9 @@ ghost use Rattle.std.specs.Prelude.{◌≡◌, Option, None, Some};
 ghost use Rattle.std.specs.Borrow.{sem};
 ghost use Rattle.std.specs.Box.Ownership.{box_owns};
 ghost use Rattle.lasso_c.specs.Held.{freed_by_heap, held, interner_coded};
-ghost use Rattle.lasso_c.specs.declared.seeded.Interner.{Interner};
+ghost use Rattle.lasso_c.specs.Seeded.{Interner};
 
+use crate::seed::Seed;
 use crate::seeded::Interner;
 use std::alloc::Global;
 use std::marker::Model;
@@ -60,7 +61,7 @@ impl Seat {
     }
 
     // The seat of the interner in the block.
-    pub(crate) fn of_block(alloc: Global, block: Block<Interner>) -> Seat
+    pub(crate) fn of_block(alloc: Global, block: Block<Interner<Seed>>) -> Seat
         ensures { result.value ≡ Some block.value }
     {
         let Block { at } = block;
@@ -71,22 +72,22 @@ impl Seat {
     }
 
     // The interner, in a box.
-    pub(crate) fn into_box(self) -> Box<Interner>
+    pub(crate) fn into_box(self) -> Box<Interner<Seed>>
         requires { ¬ (self.value ≡ None) }
         ensures { self.value ≡ Some result.value }
     {
         let Seat { at, alloc } = self;
-        unsafe { Box::from_raw(alloc, at as *mut Interner) }
+        unsafe { Box::from_raw(alloc, at as *mut Interner<Seed>) }
     }
 
     // The interner, lent.
     #[inline(always)]
-    pub(crate) fn get_mut(&mut self) -> &mut Interner
+    pub(crate) fn get_mut(&mut self) -> &mut Interner<Seed>
         requires { ¬ (self.old.value ≡ None) }
         ensures* writes_back { sem 𝓛 (LendsInterner self.entry result) }
         ensures value { self.old.value ≡ Some result.now }
     {
-        unsafe { &mut *(self.at as *mut Interner) }
+        unsafe { &mut *(self.at as *mut Interner<Seed>) }
     }
 
     // Lets go of a seat that holds none.
