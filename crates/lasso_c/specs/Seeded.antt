@@ -1,4 +1,4 @@
--- The interner that a handle holds: one whose hashers begin with a `Seed`.
+-- The interner that a handle holds.
 use Rattle.std.specs.Borrow.{RattleType}
 use Rattle.lasso_c.specs.declared.seed.Seed.{Seed}
 use Rattle.lasso_c.specs.declared.seeded.Interner as seeded
@@ -8,6 +8,7 @@ use Rattle.lasso_c.specs.contracts.seed.SeedBuildHasher.TheImpl as builds
 use Rattle.lasso_c.specs.contracts.seed.SeededHasherHasher.TheImpl as hashes
 use Rattle.lasso_c.specs.contracts.seeded.Interner as interner
 
+-- an interner whose hashers begin with a `Seed`
 abbrev pub Interner : Type 0
 Interner = seeded.Interner Seed
 
