@@ -1,4 +1,5 @@
 //! What C holds: an interner or none.
+ghost use denote.RawPtr.{null_ptr};
 ghost use Rattle.std.specs.Prelude.{◌≡◌, None, Some, is_some, option_map};
 ghost use Rattle.std.specs.Borrow.{sem};
 
@@ -18,9 +19,10 @@ pub struct Lasso {
 impl Lasso {
     ghost use Rattle.lasso_c.specs.Lending.{LendsHeld};
 
-    // No interner.
+    // No interner: all zero.
     pub(crate) fn none(alloc: Global) -> Lasso
-        ensures { result.seat.value ≡ None }
+        ensures none { result.seat.value ≡ None }
+        ensures null { result.seat.at ≡ null_ptr }
     {
         Lasso {
             seat: Seat::none(alloc),

@@ -2,6 +2,7 @@
 //
 // An export can take no box, so a box is taken apart here: `Block` is its memory, and `Seat` the same beside what gives it back.
 // Both own what is at their pointers by their types' models, so no caller says anything of memory.
+ghost use denote.RawPtr.{null_ptr};
 ghost use Rattle.std.specs.Prelude.{◌≡◌, Option, None, Some};
 ghost use Rattle.std.specs.Borrow.{sem};
 ghost use Rattle.std.specs.Box.Ownership.{box_owns};
@@ -50,9 +51,9 @@ impl Model for Seat {
 impl Seat {
     ghost use Rattle.lasso_c.specs.Lending.{LendsInterner};
 
-    // No interner.
+    // No interner, at the null pointer.
     pub(crate) fn none(alloc: Global) -> Seat
-        ensures { result.value ≡ None }
+        ensures { (result.value ≡ None) × (result.at ≡ null_ptr) }
     {
         Seat {
             at: std::ptr::null_mut(),
