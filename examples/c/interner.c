@@ -35,6 +35,7 @@ static int check_calls(void)
     CHECK(lasso_len(&lasso) == 0 && lasso_memory(&lasso) == 0 && lasso_limit(&lasso) == 0);
     CHECK(lasso_clear(&lasso) == LASSO_NO_INTERNER && lasso_set_limit(&lasso, 9) == LASSO_NO_INTERNER);
     lasso_free(&lasso);
+    CHECK(lasso.at == NULL && !lasso.live);
 
     CHECK(lasso_new(&lasso, LASSO_NO_LIMIT) == LASSO_DONE);
     CHECK(lasso_len(&lasso) == 0 && lasso_memory(&lasso) == 4096 && lasso_limit(&lasso) == LASSO_NO_LIMIT);
@@ -58,6 +59,7 @@ static int check_calls(void)
     /* A new interner lets the old one go. */
     CHECK(lasso_new(&moved, 5000) == LASSO_DONE && lasso_len(&moved) == 0 && lasso_limit(&moved) == 5000);
     lasso_free(&moved);
+    CHECK(moved.at == NULL && !moved.live);
     lasso_free(&moved);
     CHECK(lasso_len(&moved) == 0);
     return 0;

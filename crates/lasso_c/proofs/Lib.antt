@@ -13,3 +13,4 @@ pub mod Loading
 pub mod NullsBack
 pub mod Ascii
 pub mod Seeds
+pub mod SeededLaws

@@ -28,8 +28,8 @@ use Rattle.std_heap.proofs.Global.TheLaws as heap
 use Rattle.std_heap.specs.contracts.Global as Heap
 use Rattle.lasso_c.specs.Held.{freed_by_heap, held}
 use Rattle.lasso_c.specs.contracts.seat.Block as Block
-use Rattle.lasso_c.specs.contracts.seeded.Interner as Interner
-use Rattle.lasso_c.proofs.seeded.Interner.TheLaws as interner
+use Rattle.lasso_c.specs.Seeded as Interner
+use Rattle.lasso_c.proofs.SeededLaws as interner
 use Rattle.lasso_c.specs.contracts.seat.Seat as Seat
 
 -- a type as a generic call is passed it: by its layout without names

@@ -13,7 +13,7 @@ use Rattle.lasso_c.specs.declared.error.Sizes.{Sizes}
 use Rattle.lasso_c.specs.declared.error.CallError.{CallError}
 use Rattle.lasso_c.specs.declared.error.CallError.TheVariants.{CodesTooShort, TooManyBytes, NoInterner, NoSuchCode, NoSuchText, NotUtf8}
 use Rattle.lasso_c.specs.declared.seed.Seed.{Seed}
-use Rattle.lasso_c.specs.declared.seeded.Interner.{Interner}
+use Rattle.lasso_c.specs.Seeded.{Interner}
 
 -- the texts of the interner, or none if there is no interner
 abbrev pub texts_in : Option Interner → List Text

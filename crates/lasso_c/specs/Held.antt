@@ -6,7 +6,7 @@ use Rattle.std.specs.Coded.{Coded, coded_option}
 use Rattle.std.specs.Prelude.{Option, None, Some}
 use Rattle.std.specs.Box.Ownership.{box_owns}
 use Rattle.std_heap.specs.contracts.GlobalAllocator.TheImpl.{ghosts}
-use Rattle.lasso_c.specs.contracts.seeded.Interner.{the_row}
+use Rattle.lasso_c.specs.Seeded.{the_row}
 
 -- The right to give back a block of the heap. The heap has one handle, which has no bytes.
 abbrev pub freed_by_heap : Ty → Ptr → Fml

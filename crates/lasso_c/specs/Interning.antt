@@ -16,7 +16,7 @@ use Rattle.lasso_c.specs.Status.{Reports, outcome_status, outcome_report}
 use Rattle.lasso_c.specs.declared.error.LassoReport.{LassoReport}
 use Rattle.lasso_c.specs.declared.error.CallError.{CallError}
 use Rattle.lasso_c.specs.declared.error.CallError.TheVariants.{CodesTooShort, BitmapTooShort, LimitReached, NoCodeLeft, NoMemory, NoInterner}
-use Rattle.lasso_c.specs.declared.seeded.Interner.{Interner}
+use Rattle.lasso_c.specs.Seeded.{Interner}
 use Rattle.lasso_c.specs.declared.status.TheConstants.{NO_INTERNER, NOT_UTF8}
 
 -- the key of a code, which is one more

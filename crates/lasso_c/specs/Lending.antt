@@ -6,7 +6,7 @@ use Rattle.lasso_c.specs.declared.seat.Seat.{Seat}
 use Rattle.lasso_c.specs.declared.handle.Lasso.{Lasso}
 use Rattle.lasso_c.specs.contracts.seat.Seat as seat
 use Rattle.lasso_c.specs.contracts.handle.Lasso as handle
-use Rattle.lasso_c.specs.contracts.seeded.Interner.{the_row}
+use Rattle.lasso_c.specs.Seeded.{the_row}
 
 -- a seat that holds this interner
 abbrev pub with_interner : Seat → the_row.Denot → Seat

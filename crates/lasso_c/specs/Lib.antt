@@ -9,4 +9,5 @@ pub mod Held
 pub mod Laws
 pub mod Lending
 pub mod Seeds
+pub mod Seeded
 pub mod Ascii

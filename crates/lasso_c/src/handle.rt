@@ -1,8 +1,10 @@
 //! What C holds: an interner or none.
+ghost use denote.RawPtr.{null_ptr};
 ghost use Rattle.std.specs.Prelude.{◌≡◌, None, Some, is_some, option_map};
 ghost use Rattle.std.specs.Borrow.{sem};
 
 use crate::seat::{Block, Seat};
+use crate::seed::Seed;
 use crate::seeded::Interner;
 use std::alloc::Global;
 
@@ -17,9 +19,10 @@ pub struct Lasso {
 impl Lasso {
     ghost use Rattle.lasso_c.specs.Lending.{LendsHeld};
 
-    // No interner.
+    // No interner: all zero.
     pub(crate) fn none(alloc: Global) -> Lasso
-        ensures { result.seat.value ≡ None }
+        ensures none { result.seat.value ≡ None }
+        ensures null { result.seat.at ≡ null_ptr }
     {
         Lasso {
             seat: Seat::none(alloc),
@@ -28,7 +31,7 @@ impl Lasso {
     }
 
     // The interner, if there is one.
-    fn into_box(self) -> Option<Box<Interner>>
+    fn into_box(self) -> Option<Box<Interner<Seed>>>
         ensures { option_map (λ b. b.value) result ≡ self.seat.value }
     {
         let Lasso { seat, live } = self;
@@ -41,7 +44,7 @@ impl Lasso {
 
     // The interner, lent, if there is one.
     #[inline(always)]
-    pub(crate) fn interner(&mut self) -> Option<&mut Interner>
+    pub(crate) fn interner(&mut self) -> Option<&mut Interner<Seed>>
         ensures* writes_back { sem 𝓛 (LendsHeld self.entry result) }
         ensures value { option_map (λ i. i.now) result ≡ self.old.seat.value }
     {
@@ -52,7 +55,7 @@ impl Lasso {
     }
 
     // Holds this interner, and lets go of one that was held.
-    pub(crate) fn put(&mut self, alloc: Global, interner: Box<Interner>)
+    pub(crate) fn put(&mut self, alloc: Global, interner: Box<Interner<Seed>>)
         ensures { self.new.seat.value ≡ Some interner.value }
     {
         *self = Lasso {

@@ -1,6 +1,7 @@
 //! Interners that C holds from call to call. `include/lasso.h` says the same of each call in C's words.
 //!
 //! A call borrows the interner from its handle for as long as it works on it.
+ghost use denote.RawPtr.{null_ptr};
 ghost use Rattle.std.specs.Prelude.{◌≡◌, ◌≤◌, [], None, Some, length, slice_get, drop, IfSome, IsSome};
 ghost use Rattle.std.specs.Str.{is_utf8};
 ghost use Rattle.lasso_parts.specs.Account.{clear, fresh, with_limit};
@@ -297,10 +298,11 @@ pub extern "C" fn lasso_clear(lasso: &mut Lasso) -> u32
     DONE
 }
 
-/// Lets the interner go, if there is one. The handle holds none then.
+/// Lets the interner go, if there is one. The handle holds none then, and is all zero.
 #[unsafe(no_mangle)]
 pub extern "C" fn lasso_free(alloc: Global, lasso: &mut Lasso)
-    ensures { lasso.new.seat.value ≡ None }
+    ensures none { lasso.new.seat.value ≡ None }
+    ensures null { lasso.new.seat.at ≡ null_ptr }
 {
     *lasso = Lasso::none(alloc);
 }

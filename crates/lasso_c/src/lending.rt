@@ -7,6 +7,7 @@ ghost use Rattle.lasso_c.specs.Status.{outcome_status};
 
 use crate::encoding::{Dictionary, text_at_code};
 use crate::handle::Lasso;
+use crate::seed::Seed;
 use crate::seeded::Interner;
 use crate::status::{DONE, NO_INTERNER, NO_SUCH_CODE};
 
@@ -22,7 +23,7 @@ pub struct LassoText<'a> {
 struct Lent<'a> {
     status: u32,
     count: usize,
-    from: Option<&'a Interner>,
+    from: Option<&'a Interner<Seed>>,
 }
 
 /// Lends the text of a code, for as long as the handle is not used again. It returns `NO_INTERNER` without an interner,

@@ -71,11 +71,11 @@ fn push(column: &mut Column, text: &[u8]) -> Result<(), Fail> {
     Ok(())
 }
 
-// The numbers below the count, as texts.
-fn numbers_below(alloc: Global, count: usize) -> Result<Column, Fail> {
+// The numbers below the count, each after the letters, as texts.
+fn numbers_below(alloc: Global, letters: &str, count: usize) -> Result<Column, Fail> {
     let mut column = no_row(alloc)?;
     for number in 0..count {
-        let text = number.to_string(alloc)?;
+        let text = format!(in alloc; "{letters}{number}")?;
         push(&mut column, text.as_bytes())?;
     }
     Ok(column)
@@ -216,7 +216,7 @@ fn each_call_takes<R: Abort + AllocGlobal>(rt: &R, column: &Column) -> Result<()
 
 #[test]
 fn each_call_takes_many_rows(rt: HostRuntime) -> Result<(), Fail> {
-    let column = numbers_below(rt.alloc(), 20_000)?;
+    let column = numbers_below(rt.alloc(), "", 20_000)?;
     each_call_takes(&rt, &column)
 }
 
@@ -235,18 +235,48 @@ fn interns_one(lasso: &mut Lasso, text: &[u8], code: u32) -> Seen {
     (status, (status, interned) == (0, code) && is_found)
 }
 
+// Interns numbers after the letters one by one, into a new interner.
+fn interns_each<R: Abort + AllocGlobal>(
+    rt: &R,
+    lasso: &mut Lasso,
+    letters: &str,
+    count: u32,
+) -> Result<(), Fail> {
+    walk_on(rt, lasso, &[Step::Makes(usize::MAX)])?;
+    for code in 0..count {
+        let text = format!(in rt.alloc(); "{letters}{code}")?;
+        is_as_told(rt, interns_one(lasso, text.as_bytes(), code), 1)?;
+    }
+    Ok(())
+}
+
 #[test]
 fn many_texts_are_interned_one_by_one(rt: HostRuntime) -> Result<(), Fail> {
     let mut lasso = Lasso::none(rt.alloc());
-    walk_on(&rt, &mut lasso, &[Step::Makes(usize::MAX)])?;
-    for code in 0..30_000u32 {
-        let text = code.to_string(rt.alloc())?;
-        is_as_told(&rt, interns_one(&mut lasso, text.as_bytes(), code), 1)?;
-    }
+    interns_each(&rt, &mut lasso, "", 30_000)?;
     for length in &LENGTHS {
         let text = vec![in rt.alloc(); b'a'; *length]?;
         let code = number(lasso_len(&mut lasso))?;
         is_as_told(&rt, interns_one(&mut lasso, &text, code), *length)?;
+    }
+    Ok(())
+}
+
+// Characters of two, three and four bytes, and more bytes than an entry of the list has.
+static LETTERS: [&str; 4] = [
+    "\u{e9}",
+    "\u{6f22}\u{5b57}",
+    "\u{1f40e}",
+    "gr\u{fc}n, gr\u{fc}ner, am gr\u{fc}nsten",
+];
+
+#[test]
+fn each_call_takes_texts_that_are_not_ascii(rt: HostRuntime) -> Result<(), Fail> {
+    let mut lasso = Lasso::none(rt.alloc());
+    for letters in &LETTERS {
+        interns_each(&rt, &mut lasso, letters, 300)?;
+        let column = numbers_below(rt.alloc(), letters, 300)?;
+        each_call_takes(&rt, &column)?;
     }
     Ok(())
 }

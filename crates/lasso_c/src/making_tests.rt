@@ -1,6 +1,6 @@
 //! Interners of given capacity, with keys, and cloned, on inputs that were worked by hand.
 use crate::handle::Lasso;
-use crate::interner::{lasso_capacity, lasso_intern, lasso_len, lasso_memory};
+use crate::interner::{lasso_capacity, lasso_intern, lasso_len, lasso_memory, lasso_set_limit};
 use crate::making::{lasso_new_keyed, lasso_new_sized, lasso_new_sized_keyed};
 use crate::tests::checks::{Seen, is_as_told, is_so_at};
 use crate::tests::steps::{Layout, Step, clones, walk, walk_on};
@@ -187,6 +187,35 @@ fn keeps_its_interner_where_there_is_no_memory_for_another(rt: HostRuntime) -> R
     walk(&rt, &TOO_LARGE)
 }
 
+// Each maker over an interner with texts, of either kind of hasher. The new interner has none of them.
+static OVER_TEXTS: [Step; 20] = [
+    Step::Makes(usize::MAX),
+    Step::Interns(LONG, (0, 0)),
+    Step::MakesKeyed(5000),
+    Step::Takes(4096, 5000),
+    Step::Finds(LONG, (13, 77)),
+    Step::Interns(LONG, (0, 0)),
+    Step::MakesSizedKeyed(9, 70, 6000),
+    Step::Takes(70, 6000),
+    Step::Finds(LONG, (13, 77)),
+    Step::Interns(b"red", (0, 0)),
+    Step::Interns(LONG, (0, 1)),
+    Step::MakesSized(9, 80, 7000),
+    Step::Takes(80, 7000),
+    Step::Finds(b"red", (13, 77)),
+    Step::Interns(b"blue", (0, 0)),
+    Step::MakesSizedKeyed(9, 90, 8000),
+    Step::Finds(b"blue", (13, 77)),
+    Step::Interns(b"blue", (0, 0)),
+    Step::Makes(9000),
+    Step::Counts(0),
+];
+
+#[test]
+fn makes_an_interner_over_one_with_texts(rt: HostRuntime) -> Result<(), Fail> {
+    walk(&rt, &OVER_TEXTS)
+}
+
 // Limits up to the greatest number: none of them keeps an interner from being made.
 static LIMITS: [usize; 13] = [
     0,
@@ -203,6 +232,34 @@ static LIMITS: [usize; 13] = [
     usize::MAX - 1,
     usize::MAX,
 ];
+
+// Whether this number of texts fits under each limit, used up or not.
+fn fits_under_each_limit(lasso: &mut Lasso, count: usize) -> bool {
+    for limit in &LIMITS {
+        if lasso_set_limit(lasso, *limit) != 0 || lasso_capacity(lasso) != count {
+            return false;
+        }
+    }
+    true
+}
+
+static THREE_TEXTS: [Step; 3] = [
+    Step::Interns(b"red", (0, 0)),
+    Step::Interns(b"", (0, 1)),
+    Step::Interns(LONG, (0, 2)),
+];
+
+// A limit on bytes says nothing of how many texts fit.
+#[test]
+fn tells_how_many_texts_fit_under_any_limit(rt: HostRuntime) -> Result<(), Fail> {
+    let mut lasso = Lasso::none(rt.alloc());
+    walk_on(&rt, &mut lasso, &OF_THE_USUAL_SIZE)?;
+    let count = lasso_capacity(&mut lasso);
+    is_so_at(&rt, fits_under_each_limit(&mut lasso, count), 1);
+    walk_on(&rt, &mut lasso, &THREE_TEXTS)?;
+    is_so_at(&rt, fits_under_each_limit(&mut lasso, count), 2);
+    Ok(())
+}
 
 // Makes interners of this limit by each maker.
 fn makes_by_each_maker<R: Abort + AllocGlobal>(rt: &R, limit: usize) -> Result<(), Fail> {
@@ -328,4 +385,81 @@ fn clones_an_interner_without_texts_and_none(rt: HostRuntime) -> Result<(), Fail
     let mut none = Lasso::none(rt.alloc());
     is_as_told(&rt, clones(rt.alloc(), &mut none, &mut clone, 12), 2)?;
     walk_on(&rt, &mut clone, &KEPT)
+}
+
+// Each maker, with the same limit.
+static MAKERS: [Step; 4] = [
+    Step::Makes(5000),
+    Step::MakesSized(9, 70, 5000),
+    Step::MakesKeyed(5000),
+    Step::MakesSizedKeyed(9, 70, 5000),
+];
+
+static STILL_THERE: [Step; 3] = [
+    Step::LendsAll(0, 4, &[b"red", b"", LONG]),
+    Step::Finds(b"blue", (13, 77)),
+    Step::Interns(b"green", (0, 3)),
+];
+
+// Makes an interner by the maker, and clones it once it has three texts.
+fn clones_one_of<R: Abort + AllocGlobal>(
+    rt: &R,
+    maker: Step,
+    clone: &mut Lasso,
+) -> Result<(), Fail> {
+    let mut lasso = Lasso::none(rt.alloc());
+    walk_on(rt, &mut lasso, &[maker])?;
+    walk_on(rt, &mut lasso, &THREE_TEXTS)?;
+    is_as_told(rt, clones(rt.alloc(), &mut lasso, clone, 0), 1)?;
+    walk_on(rt, clone, &CLONED)?;
+    walk_on(rt, &mut lasso, &STILL_THERE)
+}
+
+#[test]
+fn clones_an_interner_of_each_maker(rt: HostRuntime) -> Result<(), Fail> {
+    let mut clone = Lasso::none(rt.alloc());
+    for maker in &MAKERS {
+        clones_one_of(&rt, *maker, &mut clone)?;
+    }
+    Ok(())
+}
+
+// A handle with texts holds the clone, and none of its texts, whatever either hashes with.
+#[test]
+fn clones_an_interner_over_one_with_texts(rt: HostRuntime) -> Result<(), Fail> {
+    let mut clone = Lasso::none(rt.alloc());
+    for maker in &MAKERS {
+        for other in &MAKERS {
+            walk_on(&rt, &mut clone, &[*other])?;
+            walk_on(&rt, &mut clone, &OTHER_TEXTS)?;
+            clones_one_of(&rt, *maker, &mut clone)?;
+        }
+    }
+    Ok(())
+}
+
+static OTHER_TEXTS: [Step; 2] = [
+    Step::Interns(b"blue", (0, 0)),
+    Step::Interns(b"another of as many bytes as that one", (0, 1)),
+];
+
+// The buckets take more than the limit.
+static LOWERED: [Step; 2] = [Step::Limits(10, 0), Step::Takes(4096, 10)];
+
+// The limit is the size of the one bucket, which is full.
+static CLONED_LOWERED: [Step; 4] = [
+    Step::LendsAll(0, 4, &[b"red", b"", LONG]),
+    Step::Takes(37, 37),
+    Step::Finds(LONG, (0, 2)),
+    Step::Interns(b"another of as many bytes as that one", (10, 77)),
+];
+
+#[test]
+fn clones_an_interner_over_its_limit(rt: HostRuntime) -> Result<(), Fail> {
+    let (mut lasso, mut clone) = (Lasso::none(rt.alloc()), Lasso::none(rt.alloc()));
+    walk_on(&rt, &mut lasso, &TO_CLONE)?;
+    walk_on(&rt, &mut lasso, &LOWERED)?;
+    is_as_told(&rt, clones(rt.alloc(), &mut lasso, &mut clone, 0), 1)?;
+    walk_on(&rt, &mut clone, &CLONED_LOWERED)?;
+    walk_on(&rt, &mut lasso, &STILL_THERE)
 }

@@ -155,6 +155,111 @@ fn encodes_no_text_for_a_null(rt: HostRuntime) -> Result<(), Fail> {
     encode_all(&rt, &NO_TEXT_FOR_A_NULL)
 }
 
+// The column from its second row on, as Arrow cuts one: "blue", a null, "" and "red". The bitmap begins at its first row.
+const SLICE: Encoding = Encoding {
+    offsets: &[3, 7, 8, 8, 11],
+    present: Some(&[0b1101]),
+    want: (0, (3, 7, 0)),
+    codes: &[0, 7, 1, 2],
+    texts: b"bluered",
+    ends: &[0, 4, 4, 7],
+    ..COLUMN
+};
+
+static SLICES: [Encoding; 3] = [
+    SLICE,
+    Encoding {
+        offsets: &[7, 8],
+        present: Some(&[0]),
+        want: (0, (0, 0, 0)),
+        codes: &[7],
+        texts: b"",
+        ends: &[0],
+        ..COLUMN
+    },
+    Encoding {
+        offsets: &[8, 11, 11],
+        present: Some(&[0b11]),
+        want: (0, (2, 3, 0)),
+        codes: &[0, 1],
+        texts: b"red",
+        ends: &[0, 3, 3],
+        ..COLUMN
+    },
+];
+
+#[test]
+fn encodes_a_slice_with_nulls(rt: HostRuntime) -> Result<(), Fail> {
+    encode_all(&rt, &SLICES)
+}
+
+// Bitmaps of more bytes than the rows need, and bits after the rows, of which none is read.
+static LONG_BITMAPS: [Encoding; 3] = [
+    Encoding {
+        present: Some(&[0b11111101, 0xff]),
+        ..SLICE
+    },
+    Encoding {
+        present: Some(&[0b1101, 0, 0, 0, 0, 0, 0, 0, 0]),
+        ..SLICE
+    },
+    Encoding {
+        want: (0, (3, 7, 0)),
+        present: Some(&[0b11011, 0xff, 0]),
+        codes: &[0, 1, 7, 2, 0],
+        texts: b"redblue",
+        ends: &[0, 3, 7, 7],
+        ..COLUMN
+    },
+];
+
+#[test]
+fn reads_no_bit_after_the_rows(rt: HostRuntime) -> Result<(), Fail> {
+    encode_all(&rt, &LONG_BITMAPS)
+}
+
+// Eight letters, of which the last has the code 7, as a null has.
+static CODE_OF_A_TEXT: [Encoding; 1] = [Encoding {
+    bytes: b"abcdefgh",
+    offsets: &[0, 1, 2, 3, 4, 5, 6, 7, 8, 8],
+    present: Some(&[0xff, 0]),
+    want: (0, (8, 8, 0)),
+    codes: &[0, 1, 2, 3, 4, 5, 6, 7, 7],
+    texts: b"abcdefgh",
+    ends: &[0, 1, 2, 3, 4, 5, 6, 7, 8],
+    ..ENCODING
+}];
+
+#[test]
+fn a_null_may_have_the_code_of_a_text(rt: HostRuntime) -> Result<(), Fail> {
+    encode_all(&rt, &CODE_OF_A_TEXT)
+}
+
+// The same of each call that interns a slice with nulls.
+static INTERNED_SLICES: [Step; 6] = [
+    Step::Makes(usize::MAX),
+    Step::Nulls(
+        Layout::Small(BYTES, &[3, 7, 8, 8, 11]),
+        &[0b1101, 0xff],
+        6,
+        (0, (4, 0, 0), &[0, 7, 1, 2]),
+    ),
+    Step::Counts(3),
+    Step::Makes(usize::MAX),
+    Step::Nulls(
+        Layout::Large(BYTES, &[3, 7, 8, 8, 11]),
+        &[0b11111101, 0],
+        6,
+        (0, (4, 0, 0), &[0, 7, 1, 2]),
+    ),
+    Step::Counts(3),
+];
+
+#[test]
+fn interns_a_slice_with_nulls(rt: HostRuntime) -> Result<(), Fail> {
+    walk(&rt, &INTERNED_SLICES)
+}
+
 // The dictionary is "red" and "blue".
 const RED_AND_BLUE: Decoding = Decoding {
     texts: b"redblue",

@@ -2,12 +2,14 @@
 //
 // An export can take no box, so a box is taken apart here: `Block` is its memory, and `Seat` the same beside what gives it back.
 // Both own what is at their pointers by their types' models, so no caller says anything of memory.
+ghost use denote.RawPtr.{null_ptr};
 ghost use Rattle.std.specs.Prelude.{◌≡◌, Option, None, Some};
 ghost use Rattle.std.specs.Borrow.{sem};
 ghost use Rattle.std.specs.Box.Ownership.{box_owns};
 ghost use Rattle.lasso_c.specs.Held.{freed_by_heap, held, interner_coded};
-ghost use Rattle.lasso_c.specs.declared.seeded.Interner.{Interner};
+ghost use Rattle.lasso_c.specs.Seeded.{Interner};
 
+use crate::seed::Seed;
 use crate::seeded::Interner;
 use std::alloc::Global;
 use std::marker::Model;
@@ -49,9 +51,9 @@ impl Model for Seat {
 impl Seat {
     ghost use Rattle.lasso_c.specs.Lending.{LendsInterner};
 
-    // No interner.
+    // No interner, at the null pointer.
     pub(crate) fn none(alloc: Global) -> Seat
-        ensures { result.value ≡ None }
+        ensures { (result.value ≡ None) × (result.at ≡ null_ptr) }
     {
         Seat {
             at: std::ptr::null_mut(),
@@ -60,7 +62,7 @@ impl Seat {
     }
 
     // The seat of the interner in the block.
-    pub(crate) fn of_block(alloc: Global, block: Block<Interner>) -> Seat
+    pub(crate) fn of_block(alloc: Global, block: Block<Interner<Seed>>) -> Seat
         ensures { result.value ≡ Some block.value }
     {
         let Block { at } = block;
@@ -71,22 +73,22 @@ impl Seat {
     }
 
     // The interner, in a box.
-    pub(crate) fn into_box(self) -> Box<Interner>
+    pub(crate) fn into_box(self) -> Box<Interner<Seed>>
         requires { ¬ (self.value ≡ None) }
         ensures { self.value ≡ Some result.value }
     {
         let Seat { at, alloc } = self;
-        unsafe { Box::from_raw(alloc, at as *mut Interner) }
+        unsafe { Box::from_raw(alloc, at as *mut Interner<Seed>) }
     }
 
     // The interner, lent.
     #[inline(always)]
-    pub(crate) fn get_mut(&mut self) -> &mut Interner
+    pub(crate) fn get_mut(&mut self) -> &mut Interner<Seed>
         requires { ¬ (self.old.value ≡ None) }
         ensures* writes_back { sem 𝓛 (LendsInterner self.entry result) }
         ensures value { self.old.value ≡ Some result.now }
     {
-        unsafe { &mut *(self.at as *mut Interner) }
+        unsafe { &mut *(self.at as *mut Interner<Seed>) }
     }
 
     // Lets go of a seat that holds none.

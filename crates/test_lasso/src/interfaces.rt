@@ -34,7 +34,7 @@ fn of_four_bytes(alloc: Global) -> LassoResult<SpurRodeo> {
 /// The interner with which the test begins.
 pub fn made_for(alloc: Global, case: Case) -> LassoResult<SpurRodeo> {
     match case {
-        Case::OneText => Rodeo::new(alloc),
+        Case::OneText | Case::LongTexts => Rodeo::new(alloc),
         Case::StaticTexts => limited(alloc),
         Case::NoBytes => of_four_bytes(alloc),
     }
@@ -89,6 +89,7 @@ fn is_left(rodeo: &SpurRodeo, case: Case) -> bool {
         Case::OneText => (1, 4096),
         Case::StaticTexts => (4, 10),
         Case::NoBytes => (3, 4),
+        Case::LongTexts => (7, 4096),
     };
     rodeo.len() == count && rodeo.current_memory_usage() == usage
 }
@@ -144,6 +145,21 @@ fn static_texts_take_no_bytes_of_a_lent_interner(rt: HostRuntime) -> Result<(), 
 #[test]
 fn static_texts_take_no_bytes_of_an_interner_in_a_box(rt: HostRuntime) -> Result<(), Fail> {
     runs(&rt, Holder::Boxed, Case::NoBytes)
+}
+
+#[test]
+fn long_texts_through_an_interner(rt: HostRuntime) -> Result<(), Fail> {
+    runs(&rt, Holder::Itself, Case::LongTexts)
+}
+
+#[test]
+fn long_texts_through_a_lent_interner(rt: HostRuntime) -> Result<(), Fail> {
+    runs(&rt, Holder::Lent, Case::LongTexts)
+}
+
+#[test]
+fn long_texts_through_an_interner_in_a_box(rt: HostRuntime) -> Result<(), Fail> {
+    runs(&rt, Holder::Boxed, Case::LongTexts)
 }
 
 /// Whether what each way of freezing gives has `Hello, world!` alone.

@@ -66,11 +66,23 @@ fn takes_static_texts_first(interner: &mut dyn SpurInterner) -> LassoResult<bool
     )
 }
 
+// Whether an interner with no text takes texts of 14 bytes and more.
+fn takes_long_texts(interner: &mut dyn SpurInterner) -> LassoResult<bool> {
+    Ok(
+        gives(interner, "fourteen bytes", Ok(0))?
+            && gives(interner, "a text of more bytes than an entry", Ok(1))?
+            && gives(interner, "fourteen bytes", Ok(0))?
+            && keeps(interner, "a static text of more bytes than an entry", Ok(2))?
+            && resolves(interner, "a text of more bytes than an entry"),
+    )
+}
+
 fn are_right(interner: &mut dyn SpurInterner, case: Case) -> LassoResult<bool> {
     match case {
         Case::OneText => takes_one_text(interner),
         Case::StaticTexts => takes_a_static_text(interner),
         Case::NoBytes => takes_static_texts_first(interner),
+        Case::LongTexts => takes_long_texts(interner),
     }
 }
 
@@ -80,6 +92,7 @@ fn left_by(case: Case) -> (&'static str, usize) {
         Case::OneText => ("Hello, world!", 4096),
         Case::StaticTexts => ("abc", 10),
         Case::NoBytes => ("wxyz", 4),
+        Case::LongTexts => ("fourteen bytes", 4096),
     }
 }
 
@@ -112,6 +125,11 @@ fn static_texts_take_no_bytes(rt: HostRuntime) -> Result<(), Fail> {
     runs(&rt, Case::NoBytes)
 }
 
+#[test]
+fn long_texts_through_an_interner(rt: HostRuntime) -> Result<(), Fail> {
+    runs(&rt, Case::LongTexts)
+}
+
 // Makes the calls on what the box holds. Then a law holds of the box, with a present text.
 fn runs_box<R: AllocGlobal + Abort>(rt: &R, case: Case) -> Result<(), Fail> {
     let (text, _usage) = left_by(case);
@@ -126,6 +144,11 @@ fn runs_box<R: AllocGlobal + Abort>(rt: &R, case: Case) -> Result<(), Fail> {
 #[test]
 fn one_text_through_a_box(rt: HostRuntime) -> Result<(), Fail> {
     runs_box(&rt, Case::OneText)
+}
+
+#[test]
+fn long_texts_through_a_box(rt: HostRuntime) -> Result<(), Fail> {
+    runs_box(&rt, Case::LongTexts)
 }
 
 #[test]

@@ -88,7 +88,7 @@ fn runs_by<R: Wait>(
 // The interner with which the test begins.
 fn made_for(rt: &impl Wait, alloc: Global, case: Case) -> LassoResult<SpurThreadedRodeo> {
     match case {
-        Case::OneText => fresh(alloc),
+        Case::OneText | Case::LongTexts => fresh(alloc),
         Case::StaticTexts => limited(rt, alloc),
         Case::NoBytes => of_four_bytes(alloc),
     }
@@ -97,7 +97,7 @@ fn made_for(rt: &impl Wait, alloc: Global, case: Case) -> LassoResult<SpurThread
 // Whether the buckets take the right number of bytes after the test, and the limit is as before.
 fn is_left<R: Wait>(rt: &R, shared: &SpurThreadedRodeo, case: Case) -> bool {
     let (usage, limit) = match case {
-        Case::OneText => (4096, usize::MAX),
+        Case::OneText | Case::LongTexts => (4096, usize::MAX),
         Case::StaticTexts => (10, 0),
         Case::NoBytes => (4, 4),
     };
@@ -162,6 +162,26 @@ fn static_texts_take_no_bytes_of_a_shared_interner(rt: HostRuntime) -> Result<()
 fn static_texts_take_no_bytes_of_a_held_shared_interner(rt: HostRuntime) -> Result<(), Fail> {
     runs(&rt, Holder::Lent, Case::NoBytes)?;
     runs(&rt, Holder::Boxed, Case::NoBytes)
+}
+
+#[test]
+fn long_texts_through_an_interner(rt: HostRuntime) -> Result<(), Fail> {
+    runs(&rt, Holder::Itself, Case::LongTexts)
+}
+
+#[test]
+fn long_texts_through_a_reference(rt: HostRuntime) -> Result<(), Fail> {
+    runs(&rt, Holder::Reference, Case::LongTexts)
+}
+
+#[test]
+fn long_texts_through_a_lent_interner(rt: HostRuntime) -> Result<(), Fail> {
+    runs(&rt, Holder::Lent, Case::LongTexts)
+}
+
+#[test]
+fn long_texts_through_an_interner_in_a_box(rt: HostRuntime) -> Result<(), Fail> {
+    runs(&rt, Holder::Boxed, Case::LongTexts)
 }
 
 type SharedMicro = ThreadedRodeo<MicroSpur, FixedState>;

@@ -1,7 +1,7 @@
 //! Two threads that use one shared interner through its interfaces.
 use crate::answers::is_so;
 use crate::shared_interfaces::by_reference;
-use crate::shared_plain::fresh;
+use crate::shared_plain::{fresh, hello};
 use crate::steps::Step::{Finds, Interns, Keeps};
 use crate::steps::{Step, Way, finds};
 use lasso::{LassoResult, MemoryLimits, Spur, SpurThreadedRodeo};
@@ -169,5 +169,73 @@ fn no_call_through_a_reference_sets_a_limit(rt: HostRuntime) -> Result<(), Fail>
     is_so(&rt, set, "the limits");
     is_so(&rt, made, "the keys");
     is_so(&rt, shared.len() == 100, "the number of texts");
+    Ok(())
+}
+
+// Interns the texts, which are new, through a reference, once the other thread has begun. Returns whether each
+// has the next number, and says when it is done.
+fn intern_in_order<R: Wait>(
+    rt: &R,
+    shared: &SpurThreadedRodeo,
+    texts: &[&'static str],
+    begun: &AtomicBool,
+    done: &AtomicBool,
+) -> bool {
+    for _ in 0..MOST {
+        if begun.load(Ordering::SeqCst) {
+            break;
+        }
+    }
+    let mut all = true;
+    for at in 0..texts.len() {
+        let number = at.wrapping_add(1);
+        all &= is_step(rt, shared, Interns(Way::Copied, texts[at], Ok(number))) == Ok(true);
+    }
+    done.store(true, Ordering::SeqCst);
+    all
+}
+
+// Looks the text up through a reference until the other thread is done. Returns whether it has its key each time.
+fn always_finds<R: Wait>(
+    rt: &R,
+    shared: &SpurThreadedRodeo,
+    text: &'static str,
+    begun: &AtomicBool,
+    done: &AtomicBool,
+) -> bool {
+    let mut all = true;
+    for _ in 0..MOST {
+        if done.load(Ordering::SeqCst) {
+            break;
+        }
+        all &= is_step(rt, shared, Finds(text, Some(0))) == Ok(true);
+        begun.store(true, Ordering::SeqCst);
+    }
+    all
+}
+
+// One thread interns new texts while the other looks up one that is present. Returns whether each found what it
+// has to.
+fn intern_and_find<R: Threads + Wait + Sync>(
+    rt: &R,
+    shared: &SpurThreadedRodeo,
+    texts: &[&'static str],
+) -> (bool, bool) {
+    let (begun, done) = (AtomicBool::new(false), AtomicBool::new(false));
+    join(
+        rt,
+        || intern_in_order(rt, shared, texts, &begun, &done),
+        || always_finds(rt, shared, "Hello, world!", &begun, &done),
+    )
+}
+
+#[test]
+fn a_reference_finds_a_text_while_others_are_interned(rt: HostRuntime) -> Result<(), Fail> {
+    let texts = leaked(rt.alloc(), "a")?;
+    let shared = hello(&rt, rt.alloc())?;
+    let (made, found) = intern_and_find(&rt, &shared, &texts);
+    is_so(&rt, made, "the new texts");
+    is_so(&rt, found, "the present text");
+    is_so(&rt, shared.len() == 3001, "the number of texts");
     Ok(())
 }

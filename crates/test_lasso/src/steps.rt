@@ -86,6 +86,30 @@ static NO_BYTES: [Step; 5] = [
     Interns(Copied, "more", Err(LIMIT)),
 ];
 
+// A text of a few hundred bytes.
+const PAGE: &str =
+    "a text of a few hundred bytes, which no entry holds: one line of it, and then another line of it, \
+    and then another line of it, and then another line of it, and then another line of it, and then the last";
+
+// New texts of 14 bytes, one more than an entry of a list holds, and of more, by each call.
+static LONG_TEXTS: [Step; 11] = [
+    Interns(TryCopied, "fourteen bytes", Ok(0)),
+    Interns(Copied, "a text of more bytes than an entry", Ok(1)),
+    Interns(
+        TryStatic,
+        "a static text of more bytes than an entry",
+        Ok(2),
+    ),
+    Interns(Static, "another static text of more bytes", Ok(3)),
+    Interns(TryCopied, PAGE, Ok(4)),
+    Interns(TryCopied, "a text of more bytes than an entry", Ok(1)),
+    Finds(PAGE, Some(4)),
+    Finds("fourteen bytes!", None),
+    Keeps(Copied, "one more text of more bytes than an entry"),
+    InternsAsOne("the last text of more bytes than an entry"),
+    Counts(7),
+];
+
 /// What an interner with a text under each key returns for a new text.
 pub static NO_KEY_LEFT: [Step; 5] = [
     Interns(TryCopied, "new", Err(NO_KEY)),
@@ -104,6 +128,8 @@ pub enum Case {
     StaticTexts,
     /// Interns into an interner of 4 bytes, under a limit of 4.
     NoBytes,
+    /// Interns texts of 14 bytes and more into an interner of default capacity.
+    LongTexts,
 }
 
 /// The calls of the test.
@@ -112,6 +138,7 @@ pub fn steps_of(case: Case) -> &'static [Step] {
         Case::OneText => &ONE_TEXT,
         Case::StaticTexts => &UNDER_NO_LIMIT,
         Case::NoBytes => &NO_BYTES,
+        Case::LongTexts => &LONG_TEXTS,
     }
 }
 

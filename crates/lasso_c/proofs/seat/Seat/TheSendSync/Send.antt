@@ -11,8 +11,8 @@ use Rattle.std_heap.proofs.Global.TheSendSync as heap
 use Rattle.std.proofs.Crossing.{frees}
 use Rattle.std.specs.Prelude.{Option, None, Some}
 use Rattle.lasso_c.specs.Held.{held}
-use Rattle.lasso_c.specs.contracts.seeded.Interner as Interner
-use Rattle.lasso_c.proofs.seeded.Interner.TheSendSync.{the_send as interner_send}
+use Rattle.lasso_c.specs.Seeded as Interner
+use Rattle.lasso_c.proofs.SeededLaws.{the_send as interner_send}
 use Rattle.lasso_c.specs.contracts.seat.Seat.{the_row, the_type}
 
 held_keyless : (at : Ptr) (value : Option (Interner.the_row).Denot) → Keyless (held at value)

@@ -34,7 +34,7 @@ use Rattle.std_heap.proofs.Handle.{heap_val}
 use Rattle.std_heap.specs.contracts.Global as Heap
 use Rattle.lasso_c.specs.Held.{freed_by_heap, held}
 use Rattle.lasso_c.specs.Lending.{with_interner}
-use Rattle.lasso_c.specs.contracts.seeded.Interner as Interner
+use Rattle.lasso_c.specs.Seeded as Interner
 use Rattle.lasso_c.specs.contracts.seat.Seat as Seat
 use Rattle.lasso_c.proofs.seat.Seat.TheLaws as seat
 use Rattle.lasso_c.specs.contracts.seat.Seat.get_mut as f

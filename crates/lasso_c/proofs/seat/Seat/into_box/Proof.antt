@@ -39,8 +39,8 @@ use Rattle.std_alloc.proofs.boxed.Box.TheLaws as box
 use Rattle.std_alloc.specs.contracts.boxed.Box.from_raw as callee
 use Rattle.std_alloc.proofs.boxed.Box.from_raw.Met.{met}
 use Rattle.lasso_c.specs.Held.{held}
-use Rattle.lasso_c.specs.contracts.seeded.Interner as Interner
-use Rattle.lasso_c.proofs.seeded.Interner.TheLaws as interner
+use Rattle.lasso_c.specs.Seeded as Interner
+use Rattle.lasso_c.proofs.SeededLaws as interner
 use Rattle.lasso_c.specs.contracts.seat.Seat as Seat
 use Rattle.lasso_c.proofs.seat.Seat.TheLaws as seat
 use Rattle.lasso_c.specs.contracts.seat.Seat.into_box as f

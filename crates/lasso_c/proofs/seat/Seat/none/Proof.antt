@@ -37,5 +37,5 @@ none_spec 𝓤 𝓛 𝓜 𝓡 wired =
     sets ! (agg ! (and_then ! (lit ! tt) (and_then ! (get ! refl) (no_more !)))) refl (word_fits null_ptr) $
     returns ! (look_at ! 0 refl) $ free_all ! refl $
     nothing ! $ use2 𝓛 (‵ ((Seat.the_row).own_val (record { at = null_ptr; alloc = a.0; value = None }) (word null_ptr ∷ []))) (seat_made 𝓛 null_ptr a.0 None) $
-    suffices ! _ (ends_at 𝓛 f.ended stayed c y (word null_ptr) (record { at = null_ptr; alloc = a.0; value = None }) (tt, tt) (tt, tt)) $ says ! refl $
+    suffices ! _ (ends_at 𝓛 f.ended stayed c y (word null_ptr) (record { at = null_ptr; alloc = a.0; value = None }) (tt, tt) (tt, tt)) $ says ! (refl, refl) $
     nothing ! $ nothing ! $ join ! $ nothing ! $ done !))

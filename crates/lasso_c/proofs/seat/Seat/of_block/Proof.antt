@@ -17,8 +17,8 @@ use Rattle.std_heap.specs.contracts.Global as Heap
 use Rattle.std_heap.proofs.Global.TheLaws as heap
 use Rattle.lasso_c.specs.contracts.seat.Block as Block
 use Rattle.lasso_c.proofs.seat.Block.TheLaws as block
-use Rattle.lasso_c.specs.contracts.seeded.Interner as Interner
-use Rattle.lasso_c.proofs.seeded.Interner.TheLaws as interner
+use Rattle.lasso_c.specs.Seeded as Interner
+use Rattle.lasso_c.proofs.SeededLaws as interner
 use Rattle.lasso_c.specs.contracts.seat.Seat as Seat
 use Rattle.lasso_c.specs.contracts.seat.Seat.of_block as f
 use Rattle.lasso_c.proofs.SeatValues.{word, word_fits, lone_word, lone_word_fits, seat_made}
