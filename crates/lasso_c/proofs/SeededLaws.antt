@@ -10,7 +10,6 @@ use Rattle.lasso_c.proofs.seed.Seed.TheLaws as seed
 use Rattle.lasso_c.proofs.seed.SeededHasher.TheLaws as hasher
 use Rattle.lasso_c.proofs.seeded.Interner.TheLaws as interner
 use Rattle.lasso_c.proofs.seed.Seed.TheSendSync as seed_sent
-use Rattle.lasso_c.proofs.seed.SeededHasher.TheSendSync as hasher_sent
 use Rattle.lasso_c.proofs.seeded.Interner.TheSendSync as interner_sent
 
 abbrev pub the_row_laws : Laws the_row
