@@ -163,7 +163,7 @@ def test_names(edit):
         test_function(edit)
     for crate, test in edit.tests:
         *modules, name = test.split("::")
-        named = [path for path in glob.glob(f"{HERE}/crates/{crate}/src/**/*.rt", recursive=True) if has_function(path, name)]
+        named = [path for path in files_with_tests(HERE, crate) if has_function(path, name)]
         if not any(module in path for path in named for module in modules[:1] or [""]):
             raise Unfit(f"{edit.crate}/{edit.name}: {crate} has no test {test}")
     for program, case in edit.cases:
@@ -171,6 +171,11 @@ def test_names(edit):
             continue
         if not any(has_line(path, f"case {case}") for path in glob.glob(f"{HERE}/cases/{program}/*.txt")):
             raise Unfit(f"{edit.crate}/{edit.name}: {program} has no case {case}")
+
+
+def files_with_tests(tree, crate):
+    """The files that may have tests of the crate: its sources, and those that cases/modules adds to a program."""
+    return glob.glob(f"{tree}/crates/{crate}/src/**/*.rt", recursive=True) + glob.glob(f"{tree}/cases/{crate}/modules/*.rt.in")
 
 
 def has_script(name):
