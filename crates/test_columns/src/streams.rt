@@ -219,16 +219,17 @@ fn any_number_of_workers(rt: HostRuntime) -> Result<(), Fail> {
     Ok(())
 }
 
-// A reader that fails after its bytes.
+// A reader that fails after its bytes, by an error of this kind.
 #[derive(Drop)]
 struct Broken<'a> {
     rest: &'a [u8],
+    kind: ErrorKind,
 }
 
 impl Read for Broken<'_> {
     fn read(&mut self, buf: &mut [u8]) -> io::Result<usize> {
         if self.rest.is_empty() {
-            return Err(io::Error::from(ErrorKind::BrokenPipe));
+            return Err(io::Error::from(self.kind));
         }
         self.rest.read(buf)
     }
@@ -264,7 +265,11 @@ fn is_right_before<R: AllocGlobal + Threads + Sync>(
     let mut rodeo = of_three_bytes(rt.alloc())?;
     let mut entries = Vec::new(rt.alloc());
     let bytes = &row.bytes[..cut.min(row.bytes.len())];
-    let mut input = BufReader::with_capacity(rt.alloc(), 2, Broken { rest: bytes })?;
+    let broken = Broken {
+        rest: bytes,
+        kind: ErrorKind::BrokenPipe,
+    };
+    let mut input = BufReader::with_capacity(rt.alloc(), 2, broken)?;
     let ended = encode_stream(rt, &mut input, &mut rodeo, &mut entries, rounds);
     let lines = ended_lines(bytes);
     let wanted = &row.entries[..lines.min(row.entries.len())];
@@ -288,6 +293,89 @@ fn reads_that_fail_at_each_byte(rt: HostRuntime) -> Result<(), Fail> {
     for size in &[1, 4, 9] {
         all_right(&rt, right_before(&rt, rounds_of(1, *size)), ROWS.len())?;
         all_right(&rt, right_before(&rt, rounds_of(3, *size)), ROWS.len())?;
+    }
+    Ok(())
+}
+
+// All kinds but `Interrupted`, after which a read is made again.
+static KINDS: [ErrorKind; 41] = [
+    ErrorKind::NotFound,
+    ErrorKind::PermissionDenied,
+    ErrorKind::ConnectionRefused,
+    ErrorKind::ConnectionReset,
+    ErrorKind::HostUnreachable,
+    ErrorKind::NetworkUnreachable,
+    ErrorKind::ConnectionAborted,
+    ErrorKind::NotConnected,
+    ErrorKind::AddrInUse,
+    ErrorKind::AddrNotAvailable,
+    ErrorKind::NetworkDown,
+    ErrorKind::BrokenPipe,
+    ErrorKind::AlreadyExists,
+    ErrorKind::WouldBlock,
+    ErrorKind::NotADirectory,
+    ErrorKind::IsADirectory,
+    ErrorKind::DirectoryNotEmpty,
+    ErrorKind::ReadOnlyFilesystem,
+    ErrorKind::FilesystemLoop,
+    ErrorKind::StaleNetworkFileHandle,
+    ErrorKind::InvalidInput,
+    ErrorKind::InvalidData,
+    ErrorKind::TimedOut,
+    ErrorKind::WriteZero,
+    ErrorKind::StorageFull,
+    ErrorKind::NotSeekable,
+    ErrorKind::QuotaExceeded,
+    ErrorKind::FileTooLarge,
+    ErrorKind::ResourceBusy,
+    ErrorKind::ExecutableFileBusy,
+    ErrorKind::Deadlock,
+    ErrorKind::CrossesDevices,
+    ErrorKind::TooManyLinks,
+    ErrorKind::InvalidFilename,
+    ErrorKind::ArgumentListTooLong,
+    ErrorKind::Unsupported,
+    ErrorKind::UnexpectedEof,
+    ErrorKind::OutOfMemory,
+    ErrorKind::InProgress,
+    ErrorKind::Other,
+    ErrorKind::Uncategorized,
+];
+
+// Whether a stream whose read fails by an error of this kind, after some lines, ends by that kind.
+fn is_kind_kept<R: AllocGlobal + Threads + Sync>(
+    rt: &R,
+    kind: ErrorKind,
+    rounds: Rounds,
+) -> Result<bool, Fail> {
+    let mut rodeo = of_three_bytes(rt.alloc())?;
+    let mut entries = Vec::new(rt.alloc());
+    let broken = Broken {
+        rest: b"a\na\na\na\na\na\na\na\n".as_slice(),
+        kind,
+    };
+    let mut input = BufReader::with_capacity(rt.alloc(), 2, broken)?;
+    match encode_stream(rt, &mut input, &mut rodeo, &mut entries, rounds) {
+        Err(StreamError::Read(error)) => Ok(error.kind() == kind && entries.len() == 8),
+        _ => Ok(false),
+    }
+}
+
+// The first kind that is not kept, or the number of kinds.
+fn kept_kinds<R: AllocGlobal + Threads + Sync>(rt: &R, rounds: Rounds) -> Result<usize, Fail> {
+    for at in 0..KINDS.len() {
+        if !is_kind_kept(rt, KINDS[at], rounds)? {
+            return Ok(at);
+        }
+    }
+    Ok(KINDS.len())
+}
+
+#[test]
+fn kinds_of_failed_reads(rt: HostRuntime) -> Result<(), Fail> {
+    for size in &[1, 4, 100] {
+        all_right(&rt, kept_kinds(&rt, rounds_of(1, *size)), KINDS.len())?;
+        all_right(&rt, kept_kinds(&rt, rounds_of(3, *size)), KINDS.len())?;
     }
     Ok(())
 }
