@@ -5,5 +5,6 @@ pub mod HexDigits
 pub mod LettingIn
 pub mod LineTexts
 pub mod Remaining
+pub mod Skipped
 pub mod Tested
 pub mod VectorDigits

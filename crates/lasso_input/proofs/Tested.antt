@@ -98,6 +98,17 @@ module _ (bytes : List ℕ) (at untested : ℕ) (plain : IsPlain (take (length b
   pub after_is_tested : IsPlain (take (length (drop (at + 1) bytes) - untested) (drop (at + 1) bytes))
   after_is_tested = after_by (length (drop (at + 1) bytes) - untested) refl
 
+-- the tested bytes after any line feed are plain
+module _ (bytes : List ℕ) (at untested : ℕ) (plain : IsPlain (take (length bytes - untested) bytes)) (inside : at + 1 ≤ length bytes) (feed : slice_index bytes at == 10 ≡ true) where
+  after_feed_by : (n : ℕ) → length (drop (at + 1) bytes) - untested ≡ n → IsPlain (take n (drop (at + 1) bytes))
+  after_feed_by zero is = nothing_is_plain
+  after_feed_by (suc n) is =
+      let same : length bytes - untested - (at + 1) ≡ suc n = omega (arith, length-drop (at + 1) bytes, inside, is) in
+      subst (λ k. IsPlain (take k (drop (at + 1) bytes))) same (after_in_front bytes at (length bytes - untested) plain (omega (arith, length-drop (at + 1) bytes, inside, is)) (omega arith) feed)
+
+  pub after_feed_is_tested : IsPlain (take (length (drop (at + 1) bytes) - untested) (drop (at + 1) bytes))
+  after_feed_is_tested = after_feed_by (length (drop (at + 1) bytes) - untested) refl
+
 -- all bytes
 pub all_are_plain : (bytes : List ℕ) → IsPlain bytes → IsPlain (take (length bytes) bytes)
 all_are_plain bytes plain = rw (take_all bytes) plain

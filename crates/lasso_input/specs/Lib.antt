@@ -3,3 +3,4 @@ pub mod Texts
 pub mod Numbers
 pub mod Workers
 pub mod Lanes
+pub mod Skipping

@@ -15,6 +15,7 @@ pub mod laws;
 mod line;
 mod newlines;
 mod numbers;
+mod skipping;
 mod stretch;
 #[cfg(test)]
 mod tests;

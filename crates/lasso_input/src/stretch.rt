@@ -4,10 +4,12 @@
 //! ASCII, so a line that ends in the tested bytes is UTF-8 without the mark, and so are the tested bytes after it.
 ghost use Rattle.std.specs.Prelude.{◌≡◌, ◌-◌, ◌<◌, ◌≤◌, ◌++◌, ◌∷◌, [], MatchOption, IfSome, IsTrue, IsUtf8, length, take};
 ghost use Rattle.lasso_input.specs.Lines.{NoFeed, lines_of};
+ghost use Rattle.lasso_input.specs.Skipping.{AreSkipped};
 ghost use Rattle.lasso_input.specs.Texts.{IsPlain};
 
 use crate::line::Line;
 use crate::newlines::{after_newline, find_newline};
+use crate::skipping::skip_lines;
 use crate::texts::FIRST_OF_MARK;
 use lasso_parts::keys::Key;
 use lasso_single::batch::{Batch, TOGETHER, look_ahead};
@@ -88,6 +90,22 @@ impl<'a> Stretch<'a> {
         }
         self.rest = &[];
         Some(Line::tested(last, self.untested == 0))
+    }
+
+    /// Passes over the next lines that a line feed ends, at most `most` of them, and returns how many. It may pass
+    /// over fewer though more are left.
+    #[inline(always)]
+    pub fn skip(&mut self, most: usize) -> usize
+        ensures most { result ≤ most }
+        ensures skipped { AreSkipped self.old result self.new }
+        ensures less { length self.new ≤ length self.old }
+    {
+        let rest = self.rest;
+        let (count, end) = skip_lines(rest, most);
+        if count > 0 {
+            self.rest = after_newline(rest, end - 1);
+        }
+        count
     }
 
     /// Looks ahead at the next lines, if that is due and pays: up to the first that is not UTF-8.

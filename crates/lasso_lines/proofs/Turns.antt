@@ -118,3 +118,14 @@ worked_all list lines worker workers next others codes now = (
   record { inside = λ n small. omega (arith, now.inside n small, now.low); whole = omega (arith, left_none lines now.at now.left, now.due) },
   now.coded,
 )
+
+-- other workers' lines are passed over
+pub worked_skip : (list lines skipped more : List Text) (worker workers next others : ℕ) (codes : List ℕ) → Worked list lines (skipped ++ more) worker workers next others codes → (next' others' : ℕ) → next' ≡ next + length skipped → others' + length skipped ≡ others → Worked list lines more worker workers next' others' codes
+worked_skip list lines [] more worker workers next others codes now next' others' up down =
+    let same : next ≡ next' = omega (arith, up) in
+    let still : others ≡ others' = omega (arith, down) in
+    subst (λ n. Worked list lines more worker workers n others' codes) same (subst (λ o. Worked list lines more worker workers next o codes) still now)
+worked_skip list lines (line ∷ skipped) more worker workers next others codes now next' others' up down =
+    worked_skip list lines skipped more worker workers (next + 1) (others - 1) codes
+    (worked_past list lines (skipped ++ more) line worker workers next others codes now (next + 1) (others - 1) (omega (arith, down)) refl refl)
+    next' others' (omega (arith, up)) (omega (arith, down))

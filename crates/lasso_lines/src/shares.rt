@@ -11,14 +11,15 @@ ghost use Rattle.lasso_lines.specs.declared.fault.RunFault.TheVariants.{Refused}
 ghost use Rattle.lasso_parts.specs.declared.util.LassoErrorKind.TheVariants.{FailedAllocation};
 
 use crate::fault::RunFault;
-use crate::stretches::next_number;
+use crate::in_turn::Turns;
+use crate::stretches::{later_number, next_number};
 use crate::workers::Gate;
 use lasso_input::Stretch;
 use lasso_log::log::{Pass, Snapshot};
 use lasso_parts::keys::Spur;
 use lasso_parts::util::{LassoError, LassoErrorKind};
 use lasso_shared::threaded::SpurThreadedRodeo;
-use std::sync::Wait;
+use std::sync::{Mutex, Wait};
 use std::thread::{Threads, map_indices};
 
 // A refused line: its number, counted from 1, and the error.
@@ -52,11 +53,13 @@ pub(crate) fn share_out<R: AllocGlobal + Threads + Wait + Sync, G: Gate>(
     ensures legal { IsLegal spur_at rodeo.now.opening (seen pass.new) }
 {
     pass.prove_legal();
+    let turn = Mutex::new(());
+    let turn = &turn;
     let work = move |worker: usize| -> Share
         requires some { 0 < workers }
         requires texts { AreTexts (lines_of lines.now) }
         ensures { IsShareOf rodeo.entry.now (lines_of lines.entry.now) worker workers result.known result.codes }
-    { intern_share(rt, rodeo, lines, worker, workers, gate) };
+    { intern_share(rt, rodeo, lines, worker, workers, gate, turn) };
     let Ok(shares) = map_indices(rt, rt.alloc(), workers, &work) else {
         return Err(RunFault::no_memory(0));
     };
@@ -106,7 +109,7 @@ fn lower(lowest: Option<NumberedError>, other: &NumberedError) -> NumberedError
     }
 }
 
-// Interns the worker's lines with a new pass.
+// Interns the worker's lines with a new pass, which keeps hints. `turn` is for the turns of all workers.
 fn intern_share<R: AllocGlobal + Wait, G: Gate>(
     rt: &R,
     rodeo: &SpurThreadedRodeo,
@@ -114,13 +117,14 @@ fn intern_share<R: AllocGlobal + Wait, G: Gate>(
     worker: usize,
     workers: usize,
     gate: &G,
+    turn: &Mutex<()>,
 ) -> Share
     requires some { 0 < workers }
     requires texts { AreTexts (lines_of lines.now) }
     ensures { IsShareOf rodeo.now (lines_of lines.now) worker workers result.known result.codes }
 {
-    let mut pass = rodeo.pass();
-    let codes = intern_by(rt, rodeo, &mut pass, lines, worker, workers, gate);
+    let mut pass = rodeo.pass_with_hints(rt.alloc());
+    let codes = intern_by(rt, rodeo, &mut pass, lines, worker, workers, gate, turn);
     Share {
         known: pass.snapshot(),
         codes,
@@ -128,7 +132,7 @@ fn intern_share<R: AllocGlobal + Wait, G: Gate>(
 }
 
 // Interns the worker's lines, at the positions `worker`, `worker + workers`, `worker + 2 * workers` and so
-// on. It cuts all lines for that, so no list of them is kept. Returns the positions of their texts. Stops at the
+// on. It passes over the others for that, so no list of lines is kept. Returns the positions of their texts. Stops at the
 // first refused line and returns its error.
 fn intern_by<R: AllocGlobal + Wait, G: Gate>(
     rt: &R,
@@ -138,6 +142,7 @@ fn intern_by<R: AllocGlobal + Wait, G: Gate>(
     worker: usize,
     workers: usize,
     gate: &G,
+    turn: &Mutex<()>,
 ) -> Result<Vec<u32>, NumberedError>
     requires some { 0 < workers }
     requires texts { AreTexts (lines_of lines.now) }
@@ -147,6 +152,7 @@ fn intern_by<R: AllocGlobal + Wait, G: Gate>(
     ensures codes { IfOk result (λ codes. HasCodes (list_of rodeo.now pass.new.notes) (lines_of lines.now) worker workers codes.items) }
 {
     let mut codes = Vec::new(rt.alloc());
+    let mut turns = Turns::new(turn, gate.is_open());
     let mut rest = lines.copy();
     let mut next = 1u64;
     // how many lines come before the worker's next one
@@ -162,8 +168,11 @@ fn intern_by<R: AllocGlobal + Wait, G: Gate>(
             unreachable!();
         };
         gate.enter(worker);
-        intern_line(rt, rodeo, pass, text, number, &mut codes)?;
+        intern_line(rt, rodeo, pass, text, number, &mut codes, &mut turns)?;
         others = workers - 1;
+        let skipped = rest.skip(others);
+        others -= skipped;
+        next = later_number(rt, next, skipped);
     }
     Ok(codes)
 }
@@ -176,6 +185,7 @@ fn intern_line<R: Wait>(
     line: &str,
     number: u64,
     codes: &mut Vec<u32>,
+    turns: &mut Turns<'_>,
 ) -> Result<(), NumberedError>
     requires { pass.old.of ≡ rodeo.now }
     ensures of { pass.new.of ≡ rodeo.now }
@@ -189,7 +199,9 @@ fn intern_line<R: Wait>(
         Ok(key) => key,
         Err(error) => return Err((number, error)),
     };
-    match codes.push(key.into_position()) {
+    let position = key.into_position();
+    turns.count(rt, position);
+    match codes.push(position) {
         Ok(()) => Ok(()),
         Err(_) => Err((number, LassoError::new(LassoErrorKind::FailedAllocation))),
     }

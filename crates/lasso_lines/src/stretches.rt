@@ -103,6 +103,18 @@ pub(crate) fn next_number<R: Wait>(rt: &R, number: u64) -> u64
     unreachable!()
 }
 
+// A line's number, so many lines later. Waits forever past the greatest number, as `next_number` does.
+#[inline]
+pub(crate) fn later_number<R: Wait>(rt: &R, number: u64, lines: usize) -> u64
+    ensures { result ≡ number + lines }
+{
+    if let Some(later) = number.checked_add(lines as u64) {
+        return later;
+    }
+    for _ in rt.forever() {}
+    unreachable!()
+}
+
 // Appends `bytes` to the unfinished line `number`. The only error is out of memory at that line.
 pub(crate) fn hold(begun: &mut Vec<u8>, bytes: &[u8], number: u64) -> Result<(), RunFault>
     ensures held { OnOk result (begun.new.items ≡ begun.old.items ++ bytes.now) }

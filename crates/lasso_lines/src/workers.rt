@@ -15,6 +15,7 @@ ghost use Rattle.lasso_parts.specs.declared.util.LassoErrorKind.TheVariants.{Fai
 
 use crate::cutting::{read_all, test_lines};
 use crate::engine::flush_all;
+use crate::expected::expected_texts;
 use crate::fault::RunFault;
 use crate::ordered::write_in_order;
 use crate::shares::share_out;
@@ -32,6 +33,11 @@ use std::thread::Threads;
 pub trait Gate: Sync {
     /// Returns when the worker of this number may go on. Workers are numbered from 0.
     fn enter(&self, worker: usize);
+
+    /// Whether it returns at once for each worker at any time. If so, a worker may keep others from interning while it calls.
+    fn is_open(&self) -> bool {
+        false
+    }
 }
 
 /// A gate that returns at once.
@@ -40,6 +46,10 @@ pub struct OpenGate;
 
 impl Gate for OpenGate {
     fn enter(&self, _worker: usize) {}
+
+    fn is_open(&self) -> bool {
+        true
+    }
 }
 
 /// Reads the whole input, interns its lines with `workers` threads in one interner, and writes the distinct
@@ -79,18 +89,29 @@ pub fn run_workers<R: AllocGlobal + Threads + Wait + Sync, I: ByteReader, O: Byt
     flush_all(writer)?;
     let mut input = Vec::new(rt.alloc());
     read_all(rt, reader, &mut input)?;
-    let rodeo = new_interner(rt.alloc(), limits)?;
+    let rodeo = new_interner(rt.alloc(), limits, &input, workers)?;
     let mut pass = rodeo.pass();
     let codes = intern_lines(rt, &rodeo, &mut pass, &input, workers, gate)?;
     drop(input);
     write_in_order(rt, &rodeo, &mut pass, &codes, workers, writer)
 }
 
-// An interner of default capacity with this limit. The only error is out of memory, reported as line 0.
-fn new_interner(alloc: Global, limits: MemoryLimits) -> Result<SpurThreadedRodeo, RunFault>
+// An interner with this limit, whose first bucket is that of default capacity, and which has room for about as many
+// texts as the input has, if there is memory for that. The only error is out of memory, reported as line 0.
+fn new_interner(
+    alloc: Global,
+    limits: MemoryLimits,
+    input: &[u8],
+    workers: usize,
+) -> Result<SpurThreadedRodeo, RunFault>
     ensures opening { IfOk result (λ rodeo. rodeo.opening ≡ begun limits) }
     ensures fault { IfErr result (λ fault. fault ≡ Refused 0 FailedAllocation) }
 {
+    let texts = expected_texts(alloc, input, workers);
+    let room = Capacity::for_strings(texts.max(Capacity::default().strings()));
+    if let Ok(rodeo) = ThreadedRodeo::with_capacity_and_memory_limits(alloc, room, limits) {
+        return Ok(rodeo);
+    }
     match ThreadedRodeo::with_capacity_and_memory_limits(alloc, Capacity::default(), limits) {
         Ok(rodeo) => Ok(rodeo),
         Err(error) => Err(RunFault::Refused(0, error)),

@@ -17,6 +17,7 @@ ghost use Rattle.lasso_lock.specs.LatchWords.{shared, whole};
 use crate::latch::{Claim, Fits, Latch};
 use std::hint::spin_loop;
 use std::marker::Model;
+use std::mem::ManuallyDrop;
 use std::sync::{Mutex, Wait};
 use std::thread::yield_now;
 
@@ -104,6 +105,30 @@ impl<X: Fits> TaggedMutex<X> {
 }
 
 impl<X: Fits> TaggedMutex<X> {
+    /// Locks it as `lock` does, and takes the value out, but looks only a few times. It does not wait.
+    pub fn lock_now(&self) -> Option<(TaggedMutexGuard<'_, X>, X)>
+        ensures { IfSome result (λ r. (r.0 ≡ self.now) × X.fits self.now r.1) }
+    {
+        match pull_free(&self.latch) {
+            Some((claim, value)) => Some((TaggedMutexGuard { claim }, value)),
+            None => self.look_again(),
+        }
+    }
+
+    // The same, if somebody else had the lock.
+    #[inline(never)]
+    fn look_again(&self) -> Option<(TaggedMutexGuard<'_, X>, X)>
+        ensures { IfSome result (λ r. (r.0 ≡ self.now) × X.fits self.now r.1) }
+    {
+        for _ in 0..LOOKS {
+            if let Some((claim, value)) = pull(&self.latch) {
+                return Some((TaggedMutexGuard { claim }, value));
+            }
+            spin_loop();
+        }
+        None
+    }
+
     /// The value that is in the lock, which ends.
     pub fn into_inner(self) -> Option<X>
         ensures { IfSome result (λ x. X.fits self x) }
@@ -121,6 +146,16 @@ impl<'a, X: Fits> TaggedMutexGuard<'a, X> {
     {
         let TaggedMutexGuard { claim } = self;
         push(claim, rt, value);
+    }
+}
+
+impl<'a, X: Fits> TaggedMutexGuard<'a, X> {
+    /// Puts the value back, and unlocks it. It does not wait.
+    pub fn put_back(self, value: X)
+        requires { X.fits self value }
+    {
+        let TaggedMutexGuard { claim } = self;
+        put(claim, value);
     }
 }
 
@@ -218,6 +253,54 @@ impl<X: Fits + Drop> TaggedRwLock<X> {
         unreachable!()
     }
 
+    /// Locks it for reading as `read` does, but looks only a few times. It does not wait.
+    pub fn read_now(&self) -> Option<TaggedRwLockReadGuard<'_, X>>
+        ensures { IfSome result (λ r. r.tag ≡ self.now) }
+    {
+        match self.try_read() {
+            Some(guard) => Some(guard),
+            None => self.look_to_read(),
+        }
+    }
+
+    // The same, where a writer had the lock or another reader was faster.
+    #[inline(never)]
+    fn look_to_read(&self) -> Option<TaggedRwLockReadGuard<'_, X>>
+        ensures { IfSome result (λ r. r.tag ≡ self.now) }
+    {
+        for _ in 0..LOOKS {
+            if let Some(guard) = self.try_read() {
+                return Some(guard);
+            }
+            spin_loop();
+        }
+        None
+    }
+
+    /// Locks it for writing as `write` does, but looks only a few times. It does not wait, nor does it keep readers out.
+    pub fn write_now(&self) -> Option<(TaggedRwLockWriteGuard<'_, X>, X)>
+        ensures { IfSome result (λ r. (r.0 ≡ self.now) × X.fits self.now r.1) }
+    {
+        match pull_free(&self.latch) {
+            Some((claim, value)) => Some((TaggedRwLockWriteGuard { claim }, value)),
+            None => self.look_to_write(),
+        }
+    }
+
+    // The same, if somebody else had the lock.
+    #[inline(never)]
+    fn look_to_write(&self) -> Option<(TaggedRwLockWriteGuard<'_, X>, X)>
+        ensures { IfSome result (λ r. (r.0 ≡ self.now) × X.fits self.now r.1) }
+    {
+        for _ in 0..LOOKS {
+            if let Some((claim, value)) = pull(&self.latch) {
+                return Some((TaggedRwLockWriteGuard { claim }, value));
+            }
+            spin_loop();
+        }
+        None
+    }
+
     // A reader's hold of the value, where readers may come.
     fn try_read(&self) -> Option<TaggedRwLockReadGuard<'_, X>>
         ensures { IfSome result (λ r. r.tag ≡ self.now) }
@@ -270,6 +353,16 @@ impl<'a, X: Fits + Drop> TaggedRwLockWriteGuard<'a, X> {
     {
         let TaggedRwLockWriteGuard { claim } = self;
         push(claim, rt, value);
+    }
+}
+
+impl<'a, X: Fits + Drop> TaggedRwLockWriteGuard<'a, X> {
+    /// Puts the value back, and unlocks it. It does not wait.
+    pub fn put_back(self, value: X)
+        requires { X.fits self value }
+    {
+        let TaggedRwLockWriteGuard { claim } = self;
+        put(claim, value);
     }
 }
 
@@ -328,6 +421,17 @@ fn push<X: Fits, R: Wait>(claim: Claim<'_, Option<X>>, rt: &R, value: X)
     claim.unlock();
     if let Some(other) = other {
         keep(rt, other);
+    }
+}
+
+// Puts the value back as `push` does, without a right to wait. A second value of the latch, which no type excludes, is lost.
+fn put<X: Fits>(claim: Claim<'_, Option<X>>, value: X)
+    requires { (claim.right ≡ whole) × X.fits claim.tag value }
+{
+    let (claim, other) = claim.swap(Some(value));
+    claim.unlock();
+    if let Some(other) = other {
+        let _lost = unsafe { ManuallyDrop::new_unchecked(other) };
     }
 }
 

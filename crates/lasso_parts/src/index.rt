@@ -21,7 +21,7 @@ use crate::util::{LassoError, LassoErrorKind, LassoResult};
 pub use hashing::hash_text;
 use key_slots::KeySlots;
 pub use lists::Texts;
-use probe::{Scan, fingerprint_of, first_fitting, free_slot, home_slot, scan_slots};
+use probe::{Scan, fingerprint_of, first_fitting, free_slot, home_slot, scan_group, scan_slots};
 use std::alloc::Allocator;
 use std::hash::BuildHasher;
 use std::marker::Model;
@@ -90,7 +90,8 @@ impl<K: Key, A: Allocator> Index<K, A> {
         ensures missing { IfNone result ((n : ℕ) → Holds self.now.slots n → slice_get (T.list texts.now) n ≢ Some text.now) }
         ensures whole { FindsPosition (hash_by S.BuildHasher S.Hasher.Hasher hasher.now) (T.list texts.now) self.now text.now result }
     {
-        self.find_hashed(texts, hasher, hash_text(hasher, text), text)
+        self.locate_once(texts, hasher, hash_text(hasher, text), text)
+            .ok()
     }
 
     /// `find` for a caller that has the text's hash already: it must be what `hash_text` gives for this
@@ -133,6 +134,49 @@ impl<K: Key, A: Allocator> Index<K, A> {
         ensures whole { LocatesPosition (hash_by S.BuildHasher S.Hasher.Hasher hasher.now) (T.list texts.now) self.now text.now result }
     {
         self.search(texts, hasher, hash, text)
+    }
+
+    /// `locate` for a single call. It looks at a group of slots at once, with no branch on which of them the text is in.
+    /// `locate` begins with the home slot, which is faster in line in a loop over texts of which few come often.
+    #[inline(always)]
+    pub fn locate_once<T: Texts, S: BuildHasher>(
+        &self,
+        texts: &T,
+        hasher: &S,
+        hash: u64,
+        text: &str,
+    ) -> Result<usize, Vacancy>
+        requires hashed { hash ≡ hash_by S.BuildHasher S.Hasher.Hasher hasher.now text.now }
+        requires filed { IsFiled (hash_by S.BuildHasher S.Hasher.Hasher hasher.now) (T.list texts.now) self.now }
+        ensures found { IfOk result (λ n. Holds self.now.slots n × (slice_get (T.list texts.now) n ≡ Some text.now)) }
+        ensures missing { IfErr result (λ _. (n : ℕ) → Holds self.now.slots n → slice_get (T.list texts.now) n ≢ Some text.now) }
+        ensures vacant { IfErr result (λ vacancy. IsVacancy hash vacancy self.now.slots) }
+        ensures whole { LocatesPosition (hash_by S.BuildHasher S.Hasher.Hasher hasher.now) (T.list texts.now) self.now text.now result }
+    {
+        self.search_group(texts, hasher, hash, text)
+    }
+
+    /// `locate_once` for a caller that inserts the text's key if it is absent. The key at the home slot is read first: its
+    /// memory is wanted in any case.
+    #[inline(always)]
+    pub fn locate_or_insert<T: Texts, S: BuildHasher>(
+        &self,
+        texts: &T,
+        hasher: &S,
+        hash: u64,
+        text: &str,
+    ) -> Result<usize, Vacancy>
+        requires hashed { hash ≡ hash_by S.BuildHasher S.Hasher.Hasher hasher.now text.now }
+        requires filed { IsFiled (hash_by S.BuildHasher S.Hasher.Hasher hasher.now) (T.list texts.now) self.now }
+        ensures found { IfOk result (λ n. Holds self.now.slots n × (slice_get (T.list texts.now) n ≡ Some text.now)) }
+        ensures missing { IfErr result (λ _. (n : ℕ) → Holds self.now.slots n → slice_get (T.list texts.now) n ≢ Some text.now) }
+        ensures vacant { IfErr result (λ vacancy. IsVacancy hash vacancy self.now.slots) }
+        ensures whole { LocatesPosition (hash_by S.BuildHasher S.Hasher.Hasher hasher.now) (T.list texts.now) self.now text.now result }
+    {
+        if self.has_read_home(hash) {
+            return self.locate_once(texts, hasher, hash, text);
+        }
+        self.locate_far(texts, hasher, hash, text)
     }
 
     /// Makes room for one more key. If there is none, the table gets twice the slots, or 8 if it had none,
@@ -295,5 +339,58 @@ impl<K: Key, A: Allocator> Index<K, A> {
             Scan::Ended(slot) => Err(Vacancy::at(slot)),
             Scan::Passed => unreachable!(),
         }
+    }
+
+    // What `locate_once` returns: that of the group at the home slot, or else of the whole search.
+    #[inline(always)]
+    fn search_group<T: Texts, S: BuildHasher>(
+        &self,
+        texts: &T,
+        hasher: &S,
+        hash: u64,
+        text: &str,
+    ) -> Result<usize, Vacancy>
+        requires hashed { hash ≡ hash_by S.BuildHasher S.Hasher.Hasher hasher.now text.now }
+        requires filed { IsFiled (hash_by S.BuildHasher S.Hasher.Hasher hasher.now) (T.list texts.now) self.now }
+        ensures found { IfOk result (λ n. Holds self.now.slots n × (slice_get (T.list texts.now) n ≡ Some text.now)) }
+        ensures missing { IfErr result (λ _. (n : ℕ) → Holds self.now.slots n → slice_get (T.list texts.now) n ≢ Some text.now) }
+        ensures vacant { IfErr result (λ vacancy. IsVacancy hash vacancy self.now.slots) }
+    {
+        let count = self.slots.len();
+        if count == 0 {
+            return Err(Vacancy::at(0));
+        }
+        let home = home_slot(hash, count);
+        match scan_group(&self.slots, texts, text, fingerprint_of(hash), home) {
+            Some(Scan::Found(position)) => Ok(position),
+            Some(Scan::Ended(slot)) => Err(Vacancy::at(slot)),
+            _ => self.locate_far(texts, hasher, hash, text),
+        }
+    }
+
+    // `locate`, out of line: few searches by groups need it.
+    #[inline(never)]
+    fn locate_far<T: Texts, S: BuildHasher>(
+        &self,
+        texts: &T,
+        hasher: &S,
+        hash: u64,
+        text: &str,
+    ) -> Result<usize, Vacancy>
+        requires hashed { hash ≡ hash_by S.BuildHasher S.Hasher.Hasher hasher.now text.now }
+        requires filed { IsFiled (hash_by S.BuildHasher S.Hasher.Hasher hasher.now) (T.list texts.now) self.now }
+        ensures found { IfOk result (λ n. Holds self.now.slots n × (slice_get (T.list texts.now) n ≡ Some text.now)) }
+        ensures missing { IfErr result (λ _. (n : ℕ) → Holds self.now.slots n → slice_get (T.list texts.now) n ≢ Some text.now) }
+        ensures vacant { IfErr result (λ vacancy. IsVacancy hash vacancy self.now.slots) }
+        ensures whole { LocatesPosition (hash_by S.BuildHasher S.Hasher.Hasher hasher.now) (T.list texts.now) self.now text.now result }
+    {
+        self.locate(texts, hasher, hash, text)
+    }
+
+    // Reads the key at the home slot of the hash, which may mean nothing. Whether there is one.
+    #[inline(always)]
+    fn has_read_home(&self, hash: u64) -> bool {
+        let count = self.slots.len();
+        count != 0 && self.slots.has_read_key(home_slot(hash, count))
     }
 }

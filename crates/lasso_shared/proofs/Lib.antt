@@ -17,3 +17,4 @@ pub mod Walked
 pub mod Built
 pub mod ReadList
 pub mod Copied
+pub mod Now

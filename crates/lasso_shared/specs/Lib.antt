@@ -16,3 +16,4 @@ pub mod PassCalls
 pub mod Comparing
 pub mod LookUps
 pub mod OpenedTexts
+pub mod Now

@@ -19,6 +19,7 @@ mod limits;
 mod look;
 mod memory;
 mod new_text;
+mod now;
 mod open;
 pub mod parts;
 mod put;

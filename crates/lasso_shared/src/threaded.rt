@@ -20,6 +20,7 @@ mod limits;
 mod looking;
 mod makers;
 mod memory;
+mod now;
 mod plain;
 mod walking;
 

@@ -198,7 +198,7 @@ pub fn get_next<K: Key, S: BuildHasher, A: Allocator>(
 }
 
 /// `Rodeo::try_get_or_intern` for the next text of the batch. It may be another text than was looked ahead
-/// at. It has one call that interns, so that a program with one call of it has all of it in one function.
+/// at. A new text is appended in line, so that a program with one call of it has all of it in one function.
 #[inline(always)]
 pub fn intern_next<K: Key, S: BuildHasher, A: Allocator + Clone>(
     rodeo: &mut Rodeo<K, S, A>,
@@ -212,7 +212,7 @@ pub fn intern_next<K: Key, S: BuildHasher, A: Allocator + Clone>(
             return Ok(key);
         }
     }
-    let key = rodeo.try_get_or_intern(text)?;
+    let key = rodeo.intern_in_line(text)?;
     if batch.passes() {
         batch.pass();
     } else if batch.counts {

@@ -91,16 +91,19 @@ fn bytes_of_list_and_index(rt: HostRuntime) -> Result<(), Fail> {
     runs_as::<MicroSpur, SameState, _>(&rt, ROOMLESS, &ONE, PLAIN)
 }
 
-// Room for texts is made in cells alone, of which a chunk has 32, 32, 64, 128 and so on.
+// Room for texts is made in cells, of which a chunk has 32, 32, 64, 128 and so on. From 1024 texts on each of the
+// sixteen shards has an index, here of 256 slots of 5 bytes.
 #[test]
 fn bytes_of_room_for_texts(rt: HostRuntime) -> Result<(), Fail> {
-    static ROOMS: [(usize, usize); 6] = [
+    static ROOMS: [(usize, usize); 8] = [
         (0, 10),
         (1, 10 + 32 * 32),
         (32, 10 + 32 * 32),
         (33, 10 + 64 * 32),
         (65, 10 + 128 * 32),
         (300, 10 + 512 * 32),
+        (1023, 10 + 1024 * 32),
+        (2048, 10 + 2048 * 32 + 16 * 256 * 5),
     ];
     for (texts, bytes) in ROOMS.iter() {
         runs(

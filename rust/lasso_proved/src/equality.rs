@@ -38,3 +38,20 @@ impl<K, S> Eq for Rodeo<K, S> {}
 impl<K, S> Eq for RodeoReader<K, S> {}
 
 impl<K> Eq for RodeoResolver<K> {}
+
+#[cfg(feature = "threads")]
+use crate::ThreadedRodeo;
+
+#[cfg(feature = "threads")]
+equal! {
+    [K, S] ThreadedRodeo<K, S>: users == ThreadedRodeo<K, S>: users;
+    [K, S] ThreadedRodeo<K, S>: users == Rodeo<K, S>: handle;
+    [K, S] ThreadedRodeo<K, S>: users == RodeoReader<K, S>: handle;
+    [K, S] ThreadedRodeo<K, S>: users == RodeoResolver<K>: texts;
+    [K, S] Rodeo<K, S>: handle == ThreadedRodeo<K, S>: users;
+    [K, S] RodeoReader<K, S>: handle == ThreadedRodeo<K, S>: users;
+    [K, S] RodeoResolver<K>: texts == ThreadedRodeo<K, S>: users;
+}
+
+#[cfg(feature = "threads")]
+impl<K, S> Eq for ThreadedRodeo<K, S> {}

@@ -41,7 +41,7 @@ struct Lasso {
 /// `struct lasso_text`: where a lent text begins, and how many bytes it has.
 #[repr(C)]
 #[derive(Clone, Copy)]
-struct LassoText {
+pub(crate) struct LassoText {
     bytes: *const u8,
     length: usize,
 }
@@ -73,7 +73,7 @@ const NO_CODE_LEFT: u32 = 11;
 const NO_SUCH_TEXT: u32 = 13;
 
 /// What the status of a call says that may be refused.
-fn outcome(status: u32) -> LassoResult<()> {
+pub(crate) fn outcome(status: u32) -> LassoResult<()> {
     let kind = match status {
         DONE => return Ok(()),
         NO_MEMORY => LassoErrorKind::FailedAllocation,
@@ -87,13 +87,13 @@ fn outcome(status: u32) -> LassoResult<()> {
 /// A status that can't come: each text is UTF-8, and each handle has an interner once it is handed
 /// out.
 #[cold]
-fn unexpected(status: u32) -> ! {
+pub(crate) fn unexpected(status: u32) -> ! {
     panic!("liblasso returned the status {status}, which does not fit the call")
 }
 
 impl LassoText {
     /// No text: no bytes, at a pointer that is not null.
-    const NONE: Self = Self {
+    pub(crate) const NONE: Self = Self {
         bytes: ptr::NonNull::<u8>::dangling().as_ptr(),
         length: 0,
     };
@@ -104,7 +104,7 @@ impl LassoText {
     ///
     /// A handle has lent it, and the lifetime ends before that handle's next call that is not a
     /// reading call.
-    unsafe fn as_str<'a>(self) -> &'a str {
+    pub(crate) unsafe fn as_str<'a>(self) -> &'a str {
         // SAFETY: the bytes stay for as long as the caller promises (4).
         let bytes = unsafe { slice::from_raw_parts(self.bytes, self.length) };
         // SAFETY: they are UTF-8 (5).

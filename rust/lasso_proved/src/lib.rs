@@ -32,6 +32,8 @@
 mod equality;
 mod error;
 mod foreign;
+#[cfg(feature = "threads")]
+mod foreign_shared;
 mod interface;
 mod iter;
 mod keys;
@@ -41,6 +43,8 @@ mod resolver;
 mod rodeo;
 #[cfg(feature = "serialize")]
 mod serialize;
+#[cfg(feature = "threads")]
+mod threaded;
 
 pub use error::{LassoError, LassoErrorKind, LassoResult};
 pub use interface::{Interner, IntoReader, IntoReaderAndResolver, IntoResolver, Reader, Resolver};
@@ -50,3 +54,5 @@ pub use limits::{Capacity, MemoryLimits};
 pub use reader::RodeoReader;
 pub use resolver::RodeoResolver;
 pub use rodeo::Rodeo;
+#[cfg(feature = "threads")]
+pub use threaded::ThreadedRodeo;

@@ -1,5 +1,5 @@
 //! What a spine does if no bucket has room for a text: it adds one, or the limit refuses the text.
-ghost use Rattle.std.specs.Prelude.{◌≡◌, ◌≢◌, ◌+◌, ◌<◌, ◌≤◌, ◌^◌, ◌∷◌, [], length, Some, IfOk, IfErr, OnOk, OnErr};
+ghost use Rattle.std.specs.Prelude.{◌≡◌, ◌≢◌, ◌+◌, ◌<◌, ◌≤◌, ◌^◌, ◌∷◌, [], length, Some, IfOk, IfErr, IfSome, OnOk, OnErr};
 ghost use Rattle.lasso_parts.specs.declared.util.LassoErrorKind.TheVariants.{FailedAllocation, MemoryLimitReached};
 ghost use Rattle.lasso_log.specs.Buckets.{bucket_size};
 ghost use Rattle.lasso_log.specs.Charges.{AddsCharge, AddsChargeOf, IsRefusal, NotesCharge};
@@ -102,6 +102,27 @@ impl<K: Key> Log<K> {
         let shared = self.charge_with(rt, spine, bucket, pass);
         pass.prove_legal();
         Ok((range, shared))
+    }
+
+    /// A bucket of `size` bytes that no history has, and that no limit counts. The log owns its memory, and frees
+    /// it. It returns `None` if another thread is adding a bucket, and fails only out of memory
+    /// (`FailedAllocation`). It does not wait.
+    pub fn own_bucket(&self, alloc: Global, size: u64) -> LassoResult<Option<NewBucket>>
+        requires { size ≢ 0 }
+        ensures bucket { IfOk result (λ r. IfSome r (λ b. (b.site.era ≡ era_named self.now.chunks) × (b.size ≡ size) × (b.used ≡ 0))) }
+        ensures refused { IfErr result (λ error. error ≡ FailedAllocation) }
+    {
+        let Some((guard, mut holdings)) = self.memory.holdings.lock_now() else {
+            return Ok(None);
+        };
+        let made = NewBucket::with_capacity(
+            alloc,
+            self.memory.chunks.era(),
+            &mut holdings,
+            size as usize,
+        );
+        guard.put_back(holdings);
+        Ok(Some(made?))
     }
 
     // A bucket that no history has yet. The log owns its memory, and frees it.

@@ -1,12 +1,12 @@
 //! The spine: the numbers of the list and of the turns, which one thread at a time has, and the cells that it keeps.
 ghost use Rattle.std.specs.Prelude.{◌≡◌, ◌+◌, ◌-◌, ◌^◌, ◌<◌, ◌∷◌, ◌++◌, [], length};
-ghost use Rattle.std.specs.Prelude.{OnOk, OnErr, IfOk, IfErr, IfSome, IfNone, IsSome};
+ghost use Rattle.std.specs.Prelude.{OnOk, OnErr, IfOk, IfErr, IfSome, IfNone, IsFalse, IsSome, IsTrue};
 ghost use mathlib.Core.List.{IsPrefix};
 ghost use Rattle.lasso_parts.specs.declared.util.LassoErrorKind.TheVariants.{FailedAllocation};
 ghost use Rattle.lasso_parts.specs.Texts.{Fits};
 ghost use Rattle.lasso_log.specs.History.{Append, MayFollow, IsLegal};
 ghost use Rattle.lasso_log.specs.Notes.{Since, state, history};
-ghost use Rattle.lasso_log.specs.Views.{PassView, InternerId, SpineView, IsSamePass, IsSameSpine, IsAheadOf, TriesAppend, list_of, position_to_keep, seen};
+ghost use Rattle.lasso_log.specs.Views.{PassView, InternerId, SpineView, IsSamePass, IsSameSpine, IsAheadOf, IsAppended, TriesAppend, list_of, position_to_keep, seen};
 ghost use base.Fml.{Incl};
 ghost use Rattle.lasso_log.specs.Eras.{life};
 ghost use Rattle.lasso_log.specs.Chunks.{IsCellAt, era_named};
@@ -217,6 +217,41 @@ impl<K: Key> Log<K> {
         ensures list { list_of self.now pass.new.notes ≡ list_of self.now spine.old.notes ++ text.now ∷ [] }
     {
         self.append(rt, spine, pass, cell, Piece::from_static(text));
+    }
+
+    /// The same without waiting. Where `append` would wait it returns false, and nothing is appended; the cell is
+    /// given back.
+    pub fn append_now(
+        &self,
+        spine: &mut Spine<K>,
+        pass: &mut Pass<K>,
+        cell: KeptCell<K>,
+        text: StoredText,
+    ) -> bool
+        requires of { (pass.old.of ≡ self.now) × (spine.old.of ≡ self.now) × (cell ≡ self.now) }
+        requires lasts { Incl (life (era_named self.now.chunks)) text.until }
+        requires may { MayFollow K.key_at (state self.now.opening spine.old.notes) (Append text.text) }
+        ensures same { IsSamePass pass.new pass.old × (spine.new.of ≡ spine.old.of) }
+        ensures turns { spine.new.turns ≡ spine.old.turns }
+        ensures done { IsTrue result → IsAppended self.now pass.old pass.new spine.old spine.new text.text }
+        ensures refused { IsFalse result → (pass.new ≡ pass.old) × IsSameSpine spine.new spine.old }
+    {
+        let position = spine.len();
+        let Ok((chunk, item)) = self.memory.chunks.try_fill(position, text) else {
+            spine.give_back(cell);
+            return false;
+        };
+        let text = self
+            .memory
+            .chunks
+            .value(position, &chunk, &item)
+            .text(self.memory.chunks.era());
+        if self.try_append(spine, pass, text, (chunk, item)) {
+            cell.end();
+            return true;
+        }
+        spine.give_back(cell);
+        false
     }
 
     // Appends if the length is the spine's and the spine keeps a cell. Otherwise it does nothing.

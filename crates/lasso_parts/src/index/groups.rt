@@ -50,7 +50,8 @@ pub fn passed_over(fingerprints: &[u8], from: usize, to: usize, fingerprint: u8)
 #[inline(always)]
 pub fn first_in_group(fingerprints: &[u8], at: usize, fingerprint: u8) -> usize
     requires { at ≤ length fingerprints.now }
-    ensures { AreOthers fingerprints.now fingerprint at result }
+    ensures from { at ≤ result }
+    ensures others { AreOthers fingerprints.now fingerprint at result }
 {
     if fingerprints.len() - at < GROUP {
         at

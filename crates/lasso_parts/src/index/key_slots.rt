@@ -102,6 +102,19 @@ impl<K: Key, A: Allocator> KeySlots<K, A> {
         keys[j]
     }
 
+    /// Reads the slot's key before it is known whether the slot is empty, so that the processor waits for its memory and for
+    /// that of the fingerprints at once. Returns whether there is one; it may mean nothing.
+    #[inline(always)]
+    pub(crate) fn has_read_key(&self, j: usize) -> bool {
+        match &self.keys {
+            Some(keys) => match keys.get(j) {
+                Some(key) => key.into_usize() != usize::MAX,
+                None => false,
+            },
+            None => false,
+        }
+    }
+
     /// The key of the slot, or `None` if it is empty.
     pub fn get(&self, j: usize) -> Option<K>
         requires { j < length self.now.slots }

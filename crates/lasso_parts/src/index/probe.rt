@@ -19,6 +19,7 @@ const FINGERPRINT_SHIFT: u32 = 53;
 const FINGERPRINT_COUNT: u64 = 128;
 
 // What a walk over a range of slots tells.
+#[derive(Drop)]
 pub enum Scan {
     // The position of a key of the text.
     Found(usize),
@@ -90,7 +91,38 @@ pub fn scan_slots<K: Key, A: Allocator, T: Texts>(
     scan_further(slots, texts, text, fingerprint, j + 1, to)
 }
 
-// The same from a later slot on, out of line: few searches come so far.
+// What the sixteen slots from the home slot on tell, or `None` if they leave it open. The first slot that is empty or has the
+// fingerprint decides. It is found with no branch, so that a processor guesses right whatever slot a text is in, and goes on to
+// the next search meanwhile.
+#[inline(always)]
+pub fn scan_group<K: Key, A: Allocator, T: Texts>(
+    slots: &KeySlots<K, A>,
+    texts: &T,
+    text: &str,
+    fingerprint: u8,
+    home: usize,
+) -> Option<Scan>
+    requires in_list { AllInList (T.list texts.now) slots.now.slots }
+    requires fitting { HaveFingerprint (T.list texts.now) text.now fingerprint slots.now }
+    requires filled { 0 < fingerprint }
+    requires inside { home < length slots.now.slots }
+    ensures { IfSome result (Tells (T.list texts.now) text.now slots.now.slots home (length slots.now.slots)) }
+{
+    let fingerprints = slots.fingerprints();
+    let j = first_in_group(fingerprints, home, fingerprint);
+    if j >= slots.len() {
+        return None;
+    }
+    if let Some(position) = found_at(slots, texts, text, fingerprint, j) {
+        return Some(Scan::Found(position));
+    }
+    if fingerprints[j] == 0 {
+        return Some(Scan::Ended(j));
+    }
+    None
+}
+
+// What `scan_slots` tells, from a later slot on, out of line: few searches come so far.
 #[inline(never)]
 fn scan_further<K: Key, A: Allocator, T: Texts>(
     slots: &KeySlots<K, A>,

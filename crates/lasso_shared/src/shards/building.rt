@@ -28,8 +28,13 @@ pub(super) struct NewShards<K: Key, S: BuildHasher + Drop> {
 }
 
 impl<K: Key, S: BuildHasher + Drop> ShardTag<K, S> {
-    // The shards of an interner whose opening has `len` texts.
-    pub(super) fn shards(&mut self, alloc: Global, len: usize) -> LassoResult<NewShards<K, S>>
+    // The shards of an interner whose opening has `len` texts. The index of each has room for `room` texts.
+    pub(super) fn shards(
+        &mut self,
+        alloc: Global,
+        len: usize,
+        room: usize,
+    ) -> LassoResult<NewShards<K, S>>
         requires counted { len ≡ length (list_of self.old.log []) }
         requires distinct { IsDistinct (list_of self.old.log []) }
         requires fits { Fits K.key_at (length (list_of self.old.log [])) }
@@ -44,7 +49,7 @@ impl<K: Key, S: BuildHasher + Drop> ShardTag<K, S> {
         let mut counts = [0; 16];
         for number in 0..SHARDS {
             self.number = number;
-            let shard = self.shard(alloc, hashes.as_slice())?;
+            let shard = self.shard(alloc, hashes.as_slice(), room)?;
             counts[number] = shard.count;
             locks.push_reserved(TaggedRwLock::new(BoxedShard::around(alloc, shard)?, self));
         }
@@ -65,8 +70,9 @@ impl<K: Key, S: BuildHasher + Drop> ShardTag<K, S> {
         Ok(hashes)
     }
 
-    // The shard of the tag's number, of an interner whose opening's texts have these hashes.
-    fn shard(&self, alloc: Global, hashes: &[u64]) -> LassoResult<Shard<K, S>>
+    // The shard of the tag's number, of an interner whose opening's texts have these hashes. Its index has room for
+    // `room` texts.
+    fn shard(&self, alloc: Global, hashes: &[u64], room: usize) -> LassoResult<Shard<K, S>>
         requires hashes { hashes.now ≡ map (hash_by S.BuildHasher S.Hasher.Hasher self.now.hasher) (list_of self.now.log []) }
         requires distinct { IsDistinct (list_of self.now.log []) }
         requires fits { Fits K.key_at (length (list_of self.now.log [])) }
@@ -76,7 +82,7 @@ impl<K: Key, S: BuildHasher + Drop> ShardTag<K, S> {
     {
         let pass = self.log.pass();
         let texts = self.log.seen_texts(&pass);
-        let mut index = Index::new(alloc);
+        let mut index = Index::with_capacity(alloc, room)?;
         let mut count: u64 = 0;
         for position in 0..hashes.len() {
             let hash = hashes[position];

@@ -103,7 +103,7 @@ impl<K: Key, S: BuildHasher + Drop> Shards<K, S> {
 
     // The key of the text, if a hint of the pass tells its position. It takes no lock.
     #[inline(always)]
-    fn follow(&self, pass: &mut Pass<K>, hash: u64, text: &str) -> Option<K>
+    pub(super) fn follow(&self, pass: &mut Pass<K>, hash: u64, text: &str) -> Option<K>
         requires { pass.old.of ≡ self.now.log }
         ensures same { IsSamePass pass.new pass.old }
         ensures since { Since pass.old.number pass.old.notes pass.new.notes [] }

@@ -22,6 +22,12 @@ use lasso_single::room::one_bucket;
 use std::alloc::Global;
 use std::hash::BuildHasher;
 
+// For how many of `count` texts the index of a shard gets room: a sixteenth of them, and a sixteenth of that
+// more, since shards differ. For none if they are fewer than 1024.
+fn share_of(count: usize) -> usize {
+    count / 1024 * 68
+}
+
 impl<K: Key, S: BuildHasher + Drop> Shards<K, S> {
     /// The log, the first bucket, the locks and the spine of an interner that holds nothing. It fails only
     /// out of memory (`FailedAllocation`).
@@ -31,8 +37,24 @@ impl<K: Key, S: BuildHasher + Drop> Shards<K, S> {
         ensures hasher { IfOk result (λ s. s.hasher ≡ hasher) }
         ensures refused { IfErr result (λ error. error ≡ FailedAllocation) }
     {
+        Shards::open_for(alloc, hasher, first, 0)
+    }
+
+    /// The same, where the index of each shard has room for its share of `count` texts. If these are
+    /// fewer than 1024, it has none, and grows.
+    pub fn open_for(
+        alloc: Global,
+        hasher: S,
+        first: Opened,
+        count: usize,
+    ) -> LassoResult<Shards<K, S>>
+        requires { first.size ≢ 0 }
+        ensures opening { IfOk result (λ s. s.log.opening ≡ opened [] first.size 0 first.limit) }
+        ensures hasher { IfOk result (λ s. s.hasher ≡ hasher) }
+        ensures refused { IfErr result (λ error. error ≡ FailedAllocation) }
+    {
         let texts = OpeningTexts::new(alloc, first.size as usize)?;
-        Shards::open_with(alloc, hasher, texts, first.limit)
+        Shards::open_with(alloc, hasher, texts, first.limit, share_of(count))
     }
 
     /// The same of an interner that opens with the texts of a distinct list that fits the keys, in order, all
@@ -55,15 +77,17 @@ impl<K: Key, S: BuildHasher + Drop> Shards<K, S> {
             };
             opening.push(alloc, piece)?;
         }
-        Shards::open_with(alloc, hasher, opening, u64::MAX)
+        Shards::open_with(alloc, hasher, opening, u64::MAX, 0)
     }
 
-    // Opens the log with these texts, their bucket and a limit, and makes the list of buckets and the locks.
+    // Opens the log with these texts, their bucket and a limit, and makes the list of buckets and the locks. The
+    // index of each shard has room for `room` texts.
     fn open_with(
         alloc: Global,
         hasher: S,
         texts: OpeningTexts,
         limit: u64,
+        room: usize,
     ) -> LassoResult<Shards<K, S>>
         requires distinct { IsDistinct texts.texts }
         requires fits { Fits K.key_at (length texts.texts) }
@@ -79,7 +103,7 @@ impl<K: Key, S: BuildHasher + Drop> Shards<K, S> {
             hasher,
             number: 0,
         };
-        let NewShards { locks, counts } = tag.shards(alloc, spine.len() as usize)?;
+        let NewShards { locks, counts } = tag.shards(alloc, spine.len() as usize, room)?;
         let tally = BoxedTally::new(alloc, spine, counts)?;
         let spine = TaggedMutex::new(tally, &tag);
         let ShardTag {

@@ -39,8 +39,8 @@ impl<K: Key> ThreadedRodeo<K, FixedState> {
     }
 
     /// An interner of default limit, whose first bucket has the bytes of `capacity`. Its texts are a hint:
-    /// the log has cells for them, and the shards' indexes grow. It fails only out of memory
-    /// (`FailedAllocation`).
+    /// the log has cells for them, and if they are many, the shards' indexes have room for them. It fails only
+    /// out of memory (`FailedAllocation`).
     ///
     /// ```rust
     /// let capacity = Capacity::new(1000, 65536);
@@ -163,7 +163,7 @@ impl<K: Key, S: BuildHasher + Drop> ThreadedRodeo<K, S> {
             size: capacity.bytes() as u64,
             limit: limits.max_memory_usage() as u64,
         };
-        let shards = Shards::open(alloc, hasher, first)?;
+        let shards = Shards::open_for(alloc, hasher, first, capacity.strings())?;
         shards.log.make_cells(alloc, capacity.strings() as u64)?;
         Ok(ThreadedRodeo { shards })
     }

@@ -1,7 +1,9 @@
 //! The calls of a `Rodeo` that intern a text.
-ghost use Rattle.std.specs.Prelude.{◌≡◌, ◌+◌, ◌++◌, ◌∷◌, ◌⊎◌, ◌↔◌, [], ℕ, Some, false, length, IsTrue};
+ghost use Rattle.std.specs.Prelude.{◌≡◌, ◌+◌, ◌++◌, ◌∷◌, ◌⊎◌, ◌↔◌, [], ℕ, Some, None, false, length, IsTrue};
 ghost use Rattle.lasso_parts.specs.Account.{store};
-ghost use Rattle.lasso_parts.specs.Index.{Holds, IsVacancy, StaysFiled, used};
+ghost use Rattle.lasso_parts.specs.Hashing.{hash_by};
+ghost use Rattle.lasso_parts.specs.Index.{Holds, IsIndexOf, IsVacancy, StaysFiled, used};
+ghost use Rattle.lasso_parts.specs.Texts.{Fits, position_of};
 ghost use Rattle.lasso_single.specs.Intern.{InternsIn, InternsStaticIn};
 ghost use Rattle.lasso_single.specs.Interner.{KeepsOrigin};
 
@@ -30,26 +32,40 @@ impl<K: Key, S: BuildHasher, A: Allocator + Clone> Rodeo<K, S, A> {
         ensures { InternsIn K.key_at self.old text.now result self.new }
     {
         let hash = hash_text(&self.hasher, text);
-        let found = self.index.locate(&self.list, &self.hasher, hash, text);
-        let vacancy = match found {
-            Ok(position) => return Ok(K::try_from_usize(position).unwrap()),
-            Err(vacancy) => vacancy,
-        };
-        let Some(key) = K::try_from_usize(self.list.len()) else {
-            return Err(LassoError::new(LassoErrorKind::KeySpaceExhaustion));
-        };
-        if push_in_room(&mut self.list, &mut self.index, text, hash, vacancy, key) {
-            return Ok(key);
-        }
-        if !self.list.admits(text.len()) {
-            return Err(LassoError::new(LassoErrorKind::MemoryLimitReached));
-        }
-        let vacancy = self
+        let found = self
             .index
-            .reserve_in_order(&self.list, &self.hasher, hash, vacancy)?;
-        self.list.push_growing(text)?;
-        self.index.insert_at(vacancy, hash, key);
-        Ok(key)
+            .locate_or_insert(&self.list, &self.hasher, hash, text);
+        match found {
+            Ok(position) => Ok(K::try_from_usize(position).unwrap()),
+            Err(vacancy) => append_apart(
+                &mut self.list,
+                &mut self.index,
+                &self.hasher,
+                text,
+                hash,
+                vacancy,
+            ),
+        }
+    }
+
+    // The same call for a loop over many texts: all of it in line, and by the search that gains where few texts come often.
+    #[inline(always)]
+    pub(crate) fn intern_in_line(&mut self, text: &str) -> LassoResult<K>
+        ensures { InternsIn K.key_at self.old text.now result self.new }
+    {
+        let hash = hash_text(&self.hasher, text);
+        let found = self.index.locate(&self.list, &self.hasher, hash, text);
+        match found {
+            Ok(position) => Ok(K::try_from_usize(position).unwrap()),
+            Err(vacancy) => append(
+                &mut self.list,
+                &mut self.index,
+                &self.hasher,
+                text,
+                hash,
+                vacancy,
+            ),
+        }
     }
 
     /// Returns the text's key, and appends the text first if it is new: the same call as `try_get_or_intern`,
@@ -114,6 +130,59 @@ impl<K: Key, S: BuildHasher, A: Allocator + Clone> Rodeo<K, S, A> {
     {
         self.try_get_or_intern_static(text)
     }
+}
+
+// Appends a text that is absent, and puts its key in the index at the vacancy where the text was not found. If it is refused,
+// nothing changes.
+#[inline(always)]
+fn append<K: Key, S: BuildHasher, A: Allocator + Clone>(
+    list: &mut TextList<A>,
+    index: &mut Index<K, A>,
+    hasher: &S,
+    text: &str,
+    hash: u64,
+    vacancy: Vacancy,
+) -> LassoResult<K>
+    requires whole { IsIndexOf (hash_by S.BuildHasher S.Hasher.Hasher hasher.now) list.old.texts index.old × Fits K.key_at (length list.old.texts) }
+    requires hashed { hash ≡ hash_by S.BuildHasher S.Hasher.Hasher hasher.now text.now }
+    requires absent { position_of list.old.texts text.now ≡ None }
+    requires vacant { IsVacancy hash vacancy index.old.slots }
+    ensures interned { InternsIn K.key_at list.old text.now result list.new }
+    ensures whole { IsIndexOf (hash_by S.BuildHasher S.Hasher.Hasher hasher.now) list.new.texts index.new × Fits K.key_at (length list.new.texts) }
+{
+    let Some(key) = K::try_from_usize(list.len()) else {
+        return Err(LassoError::new(LassoErrorKind::KeySpaceExhaustion));
+    };
+    if push_in_room(list, index, text, hash, vacancy, key) {
+        return Ok(key);
+    }
+    if !list.admits(text.len()) {
+        return Err(LassoError::new(LassoErrorKind::MemoryLimitReached));
+    }
+    let place = index.reserve_in_order(list, hasher, hash, vacancy)?;
+    list.push_growing(text)?;
+    index.insert_at(place, hash, key);
+    Ok(key)
+}
+
+// The same out of line, so that a call which finds its text is short.
+#[inline(never)]
+fn append_apart<K: Key, S: BuildHasher, A: Allocator + Clone>(
+    list: &mut TextList<A>,
+    index: &mut Index<K, A>,
+    hasher: &S,
+    text: &str,
+    hash: u64,
+    vacancy: Vacancy,
+) -> LassoResult<K>
+    requires whole { IsIndexOf (hash_by S.BuildHasher S.Hasher.Hasher hasher.now) list.old.texts index.old × Fits K.key_at (length list.old.texts) }
+    requires hashed { hash ≡ hash_by S.BuildHasher S.Hasher.Hasher hasher.now text.now }
+    requires absent { position_of list.old.texts text.now ≡ None }
+    requires vacant { IsVacancy hash vacancy index.old.slots }
+    ensures interned { InternsIn K.key_at list.old text.now result list.new }
+    ensures whole { IsIndexOf (hash_by S.BuildHasher S.Hasher.Hasher hasher.now) list.new.texts index.new × Fits K.key_at (length list.new.texts) }
+{
+    append(list, index, hasher, text, hash, vacancy)
 }
 
 // Copies the text to the end of the list and puts its key in the index, where the list, its bucket and the index need not

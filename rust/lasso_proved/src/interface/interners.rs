@@ -97,3 +97,51 @@ impl<K: Key, S: BuildHasher> IntoReader<K> for Rodeo<K, S> {
 }
 
 impl<K: Key, S: BuildHasher> IntoReaderAndResolver<K> for Rodeo<K, S> {}
+
+#[cfg(feature = "threads")]
+mod threads {
+    use super::*;
+    use crate::ThreadedRodeo;
+
+    resolves!([S] ThreadedRodeo<K, S>);
+    reads!(ThreadedRodeo);
+
+    macro_rules! interns {
+        ($name:ty) => {
+            impl<K: Key, S: BuildHasher> Interner<K> for $name {
+                fn get_or_intern(&mut self, val: &str) -> K {
+                    ThreadedRodeo::get_or_intern(self, val)
+                }
+
+                fn try_get_or_intern(&mut self, val: &str) -> LassoResult<K> {
+                    ThreadedRodeo::try_get_or_intern(self, val)
+                }
+
+                fn get_or_intern_static(&mut self, val: &'static str) -> K {
+                    ThreadedRodeo::get_or_intern(self, val)
+                }
+
+                fn try_get_or_intern_static(&mut self, val: &'static str) -> LassoResult<K> {
+                    ThreadedRodeo::try_get_or_intern(self, val)
+                }
+            }
+        };
+    }
+
+    interns!(ThreadedRodeo<K, S>);
+    interns!(&ThreadedRodeo<K, S>);
+
+    impl<K: Key, S: BuildHasher> IntoReader<K> for ThreadedRodeo<K, S> {
+        type Reader = RodeoReader<K, S>;
+
+        fn into_reader(self) -> Self::Reader {
+            self.into_reader()
+        }
+
+        fn into_reader_boxed(self: Box<Self>) -> Self::Reader {
+            (*self).into_reader()
+        }
+    }
+
+    impl<K: Key, S: BuildHasher> IntoReaderAndResolver<K> for ThreadedRodeo<K, S> {}
+}

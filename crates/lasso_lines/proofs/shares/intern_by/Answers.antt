@@ -1,11 +1,11 @@
-use Rattle.std.proofs.Common.{ℕ, ◌≡◌, ◌+◌, ◌*◌, ◌∷◌, ◌∙◌, [], List, length, ap, sym, subst, arith}
+use Rattle.std.proofs.Common.{ℕ, ◌≡◌, ◌+◌, ◌-◌, ◌*◌, ◌∷◌, ◌∙◌, [], List, length, ap, sym, subst, arith}
 use Rattle.std.proofs.lemmas.Result.{err_from_is_err_and}
 use Rattle.lasso_parts.specs.Texts.{Text}
 use Rattle.lasso_input.specs.Lines.{lines_of}
 use Rattle.lasso_log.specs.Views.{list_of, seen}
-use Rattle.lasso_lines.specs.Shares.{AddsCode, HasCodes, IsRefusalIn, line_at}
+use Rattle.lasso_lines.specs.Shares.{AddsCode, IsRefusalIn, line_at}
 use Rattle.lasso_lines.proofs.Lowest.{still_there, lines_coded}
-use Rattle.lasso_lines.proofs.Turns.{Worked, worked_none, next_utf8, worked_past, turn_inside, turn_number, turn_line, worked_more, worked_all}
+use Rattle.lasso_lines.proofs.Turns.{Worked, worked_none, next_utf8, worked_past, worked_skip, turn_inside, turn_number, turn_line, worked_more, worked_all}
 use Rattle.lasso_lines.proofs.shares.intern_by.Goals as goal
 
 pub loop-line-init : goal.loop-line-init
@@ -35,6 +35,7 @@ loop-line-preserved-then-others-gt0 g c =
           (omega arith);
     }
 
+-- the worker's own line, and then others that are passed over
 pub loop-line-preserved : goal.loop-line-preserved
 loop-line-preserved g c =
     let before = list_of c.args.rodeo.now c.loop-line.pass.notes in
@@ -45,11 +46,16 @@ loop-line-preserved g c =
     let codes' = c.intern_line.new.codes.items in
     let now = subst (λ (ls : List Text). Worked before lines ls c.args.worker c.args.workers c.loop-line.next c.loop-line.others codes) c.in-Some.ensures.lines c.loop-line.invariant.worked in
     let adds = subst (AddsCode before codes after codes') c.in-Ok.ensures.0 c.in_ok-intern_line.ensures.coded in
+    let own =
+    worked_more before lines more c.in-Some.line c.args.worker c.args.workers c.loop-line.next c.loop-line.others codes now (omega (arith, c.if-others-gt0.false)) after _ (c.args.workers - 1) codes' c.requires.some
+    c.next_number-next.ensures (omega arith) (omega (arith, c.in_ok-intern_line.ensures.one, c.intern_line.new.codes.ok.0, c.loop-line.codes.ok.0)) adds in
+    let skip = c.skip-skipped.ensures.skipped in
+    let left = subst (λ (ls : List Text). Worked after lines ls c.args.worker c.args.workers c.next_number-next.result (c.args.workers - 1) codes') skip.2 own in
     record {
       of = c.in_ok-intern_line.ensures.of;
       worked =
-          worked_more before lines more c.in-Some.line c.args.worker c.args.workers c.loop-line.next c.loop-line.others codes now (omega (arith, c.if-others-gt0.false)) after _ _ codes' c.requires.some
-          c.next_number-next.ensures (omega arith) (omega (arith, c.in_ok-intern_line.ensures.one, c.intern_line.new.codes.ok.0, c.loop-line.codes.ok.0)) adds;
+          worked_skip after lines skip.0 (lines_of c.skip-skipped.new.self) c.args.worker c.args.workers c.next_number-next.result (c.args.workers - 1) codes' left
+          _ _ (c.later_number-next.ensures ∙ ap (λ n. c.next_number-next.result + n) (sym skip.1)) (omega (arith, skip.1, c.skip-skipped.ensures.most));
     }
 
 pub returns-clause-codes : goal.returns-clause-codes

@@ -10,7 +10,7 @@ pub returns-in-Ok-push-clause-coded : goal.returns-in-Ok-push-clause-coded
 returns-in-Ok-push-clause-coded g c = λ texts are.
     let list = list_of c.args.rodeo.now c.try_get_or_intern_as.new.pass.notes in
     let more = shared_push c.args.rodeo.now.opening (seen c.args.pass.now) (seen c.try_get_or_intern_as.new.pass) c.args.pass.now.number texts c.args.line.now c.args.codes.now.items c.in-Ok.key are c.in-Ok.ensures.call in
-    let put = c.in-Ok-push.ensures.items ∙ ap (λ code. c.args.codes.now.items ++ code ∷ []) c.into_position.ensures.position in
+    let put = c.in-Ok-push.ensures.items ∙ ap (λ code. c.args.codes.now.items ++ code ∷ []) c.into_position-position.ensures.position in
     subst (λ (cs : List ℕ). AreCodes list (texts ++ c.args.line.now ∷ []) cs) (sym put) more
 
 pub returns-in-Err-clause-reason : goal.returns-in-Err-clause-reason

@@ -17,17 +17,17 @@ use Rattle.lasso_lines.proofs.workers.run_workers.Goals as goal
 pub returns-clause-lines : goal.returns-clause-lines
 returns-clause-lines g c = λ input left.
     let list = list_of c.in_ok-rodeo.rodeo c.intern_lines.new.pass.notes in
-    let whole = c.deref.ensures.value ∙ c.in_ok-read_all.ensures.bytes input left ∙ ap (λ bs. bs ++ input) c.new-input.ensures.items in
+    let whole = c.deref-2.ensures.value ∙ c.in_ok-read_all.ensures.bytes input left ∙ ap (λ bs. bs ++ input) c.new-input.ensures.items in
     let of_lines = subst (λ (ls : List Text). AreCodesOf list ls c.in_ok-codes.codes.items) (ap lines_of whole) c.in_ok-codes.ensures.codes in
-    let coded = subst (λ (cs : List ℕ). AreCodesOf list (lines_of input) cs) (sym c.deref-2.ensures.value) of_lines in
+    let coded = subst (λ (cs : List ℕ). AreCodesOf list (lines_of input) cs) (sym c.deref-3.ensures.value) of_lines in
     writes_lines list _ (lines_of input) _ c.write_in_order.ensures.grows coded _ _ _ c.write_in_order.result c.flush_all.ensures.written c.write_in_order.ensures.texts
 
 pub returns-clause-begins : goal.returns-clause-begins
 returns-clause-begins g c = λ input left.
     let list = list_of c.in_ok-rodeo.rodeo c.intern_lines.new.pass.notes in
-    let whole = c.deref.ensures.value ∙ c.in_ok-read_all.ensures.bytes input left ∙ ap (λ bs. bs ++ input) c.new-input.ensures.items in
+    let whole = c.deref-2.ensures.value ∙ c.in_ok-read_all.ensures.bytes input left ∙ ap (λ bs. bs ++ input) c.new-input.ensures.items in
     let of_lines = subst (λ (ls : List Text). AreCodesOf list ls c.in_ok-codes.codes.items) (ap lines_of whole) c.in_ok-codes.ensures.codes in
-    let coded = subst (λ (cs : List ℕ). AreCodesOf list (lines_of input) cs) (sym c.deref-2.ensures.value) of_lines in
+    let coded = subst (λ (cs : List ℕ). AreCodesOf list (lines_of input) cs) (sym c.deref-3.ensures.value) of_lines in
     begins_lines list _ (lines_of input) _ c.write_in_order.ensures.grows coded _ _ _ c.write_in_order.result c.flush_all.ensures.written c.write_in_order.ensures.begins
 
 pub returns-clause-delivered : goal.returns-clause-delivered
@@ -65,14 +65,14 @@ returns-in_err-rodeo-clause-refused g c = λ input left.
 pub returns-in_err-codes-clause-fault : goal.returns-in_err-codes-clause-fault
 returns-in_err-codes-clause-fault g c = λ input left.
     let p = err_from_is_err_and c.from_residual-in_err-codes.result c.from_residual-in_err-codes.ensures.1 in
-    let whole = c.deref.ensures.value ∙ c.in_ok-read_all.ensures.bytes input left ∙ ap (λ bs. bs ++ input) c.new-input.ensures.items in
+    let whole = c.deref-2.ensures.value ∙ c.in_ok-read_all.ensures.bytes input left ∙ ap (λ bs. bs ++ input) c.new-input.ensures.items in
     rw (p.1, p.2) (subst (λ (bs : List ℕ). IsFaultOf (lines_of bs) c.in_err-codes.field-0.0) whole c.in_err-codes.ensures.told)
 
 -- the history that the pass has seen explains it
 pub returns-in_err-codes-clause-refused : goal.returns-in_err-codes-clause-refused
 returns-in_err-codes-clause-refused g c = λ input left.
     let p = err_from_is_err_and c.from_residual-in_err-codes.result c.from_residual-in_err-codes.ensures.1 in
-    let whole = c.deref.ensures.value ∙ c.in_ok-read_all.ensures.bytes input left ∙ ap (λ bs. bs ++ input) c.new-input.ensures.items in
+    let whole = c.deref-2.ensures.value ∙ c.in_ok-read_all.ensures.bytes input left ∙ ap (λ bs. bs ++ input) c.new-input.ensures.items in
     let past = seen c.intern_lines.new.pass in
     let fault = c.in_err-codes.field-0.0 in
     let of_input = subst (λ (bs : List ℕ). IsExplainedIn c.in_ok-rodeo.rodeo.opening past (lines_of bs) fault) whole c.in_err-codes.ensures.refused in
@@ -91,5 +91,5 @@ returns-clause-refused g c = λ input left. end_explained c.args.limits (lines_o
 
 pub returns-clause-texts : goal.returns-clause-texts
 returns-clause-texts g c = λ input left.
-    let whole = c.deref.ensures.value ∙ c.in_ok-read_all.ensures.bytes input left ∙ ap (λ bs. bs ++ input) c.new-input.ensures.items in
+    let whole = c.deref-2.ensures.value ∙ c.in_ok-read_all.ensures.bytes input left ∙ ap (λ bs. bs ++ input) c.new-input.ensures.items in
     where_ok (AreTexts (lines_of input)) c.write_in_order.result (subst (λ (bs : List ℕ). AreTexts (lines_of bs)) whole c.in_ok-codes.ensures.texts)

@@ -30,6 +30,6 @@ impl<K: Key, S: BuildHasher + Drop> Shards<K, S> {
         for keyword in keywords {
             opening.push(alloc, Piece::from_static(keyword))?;
         }
-        Shards::open_with(alloc, hasher, opening, u64::MAX)
+        Shards::open_with(alloc, hasher, opening, u64::MAX, 0)
     }
 }

@@ -14,7 +14,7 @@ use Rattle.lasso_shared.proofs.shards.tag.ShardTag.shard.Goals as goal
 pub loop-position-init : goal.loop-position-init
 loop-position-init g c =
     let hash_of = hash_by g.S.BuildHasher g.S.Hasher.Hasher c.args.self.now.hasher in record {
-      exact = none_yet hash_of c.args.self.now.number [] c.new-index.result refl c.new-index.ensures.empty c.new-index.ensures.filed;
+      exact = none_yet hash_of c.args.self.now.number [] c.in_ok-index.index refl c.in_ok-index.ensures.empty c.in_ok-index.ensures.filed;
       counts = refl;
     }
 

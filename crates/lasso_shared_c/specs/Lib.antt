@@ -1,0 +1,5 @@
+pub mod Ascii
+pub mod Held
+pub mod Lending
+pub mod Members
+pub mod Passes

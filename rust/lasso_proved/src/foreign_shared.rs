@@ -1,0 +1,176 @@
+//! The library's shared interner: the calls that `lasso_shared.h` declares, and a pool of handles.
+//!
+//! No other file makes these calls. The points of `foreign.rs` hold here, but for these.
+//!
+//! 2. *One call at a time.* Each handle is under a lock of its own. Calls with different handles
+//!    may run at once.
+//! 4. *Texts.* A text that `lasso_shared_text` lends stays where it is, with the same bytes, until
+//!    the last handle of the interner is freed. All of them are in one [`Users`], so a `&str` that
+//!    borrows it is good. It is trusted that later calls leave texts alone: what is proved of the
+//!    library covers a lent text until the next call with its handle.
+
+use crate::error::or_panic;
+use crate::foreign::{outcome, unexpected, LassoText};
+use crate::iter::TextList;
+use crate::LassoResult;
+use std::cell::Cell;
+use std::ffi::c_void;
+use std::panic::RefUnwindSafe;
+use std::sync::atomic::{AtomicUsize, Ordering};
+use std::sync::{Mutex, MutexGuard, PoisonError};
+use std::{ptr, thread};
+
+/// `struct lasso_shared`: a user of an interner, or none.
+#[repr(C)]
+struct Shared {
+    at: *mut c_void,
+    live: bool,
+}
+
+extern "C" {
+    fn lasso_shared_new(user: *mut Shared) -> u32;
+    fn lasso_shared_join(user: *mut Shared, other: *mut Shared) -> u32;
+    fn lasso_shared_intern(user: *mut Shared, text: *const u8, len: usize, code: *mut u32) -> u32;
+    fn lasso_shared_get(user: *mut Shared, text: *const u8, len: usize, code: *mut u32) -> u32;
+    fn lasso_shared_see(user: *mut Shared) -> u32;
+    fn lasso_shared_text(user: *mut Shared, code: u32, text: *mut LassoText) -> u32;
+    fn lasso_shared_len(user: *mut Shared) -> usize;
+    fn lasso_shared_free(user: *mut Shared);
+}
+
+const DONE: u32 = 0;
+const NO_SUCH_CODE: u32 = 4;
+const NO_SUCH_TEXT: u32 = 13;
+const BUSY: u32 = 15;
+
+/// A handle.
+struct User(Shared);
+
+// SAFETY: calls may come from any thread, one at a time (2).
+unsafe impl Send for User {}
+
+impl User {
+    const NONE: Self = Self(Shared {
+        at: ptr::null_mut(),
+        live: false,
+    });
+}
+
+impl Drop for User {
+    fn drop(&mut self) {
+        // SAFETY: a handle that is used no more (1, 2).
+        unsafe { lasso_shared_free(&mut self.0) }
+    }
+}
+
+// How many handles an interner has at most. Threads beyond that share them.
+const SEATS: usize = 32;
+
+static NEXT_SEAT: AtomicUsize = AtomicUsize::new(0);
+
+thread_local! {
+    static SEAT: Cell<usize> = Cell::new(NEXT_SEAT.fetch_add(1, Ordering::Relaxed) % SEATS);
+}
+
+// A lock on lines of memory of its own.
+#[repr(align(128))]
+struct Seat(Mutex<User>);
+
+/// The handles of one interner: each thread mostly uses one that no other thread uses.
+pub(crate) struct Users {
+    seats: Box<[Seat]>,
+}
+
+impl RefUnwindSafe for Users {}
+
+impl Users {
+    /// An interner without texts. The only error is `FailedAllocation`.
+    pub(crate) fn new() -> LassoResult<Self> {
+        let users = Self {
+            seats: (0..=SEATS).map(|_| Seat(Mutex::new(User::NONE))).collect(),
+        };
+        // SAFETY: a handle of this function's (1, 2).
+        outcome(unsafe { lasso_shared_new(&mut lock(&users.seats[SEATS]).0) })?;
+        Ok(users)
+    }
+
+    /// The calling thread's handle. It is made when it is first used.
+    #[inline]
+    fn user(&self) -> LassoResult<MutexGuard<'_, User>> {
+        let mut user = lock(&self.seats[SEAT.with(Cell::get)]);
+        if !user.0.live {
+            // The last seat's holder waits for no other seat.
+            let mut first = lock(&self.seats[SEATS]);
+            // SAFETY: two handles, under their locks (1, 2).
+            outcome(unsafe { lasso_shared_join(&mut first.0, &mut user.0) })?;
+        }
+        Ok(user)
+    }
+
+    /// The code of a text, which is appended if it is absent.
+    #[inline]
+    pub(crate) fn intern(&self, text: &str) -> LassoResult<u32> {
+        let (mut user, mut code) = (self.user()?, 0);
+        loop {
+            // SAFETY: a handle under its lock, a text, and a variable (1, 2).
+            let status =
+                unsafe { lasso_shared_intern(&mut user.0, text.as_ptr(), text.len(), &mut code) };
+            if status != BUSY {
+                return outcome(status).map(|()| code);
+            }
+            thread::yield_now();
+        }
+    }
+
+    /// The code of a text, or `None` if it is absent.
+    #[inline]
+    pub(crate) fn get(&self, text: &str) -> LassoResult<Option<u32>> {
+        let (mut user, mut code) = (self.user()?, 0);
+        loop {
+            // SAFETY: a handle under its lock, a text, and a variable (1, 2).
+            let status =
+                unsafe { lasso_shared_get(&mut user.0, text.as_ptr(), text.len(), &mut code) };
+            match status {
+                DONE => return Ok(Some(code)),
+                NO_SUCH_TEXT => return Ok(None),
+                BUSY => thread::yield_now(),
+                other => unexpected(other),
+            }
+        }
+    }
+}
+
+fn lock(seat: &Seat) -> MutexGuard<'_, User> {
+    seat.0.lock().unwrap_or_else(PoisonError::into_inner)
+}
+
+impl TextList for Users {
+    fn len(&self) -> usize {
+        let mut user = or_panic(self.user());
+        // SAFETY: a handle under its lock (1, 2).
+        unsafe { lasso_shared_len(&mut user.0) }
+    }
+
+    #[inline]
+    fn text(&self, position: usize) -> Option<&str> {
+        let code = u32::try_from(position).ok()?;
+        let mut user = or_panic(self.user());
+        let mut text = LassoText::NONE;
+        // SAFETY: a handle under its lock, and a variable that holds a good text (1, 2).
+        let mut status = unsafe { lasso_shared_text(&mut user.0, code, &mut text) };
+        if status == NO_SUCH_CODE {
+            // The handle's list may be old.
+            // SAFETY: the same.
+            status = unsafe {
+                lasso_shared_see(&mut user.0);
+                lasso_shared_text(&mut user.0, code, &mut text)
+            };
+        }
+        match status {
+            // SAFETY: a handle has lent it, and `self` is borrowed as long as the `str` is used (4).
+            DONE => Some(unsafe { text.as_str() }),
+            NO_SUCH_CODE => None,
+            other => unexpected(other),
+        }
+    }
+}
