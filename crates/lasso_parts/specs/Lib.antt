@@ -7,6 +7,7 @@ pub mod Sizes
 pub mod Kept
 pub mod Spurs
 pub mod Hashing
+pub mod TextHash
 pub mod Index
 pub mod IndexTable
 pub mod KeySlots

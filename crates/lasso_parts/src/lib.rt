@@ -8,6 +8,7 @@ pub mod bucket;
 mod chunks;
 pub mod entries;
 pub mod guessing;
+pub mod hasher;
 pub mod index;
 pub mod iter;
 pub mod json;

@@ -3,14 +3,14 @@ ghost use Rattle.std.specs.Prelude.{◌≡◌, ◌<◌, ◌^◌, ◌-◌, ◌↔
 ghost use Rattle.lasso_parts.specs.Errors.{kind_text, error_text};
 ghost use Rattle.lasso_parts.specs.declared.util.LassoErrorKind.TheVariants.{FailedAllocation};
 
+use crate::hasher::TextState;
 use std::alloc::{AllocError, AllocFailed};
 use std::error::Error;
 use std::fmt;
-use std::hash::{BuildHasherDefault, FoldHasher};
 use std::marker::Model;
 
-/// The hasher of the makers that name none. Its seed is fixed.
-pub type FixedState = BuildHasherDefault<FoldHasher>;
+/// The hasher of the constructors that name none. `FixedState::new()` has the fixed seed.
+pub type FixedState = TextState;
 
 /// The result of a call that may fail.
 pub type LassoResult<T> = Result<T, LassoError>;

@@ -17,6 +17,8 @@ pub mod counts;
 #[cfg(test)]
 mod entries;
 #[cfg(test)]
+mod hasher;
+#[cfg(test)]
 mod index;
 #[cfg(test)]
 mod json;
