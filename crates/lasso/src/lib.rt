@@ -59,13 +59,14 @@ pub use interface::{
 };
 pub use lasso_log::log::{Pass, Snapshot};
 pub use lasso_log::{log, shared_memory};
+pub use lasso_parts::hasher::{TextHasher, TextState};
 pub use lasso_parts::iter::{Iter, Strings};
 pub use lasso_parts::json::{JsonError, JsonKey};
 pub use lasso_parts::keys::{Key, LargeSpur, MicroSpur, MiniSpur, Spur};
 pub use lasso_parts::util::{
     Capacity, FixedState, LassoError, LassoErrorKind, LassoResult, MemoryLimits,
 };
-pub use lasso_parts::{arena, bucket, entries, index, iter, json, keys, util};
+pub use lasso_parts::{arena, bucket, entries, hasher, index, iter, json, keys, util};
 pub use lasso_shared::threaded::{SpurThreadedRodeo, ThreadedRodeo};
 pub use lasso_shared::{machine, shards, threaded};
 pub use lasso_single::commands::{Command, Reply, run_commands};

@@ -37,9 +37,11 @@
  * if row i is present and 0 if it is a null. The calls with _nulls in their names take or write one. A null has a
  * code that the caller chooses, mostly LASSO_NULL, and no text is interned for it.
  *
- * Texts are hashed with a fixed seed, so whoever chooses the texts can make them collide. Each search then takes
- * time linear in the number of distinct texts, and interning n of them time quadratic in n. lasso_new_keyed
- * hashes with keys.
+ * lasso_new, lasso_new_sized and the calls that encode hash texts with a fixed seed, which suits whoever chooses the
+ * texts themselves, and wants each run to take the same steps. Anyone else who chooses the texts can make them
+ * collide: each search then takes time linear in the number of distinct texts, and interning n of them time quadratic
+ * in n. For texts of strangers lasso_new_seeded hashes as fast with a seed that you keep secret, and lasso_new_keyed
+ * by SipHash.
  *
  * To link, after "make install" has installed the library:
  *
@@ -238,10 +240,22 @@ uint32_t lasso_new(struct lasso *lasso, size_t limit);
 uint32_t lasso_new_sized(struct lasso *lasso, size_t texts, size_t bytes, size_t limit);
 
 /*
- * lasso_new for texts that strangers choose: they are hashed by SipHash-1-3 with the two keys, and not with the
- * fixed seed. Whoever doesn't know the keys can't choose texts that collide. Take the keys from the system's
- * source of random numbers, as getrandom, for each interner or each process, and keep them secret. The codes are
- * the same whatever the keys. Each text takes more time than with the fixed seed.
+ * lasso_new for texts that strangers choose: they are hashed with this seed of 128 bits, and not with the fixed one.
+ * No way is known to choose texts that collide without the seed. Take both numbers from the system's source of random
+ * numbers, as getrandom, for each interner or each process, and keep them secret. The codes are the same whatever the
+ * seed, and each text takes the same time.
+ *
+ * Returns LASSO_DONE, or LASSO_NO_MEMORY, and the handle holds what it held.
+ */
+uint32_t lasso_new_seeded(struct lasso *lasso, size_t limit, uint64_t seed0, uint64_t seed1);
+
+/* lasso_new_seeded with the capacity of lasso_new_sized. */
+uint32_t lasso_new_sized_seeded(struct lasso *lasso, size_t texts, size_t bytes, size_t limit,
+                                uint64_t seed0, uint64_t seed1);
+
+/*
+ * lasso_new_seeded with SipHash-1-3 and two keys in place of the fast hash and its seed: more is written of how hard it
+ * is to find texts that collide. Each text takes more time.
  *
  * Returns LASSO_DONE, or LASSO_NO_MEMORY, and the handle holds what it held.
  */

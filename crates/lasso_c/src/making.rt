@@ -1,9 +1,9 @@
-//! Makers of interners that C holds: of given capacity, with keys, and as a clone of another.
+//! Makers of interners that C holds: of given capacity, with a seed or keys, and as a clone of another.
 ghost use Rattle.std.specs.Prelude.{◌≡◌, [], None, Some, IfSome, IsSome, max};
 ghost use Rattle.lasso_parts.specs.Account.{fresh};
 ghost use Rattle.lasso_single.specs.Copies.{clone_size};
 ghost use Rattle.lasso_c.specs.Handles.{account_in, clone_account, first_in, seed_in, texts_in};
-ghost use Rattle.lasso_c.specs.Seeds.{IsFixed, keyed_seed};
+ghost use Rattle.lasso_c.specs.Seeds.{IsFixed, keyed_seed, text_seed};
 
 use crate::handle::Lasso;
 use crate::seed::Seed;
@@ -32,6 +32,56 @@ pub extern "C" fn lasso_new_sized(
 {
     let capacity = Capacity::new(texts, bytes.max(1));
     make(alloc, lasso, capacity, limit, Seed::fixed())
+}
+
+/// `lasso_new` for texts that strangers choose: it hashes them with this seed, which nobody else may know. It returns `NO_MEMORY` out of
+/// memory, and the handle is as it was then.
+#[unsafe(no_mangle)]
+pub extern "C" fn lasso_new_seeded(
+    alloc: Global,
+    lasso: &mut Lasso,
+    limit: usize,
+    seed0: u64,
+    seed1: u64,
+) -> u32
+    ensures made { result ≡ DONE → IsSome lasso.new.seat.value }
+    ensures texts { result ≡ DONE → texts_in lasso.new.seat.value ≡ [] }
+    ensures account { result ≡ DONE → account_in lasso.new.seat.value ≡ Some (fresh 4096 limit) }
+    ensures first { result ≡ DONE → first_in lasso.new.seat.value ≡ Some 4096 }
+    ensures seed { result ≡ DONE → seed_in lasso.new.seat.value ≡ Some (text_seed seed0 seed1) }
+    ensures refused { ¬ (result ≡ DONE) → result ≡ NO_MEMORY }
+    ensures kept { ¬ (result ≡ DONE) → lasso.new.seat.value ≡ lasso.old.seat.value }
+{
+    make(
+        alloc,
+        lasso,
+        Capacity::default(),
+        limit,
+        Seed::text(seed0, seed1),
+    )
+}
+
+/// `lasso_new_seeded` of the capacity that `lasso_new_sized` has.
+#[unsafe(no_mangle)]
+pub extern "C" fn lasso_new_sized_seeded(
+    alloc: Global,
+    lasso: &mut Lasso,
+    texts: usize,
+    bytes: usize,
+    limit: usize,
+    seed0: u64,
+    seed1: u64,
+) -> u32
+    ensures made { result ≡ DONE → IsSome lasso.new.seat.value }
+    ensures texts { result ≡ DONE → texts_in lasso.new.seat.value ≡ [] }
+    ensures account { result ≡ DONE → account_in lasso.new.seat.value ≡ Some (fresh (max bytes 1) limit) }
+    ensures first { result ≡ DONE → first_in lasso.new.seat.value ≡ Some (max bytes 1) }
+    ensures seed { result ≡ DONE → seed_in lasso.new.seat.value ≡ Some (text_seed seed0 seed1) }
+    ensures refused { ¬ (result ≡ DONE) → result ≡ NO_MEMORY }
+    ensures kept { ¬ (result ≡ DONE) → lasso.new.seat.value ≡ lasso.old.seat.value }
+{
+    let sized = Capacity::new(texts, bytes.max(1));
+    make(alloc, lasso, sized, limit, Seed::text(seed0, seed1))
 }
 
 /// `lasso_new` for texts that strangers choose: it hashes them with two keys, by SipHash-1-3. It returns `NO_MEMORY` out of memory,

@@ -37,10 +37,12 @@ fn makes_an_interner_of_a_size(rt: HostRuntime) -> Result<(), Fail> {
 }
 
 // The capacity that the header names.
-static OF_THE_USUAL_SIZE: [Step; 4] = [
+static OF_THE_USUAL_SIZE: [Step; 6] = [
     Step::Makes(usize::MAX),
     Step::Fits(50, usize::MAX),
     Step::MakesKeyed(usize::MAX),
+    Step::Fits(50, usize::MAX),
+    Step::MakesSeeded(usize::MAX),
     Step::Fits(50, usize::MAX),
 ];
 
@@ -188,7 +190,7 @@ fn keeps_its_interner_where_there_is_no_memory_for_another(rt: HostRuntime) -> R
 }
 
 // Each maker over an interner with texts, of either kind of hasher. The new interner has none of them.
-static OVER_TEXTS: [Step; 20] = [
+static OVER_TEXTS: [Step; 26] = [
     Step::Makes(usize::MAX),
     Step::Interns(LONG, (0, 0)),
     Step::MakesKeyed(5000),
@@ -207,6 +209,12 @@ static OVER_TEXTS: [Step; 20] = [
     Step::MakesSizedKeyed(9, 90, 8000),
     Step::Finds(b"blue", (13, 77)),
     Step::Interns(b"blue", (0, 0)),
+    Step::MakesSeeded(8500),
+    Step::Finds(b"blue", (13, 77)),
+    Step::Interns(LONG, (0, 0)),
+    Step::MakesSizedSeeded(9, 90, 8600),
+    Step::Finds(LONG, (13, 77)),
+    Step::Interns(LONG, (0, 0)),
     Step::Makes(9000),
     Step::Counts(0),
 ];
@@ -272,6 +280,10 @@ fn makes_by_each_maker<R: Abort + AllocGlobal>(rt: &R, limit: usize) -> Result<(
         Step::Takes(4096, limit),
         Step::MakesSizedKeyed(9, 5000, limit),
         Step::Takes(5000, limit),
+        Step::MakesSeeded(limit),
+        Step::Takes(4096, limit),
+        Step::MakesSizedSeeded(9, 6000, limit),
+        Step::Takes(6000, limit),
     ];
     walk(rt, &steps)
 }
@@ -388,11 +400,13 @@ fn clones_an_interner_without_texts_and_none(rt: HostRuntime) -> Result<(), Fail
 }
 
 // Each maker, with the same limit.
-static MAKERS: [Step; 4] = [
+static MAKERS: [Step; 6] = [
     Step::Makes(5000),
     Step::MakesSized(9, 70, 5000),
     Step::MakesKeyed(5000),
     Step::MakesSizedKeyed(9, 70, 5000),
+    Step::MakesSeeded(5000),
+    Step::MakesSizedSeeded(9, 70, 5000),
 ];
 
 static STILL_THERE: [Step; 3] = [

@@ -1,17 +1,17 @@
-//! How an interner that C holds hashes its texts: with a fixed seed, or with two keys of the caller's.
+//! How an interner that C holds hashes its texts: fast, with a fixed seed or one of the caller's, or by SipHash with keys of the caller's.
 ghost use Rattle.std.specs.Prelude.{◌≡◌, fold};
 ghost use Rattle.core.specs.Hash.DefaultHasher.{finish, write};
-ghost use Rattle.lasso_c.specs.Seeds.{IsFixed, finished, keyed_seed, started, written};
+ghost use Rattle.lasso_c.specs.Seeds.{IsFixed, finished, keyed_seed, started, text_seed, written};
 
 use core::hash::keyed_hasher;
-use lasso_parts::util::FixedState;
-use std::hash::{BuildHasher, DefaultHasher, FoldHasher, Hash, Hasher};
+use lasso_parts::hasher::{TextHasher, TextState};
+use std::hash::{BuildHasher, DefaultHasher, Hash, Hasher};
 
 /// What an interner's hashers begin with.
 #[derive(Clone, Copy)]
 pub enum Seed {
-    /// The same seed for every interner, and the fast hash.
-    Fixed(FixedState),
+    /// The fast hash with a seed of two numbers.
+    Text(TextState),
     /// SipHash-1-3 with two keys.
     Keyed(DefaultHasher),
 }
@@ -19,7 +19,7 @@ pub enum Seed {
 /// A hasher at work, of either kind.
 #[derive(Clone, Copy)]
 pub enum SeededHasher {
-    Fixed(FoldHasher),
+    Text(TextHasher),
     Keyed(DefaultHasher),
 }
 
@@ -28,7 +28,14 @@ impl Seed {
     pub(crate) fn fixed() -> Seed
         ensures { IsFixed result }
     {
-        Seed::Fixed(FixedState::new())
+        Seed::Text(TextState::new())
+    }
+
+    // The seed of two numbers, for the fast hash.
+    pub(crate) fn text(seed0: u64, seed1: u64) -> Seed
+        ensures { result ≡ text_seed seed0 seed1 }
+    {
+        Seed::Text(TextState::with_seed(seed0, seed1))
     }
 
     // The seed of two keys.
@@ -46,7 +53,7 @@ impl BuildHasher for Seed {
 
     fn build_hasher(&self) -> SeededHasher {
         match self {
-            Seed::Fixed(state) => SeededHasher::Fixed(state.build_hasher()),
+            Seed::Text(state) => SeededHasher::Text(state.build_hasher()),
             Seed::Keyed(hasher) => SeededHasher::Keyed(*hasher),
         }
     }
@@ -55,7 +62,7 @@ impl BuildHasher for Seed {
     #[inline(always)]
     fn hash_one<T: Hash + Drop>(&self, x: T) -> u64 {
         match self {
-            Seed::Fixed(state) => state.hash_one(x),
+            Seed::Text(state) => state.hash_one(x),
             Seed::Keyed(hasher) => hash_from(*hasher, x),
         }
     }
@@ -77,14 +84,14 @@ impl Hasher for SeededHasher {
 
     fn finish(&self) -> u64 {
         match self {
-            SeededHasher::Fixed(hasher) => hasher.finish(),
+            SeededHasher::Text(hasher) => hasher.finish(),
             SeededHasher::Keyed(hasher) => hasher.finish(),
         }
     }
 
     fn write(&mut self, bytes: &[u8]) {
         match self {
-            SeededHasher::Fixed(hasher) => hasher.write(bytes),
+            SeededHasher::Text(hasher) => hasher.write(bytes),
             SeededHasher::Keyed(hasher) => hasher.write(bytes),
         }
     }

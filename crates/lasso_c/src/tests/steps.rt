@@ -12,7 +12,10 @@ use crate::large::{
     lasso_intern_batch_nulls_large,
 };
 use crate::lending::{LassoText, lasso_text, lasso_texts};
-use crate::making::{lasso_clone, lasso_new_keyed, lasso_new_sized, lasso_new_sized_keyed};
+use crate::making::{
+    lasso_clone, lasso_new_keyed, lasso_new_seeded, lasso_new_sized, lasso_new_sized_keyed,
+    lasso_new_sized_seeded,
+};
 use std::alloc::Global;
 use std::process::Abort;
 use std::test::Fail;
@@ -42,6 +45,10 @@ pub enum Step {
     MakesKeyed(usize),
     // the same with room for this number of texts and of bytes
     MakesSizedKeyed(usize, usize, usize),
+    // one of this limit is made, which hashes with a seed
+    MakesSeeded(usize),
+    // the same with room for this number of texts and of bytes
+    MakesSizedSeeded(usize, usize, usize),
     // interning the text has this status and writes this code, 77 if none
     Interns(&'static [u8], (u32, u32)),
     // the same for a text of this number of letters `a`
@@ -94,7 +101,7 @@ fn is_too_large(alloc: Global, lasso: &mut Lasso, texts: usize) -> Seen {
     (0, status == 9)
 }
 
-// The keys of the makers that take two.
+// The keys, or the seed, of the makers that take two numbers.
 const KEYS: (u64, u64) = (0x0706_0504_0302_0100, u64::MAX);
 
 fn makes_keyed(alloc: Global, lasso: &mut Lasso, limit: usize) -> Seen {
@@ -110,6 +117,22 @@ fn makes_sized_keyed(
     limit: usize,
 ) -> Seen {
     let status = lasso_new_sized_keyed(alloc, lasso, texts, bytes, limit, KEYS.0, KEYS.1);
+    (status, status == 0)
+}
+
+fn makes_seeded(alloc: Global, lasso: &mut Lasso, limit: usize) -> Seen {
+    let status = lasso_new_seeded(alloc, lasso, limit, KEYS.0, KEYS.1);
+    (status, status == 0)
+}
+
+fn makes_sized_seeded(
+    alloc: Global,
+    lasso: &mut Lasso,
+    texts: usize,
+    bytes: usize,
+    limit: usize,
+) -> Seen {
+    let status = lasso_new_sized_seeded(alloc, lasso, texts, bytes, limit, KEYS.0, KEYS.1);
     (status, status == 0)
 }
 
@@ -306,6 +329,10 @@ fn take(alloc: Global, lasso: &mut Lasso, step: &Step) -> Seen {
         Step::MakesKeyed(limit) => makes_keyed(alloc, lasso, limit),
         Step::MakesSizedKeyed(texts, bytes, limit) => {
             makes_sized_keyed(alloc, lasso, texts, bytes, limit)
+        }
+        Step::MakesSeeded(limit) => makes_seeded(alloc, lasso, limit),
+        Step::MakesSizedSeeded(texts, bytes, limit) => {
+            makes_sized_seeded(alloc, lasso, texts, bytes, limit)
         }
         Step::Interns(text, want) => interns(lasso, text, want),
         Step::InternsLong(count, want) => interns_long(alloc, lasso, count, want),
