@@ -268,13 +268,13 @@ class Reference:
                 )
             yield url, module, f"<h1><small>words of contracts</small> {module}</h1>" + "".join(parts)
 
-    def front_page(self, readme):
+    def front_page(self, introduction):
         """What a reader sees first: what lasso is, what one may want, and all crates."""
         tasks = [(self.url_of_call(call), call, task) for task, call in self.tasks]
         crates = [module for module in self.modules if not module.path]
         rows = [(page_of_module(one), one.crate, first_sentence(one.docs)) for one in crates]
         return (
-            f"<h1>lasso: a proved string interner</h1>{prose(readme)}<h2>I want to ..</h2>"
+            f"<h1>lasso: a proved string interner</h1>{introduction}<h2>I want to ..</h2>"
             f'<table>{"".join(f"<tr><td>{html.escape(task)}</td><td><a href={chr(34)}{url}{chr(34)}><code>{call}</code></a></td></tr>" for url, call, task in tasks)}</table>'
             f"<h2>Crates</h2>{table(rows)}"
         )
