@@ -26,7 +26,7 @@ define build
 	@rm -f crates/$(1)/out.log
 endef
 
-.PHONY: help try run codes c check test docs fmt bench examples all install uninstall deb clean input crate toolchain
+.PHONY: help try run codes c check test docs fmt bench examples reference all install uninstall deb clean input crate toolchain
 
 #: make                              this list
 help:
@@ -142,6 +142,10 @@ docs:
 	install/check
 	cases/run --try
 	wrong-bodies/run --dry
+
+#: make reference                    writes the reference of all public calls to out/reference, and prints the path of its first page
+reference:
+	docs/reference/make
 
 #: make examples                     builds the callers in C, Rust and Python and the recipes for many machines, runs them, and tries an
 #:                                   installation; as root, since it installs what is missing of the system's packages

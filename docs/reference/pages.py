@@ -1,0 +1,338 @@
+"""Writes the pages of the reference from what `sources` read."""
+import collections
+import html
+import json
+import os
+import re
+
+import markdown
+from pygments import highlight
+from pygments.formatters import HtmlFormatter
+from pygments.lexers.rust import RustLexer
+
+from sources import NAME, imports
+
+KINDS = ("struct", "enum", "trait", "type")
+WORD = re.compile(r"[A-Za-z_][\w'-]*(?:\.[A-Za-z_][\w'-]*)*|\S|\s+")
+FORMATTER = HtmlFormatter(nowrap=True)
+SEARCH_SUMMARY = 90
+
+
+def code(text):
+    """Rattle code with the colours of Rust."""
+    return highlight(text, RustLexer(stripnl=False), FORMATTER)
+
+
+def prose(text):
+    """The HTML of a comment in Markdown."""
+    return markdown.markdown(text, extensions=["fenced_code", "codehilite", "tables"], extension_configs={"codehilite": {"guess_lang": False}})
+
+
+def first_sentence(text):
+    """The first sentence of a comment, without marks."""
+    words = " ".join(text.split("\n\n")[0].split()).replace("`", "")
+    return re.split(r"(?<=[.:]) ", words)[0]
+
+
+Entry = collections.namedtuple("Entry", "name kind url summary")
+
+
+class Reference:
+    """All that the pages link to: modules, types and definitions with their pages."""
+
+    def __init__(self, root, modules, definitions, std_words, tasks):
+        self.root = root
+        self.modules = modules
+        self.definitions = definitions
+        self.std_words = std_words
+        self.tasks = tasks
+        self.exports = self.exported()
+        self.types = self.reachable_types()
+        self.entries = []
+
+    def exported(self):
+        """The names that reachable modules export, by the last module of their path."""
+        found = set()
+        for module in self.modules:
+            if module.is_public:
+                for path, name, _ in module.exports:
+                    found.add((path.rpartition("::")[2], name))
+        return found
+
+    def is_reached(self, module, item):
+        """Whether a caller can name the item."""
+        last = module.path[-1] if module.path else module.crate
+        return item.is_public and (module.is_public or (last, item.name) in self.exports)
+
+    def reachable_types(self):
+        """The types and traits that a caller can name: of each its module and item, by crate and name."""
+        found = {}
+        for module in self.modules:
+            for item in module.items:
+                if item.kind in KINDS and self.is_reached(module, item):
+                    found[module.crate, item.name] = (module, item)
+        return found
+
+    # ---- links
+
+    def url_of_definition(self, key):
+        """Where a definition stands, or None."""
+        if key in self.definitions:
+            module, _, name = key.rpartition(".")
+            return f"words.{module.replace('.specs.', '.')}.html#{anchor(name)}"
+        parts = key.split(".")
+        if "declared" in parts:
+            crate, rest = parts[0], parts[parts.index("declared") + 1 :]
+            for word in reversed(rest):
+                if (crate, word) in self.types:
+                    return page_of_type(crate, word)
+        return None
+
+    def linked(self, text, names):
+        """Text of a clause or a definition, with a link at each name that has a definition."""
+        return "".join(self.linked_word(word, names) for word in WORD.findall(text))
+
+    def linked_word(self, word, names):
+        shown = html.escape(word)
+        key = names.get(word) or names.get(f"◌{word}◌")
+        if not key:
+            return self.linked_member(word, names)
+        url = self.url_of_definition(key)
+        if url and key in self.definitions:
+            return f'<a class="word" data-word="{html.escape(key)}" href="{url}">{shown}</a>'
+        if url:
+            return f'<a href="{url}">{shown}</a>'
+        said = self.std_words.get(key.rpartition(".")[2])
+        if said:
+            return f'<abbr title="{html.escape(said)}" tabindex="0">{shown}</abbr>'
+        return shown
+
+    def linked_member(self, word, names):
+        """A name with a path, as `hasher.build`: its first part may have a definition."""
+        first, dot, rest = word.partition(".")
+        if dot and first in names and NAME.fullmatch(first):
+            return self.linked_word(first, names) + html.escape(dot + rest)
+        return html.escape(word)
+
+    def source_link(self, file, line):
+        return f'<a class="source" href="../../{file}">{html.escape(file)}:{line}</a>'
+
+    # ---- parts of pages
+
+    def clauses(self, call, names):
+        """What a call asks of its caller, and what it promises."""
+        parts = []
+        for kind, title in (("requires", "The caller shows"), ("ensures", "Proved")):
+            found = [clause for clause in call.clauses if clause.kind == kind]
+            if not found:
+                continue
+            rows = []
+            for clause in found:
+                above = f'<p class="group">{html.escape(clause.above)}</p>' if clause.above else ""
+                name = f'<span class="name">{html.escape(clause.name)}</span>' if clause.name else ""
+                fact = " ".join(clause.fact.split())
+                rows.append(f'<li>{above}{name}<code>{self.linked(fact, names)}</code></li>')
+            parts.append(f'<h4>{title}</h4><ul class="clauses">{"".join(rows)}</ul>')
+        return "".join(parts)
+
+    def call(self, module, item, call, url, owner):
+        """A call with its comment, signature and clauses."""
+        names = {**module.names, **imports(item.body)}
+        place = anchor(call.name) + ("" if not item.trait else "-" + anchor(item.trait))
+        title = f"{owner}::{call.name}" if owner else call.name
+        self.entries.append(Entry(title, "call", f"{url}#{place}", first_sentence(call.docs)[:SEARCH_SUMMARY]))
+        of = f' <small>of <code>{html.escape(item.trait)}</code></small>' if item.trait else ""
+        return (
+            f'<section class="call" id="{place}"><h3><a href="#{place}">{html.escape(call.name)}</a>{of}</h3>'
+            f'<pre class="signature">{code(call.signature)}</pre>{prose(call.docs)}{self.clauses(call, names)}'
+            f"<p>{self.source_link(module.file, call.line)}</p></section>"
+        )
+
+    def calls_of_type(self, crate, name, url):
+        """The calls of a type or trait, in the order of the sources, under the comment of their file."""
+        parts = []
+        for module in self.modules:
+            if module.crate != crate:
+                continue
+            found = []
+            for item in module.items:
+                if item.name != name or item.kind not in ("impl", "trait"):
+                    continue
+                for call in item.members:
+                    if item.kind == "trait" or call.is_public or (item.trait and call.clauses):
+                        found.append(self.call(module, item, call, url, name))
+            if found:
+                parts.append(f"<h2>{html.escape(first_sentence(module.docs))}</h2>" + "".join(found))
+        return "".join(parts)
+
+    def contract_view(self, crate, name):
+        """What contracts see of a type: the ghost items of its `Model`, and of a trait the ghost members."""
+        lines = []
+        for module in self.modules:
+            for item in module.items if module.crate == crate else ():
+                if item.name == name and (item.trait == "Model" or item.kind == "trait"):
+                    names = {**module.names, **imports(item.body)}
+                    for ghost in re.findall(r"^    ghost (?!use\b)(?:[^;{]|\{[^}]*\})*;", item.body, re.MULTILINE):
+                        lines.append(f"<li><code>{self.linked(' '.join(ghost.split()), names)}</code></li>")
+        return f'<h2>What contracts see</h2><ul class="clauses">{"".join(lines)}</ul>' if lines else ""
+
+    def page_of_types(self):
+        for (crate, name), (module, item) in self.types.items():
+            url = page_of_type(crate, name)
+            self.entries.append(Entry(name, item.kind, url, first_sentence(item.docs)[:SEARCH_SUMMARY]))
+            declared = item.head + (" {" + item.body + "}" if item.kind in ("enum",) else "")
+            body = (
+                f'<p class="path">{crate}</p><h1><small>{item.kind}</small> {name}</h1>'
+                f'<pre class="signature">{code(declared)}</pre>{prose(item.docs)}'
+                f"<p>{self.source_link(module.file, item.line)}</p>"
+                f"{self.contract_view(crate, name)}{self.calls_of_type(crate, name, url)}"
+            )
+            yield url, name, body
+
+    def page_of_modules(self):
+        for module in self.modules:
+            if not module.is_public:
+                continue
+            name = "::".join((module.crate, *module.path))
+            url = page_of_module(module)
+            self.entries.append(Entry(name, "module", url, first_sentence(module.docs)[:SEARCH_SUMMARY]))
+            yield url, name, f"<h1><small>module</small> {name}</h1>{prose(module.docs)}{self.inside(module, url)}"
+
+    def inside(self, module, url):
+        """What a module has: its modules, types and functions, and for a guide the whole file."""
+        parts = []
+        elsewhere = self.exports_of(module)
+        below = [one for one in self.modules if one.is_public and one.crate == module.crate and one.path[:-1] == module.path and one.path]
+        types = [(crate, name) for (crate, name), (home, _) in self.types.items() if self.is_shown_in(home, module)]
+        for title, rows in (
+            ("Modules", [(page_of_module(one), one.path[-1], first_sentence(one.docs)) for one in below]),
+            ("Types", [(page_of_type(crate, name), name, first_sentence(self.types[crate, name][1].docs)) for crate, name in types]),
+        ):
+            if rows:
+                parts.append(f"<h2>{title}</h2>{table(rows)}")
+        if elsewhere:
+            parts.append(f"<h2>Also by this name</h2>{table(elsewhere)}")
+        functions = [self.call(home, item, item.members[0], url, "") for home, item in self.functions_in(module)]
+        if functions:
+            parts.append("<h2>Functions</h2>" + "".join(functions))
+        if module.crate == "lasso_guide" and module.path:
+            with open(os.path.join(self.root, module.file), encoding="utf-8") as source:
+                parts.append(f"<h2>The whole file</h2><pre>{code(source.read())}</pre>")
+        return "".join(parts)
+
+    def exports_of(self, module):
+        """The types and modules of other crates that a module exports, as rows of a table."""
+        rows = []
+        for path, name, _ in module.exports:
+            crate = path.split("::")[0]
+            home = next((one for one in self.modules if one.crate == crate and one.path == (*path.split("::")[1:], name)), None)
+            if (crate, name) in self.types and crate != module.crate:
+                rows.append((page_of_type(crate, name), name, first_sentence(self.types[crate, name][1].docs)))
+            elif home and crate != module.crate:
+                rows.append((page_of_module(home), name, first_sentence(home.docs)))
+        return rows
+
+    def is_shown_in(self, home, module):
+        """Whether what a module defines is listed with the other: the nearest module above that a caller can name."""
+        if home.crate != module.crate:
+            return False
+        path = home.path
+        while not any(one.is_public and one.crate == home.crate and one.path == path for one in self.modules):
+            path = path[:-1]
+        return path == module.path
+
+    def functions_in(self, module):
+        """The functions of a module that a caller can name, also those that it exports of a module of its own."""
+        for home in self.modules:
+            if self.is_shown_in(home, module):
+                for item in home.items:
+                    if item.kind == "fn" and self.is_reached(home, item):
+                        yield home, item
+
+    def page_of_definitions(self):
+        """A page for each file of specs."""
+        files = collections.defaultdict(list)
+        for key, one in self.definitions.items():
+            files[key.rpartition(".")[0]].append(one)
+        for module, found in files.items():
+            url = f"words.{module.replace('.specs.', '.')}.html"
+            parts = []
+            for one in found:
+                place = anchor(one.name)
+                summary = " ".join(one.docs.split())[:SEARCH_SUMMARY]
+                self.entries.append(Entry(one.name, "word", f"{url}#{place}", summary))
+                parts.append(
+                    f'<section class="call" id="{place}"><h3><a href="#{place}">{html.escape(one.name)}</a></h3>'
+                    f"{prose(one.docs)}<pre>{self.linked(one.text, one.names)}</pre>"
+                    f"<p>{self.source_link(one.file, one.line)}</p></section>"
+                )
+            yield url, module, f"<h1><small>words of contracts</small> {module}</h1>" + "".join(parts)
+
+    def front_page(self, introduction):
+        """What a reader sees first: what lasso is, what one may want, and all crates."""
+        tasks = [(self.url_of_call(call), call, task) for task, call in self.tasks]
+        crates = [module for module in self.modules if not module.path]
+        rows = [(page_of_module(one), one.crate, first_sentence(one.docs)) for one in crates]
+        return (
+            f"<h1>lasso: a proved string interner</h1>{introduction}<h2>I want to ..</h2>"
+            f'<table>{"".join(f"<tr><td>{html.escape(task)}</td><td><a href={chr(34)}{url}{chr(34)}><code>{call}</code></a></td></tr>" for url, call, task in tasks)}</table>'
+            f"<h2>Crates</h2>{table(rows)}"
+        )
+
+    def url_of_call(self, call):
+        """Where a call stands that is written as `Type::call`, or a function or type by its name."""
+        for entry in self.entries:
+            if entry.name == call:
+                return entry.url
+        raise LookupError(f"tasks.tsv: there is no public {call}")
+
+    def search_index(self):
+        return json.dumps([list(entry) for entry in sorted(set(self.entries))], ensure_ascii=False)
+
+    def words(self):
+        """The comment and the text of each definition, for the box that opens at its name."""
+        return json.dumps({key: [" ".join(one.docs.split()), one.text] for key, one in self.definitions.items()}, ensure_ascii=False)
+
+
+def anchor(name):
+    return re.sub(r"[^\w-]", "_", name)
+
+
+def page_of_type(crate, name):
+    return f"type.{crate}.{name}.html"
+
+
+def page_of_module(module):
+    return f"module.{'.'.join((module.crate, *module.path))}.html"
+
+
+def table(rows):
+    """A table of links with what each leads to."""
+    cells = (f'<tr><td><a href="{url}"><code>{html.escape(name)}</code></a></td><td>{html.escape(said)}</td></tr>' for url, name, said in rows)
+    return f"<table>{''.join(cells)}</table>"
+
+
+def page(title, body, front="index.html"):
+    """A whole page."""
+    return f"""<!doctype html>
+<html lang="en">
+<head>
+<meta charset="utf-8">
+<meta name="viewport" content="width=device-width, initial-scale=1">
+<meta name="color-scheme" content="light dark">
+<title>{html.escape(title)}, lasso</title>
+<link rel="stylesheet" href="site.css">
+<script defer src="search.js"></script>
+<script defer src="words.js"></script>
+<script defer src="site.js"></script>
+</head>
+<body>
+<header><a href="{front}">lasso</a>
+<form role="search" onsubmit="return false"><label for="search">Search</label>
+<input id="search" type="search" autocomplete="off" aria-controls="found" placeholder="a call, a type or a word: press /"></form></header>
+<ol id="found" hidden></ol>
+<main>{body}</main>
+<div id="box" role="tooltip" hidden></div>
+</body>
+</html>
+"""

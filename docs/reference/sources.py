@@ -1,0 +1,279 @@
+"""Reads the sources: of each crate the modules, types and calls that a caller reaches, and the definitions that contracts name.
+
+The sources are laid out by `rt fmt`: an item begins at the first column, a member of an item after four blanks, and
+a line before it is its comment, its attribute, or blank.
+"""
+import dataclasses
+import os
+import re
+
+CRATE = re.compile(r"^(\w+)(?: \w+)*:", re.MULTILINE)
+LEFT_OUT = re.compile(r"(?:test|tool)_\w+|lasso_saving")
+IMPORT = re.compile(r"^ *(?:ghost )?use Rattle\.([\w.]+?)\.(?:\{([^}]*)\}|(\w+))(?: as (\w+))?;?$", re.MULTILINE)
+MODULE = re.compile(r"^(pub )?mod (\w+);", re.MULTILINE)
+EXPORT = re.compile(r"^pub use (?:crate::|self::|super::)?([\w:]+?)(?:::)?(?:\{([^}]*)\}|(?<=::)(\w+))?;", re.MULTILINE)
+ITEM = re.compile(
+    r"^(?P<indent> {0,4})(?P<how>(?:pub(?:\(\w+\))? |const |unsafe |final |extern \"C\" |default )*)"
+    r"(?P<kind>fn|struct|enum|trait|impl|type|const|static)\b *(?P<rest>.*)$"
+)
+DEFINITION = re.compile(r"^(?:abbrev pub|unfoldable pub|pub record|pub data|pub|pub syntax) ([\w'◌≡]+)")
+NAME = re.compile(r"[A-Za-z_][\w'-]*")
+
+
+@dataclasses.dataclass
+class Clause:
+    """What follows `requires` or `ensures` of a function: its name or none, and the fact. `above` is the comment before it."""
+
+    kind: str
+    name: str
+    fact: str
+    above: str = ""
+
+
+@dataclasses.dataclass
+class Call:
+    """A function: its comment, its signature without clauses, and its clauses."""
+
+    name: str
+    docs: str
+    signature: str
+    clauses: list
+    line: int
+    is_public: bool
+
+
+@dataclasses.dataclass
+class Item:
+    """A type, trait, `impl`, constant or function of a module. `members` are the calls in its braces."""
+
+    kind: str
+    name: str
+    docs: str
+    head: str
+    body: str
+    line: int
+    is_public: bool
+    trait: str = ""
+    members: list = dataclasses.field(default_factory=list)
+
+
+@dataclasses.dataclass
+class Module:
+    """A file of code. `names` has the definition that each imported name of a clause means."""
+
+    crate: str
+    path: tuple
+    file: str
+    docs: str
+    is_public: bool
+    items: list
+    names: dict
+    exports: list
+
+
+@dataclasses.dataclass
+class Definition:
+    """A definition of a file of specs: its comment, its text, and what the names of the file mean."""
+
+    key: str
+    name: str
+    docs: str
+    text: str
+    file: str
+    line: int
+    names: dict
+
+
+def read(path):
+    with open(path, encoding="utf-8") as source:
+        return source.read()
+
+
+def crates(root):
+    """The crates whose calls a reference shows, in the order of crates.txt."""
+    return [name for name in CRATE.findall(read(os.path.join(root, "crates.txt"))) if not LEFT_OUT.fullmatch(name)]
+
+
+def imports(text):
+    """Of each name that the text imports from specs or proofs, the definition that it means."""
+    names = {}
+    for module, group, one, renamed in IMPORT.findall(text):
+        for word in (group or one).split(","):
+            word, _, other = word.strip().partition(" as ")
+            if word:
+                names[renamed or other or word] = f"{module}.{word}"
+    return names
+
+
+def comment_above(lines, at, mark):
+    """The comment in the lines before this one, past attributes, and where it begins."""
+    first = at
+    while first > 0 and re.match(r" *(?:#\[|#!\[|\)\]|" + re.escape(mark) + r"(?: |$))", lines[first - 1]):
+        first -= 1
+    words = [line.strip() for line in lines[first:at] if line.strip().startswith(mark)]
+    return "\n".join(word[len(mark) :].removeprefix(" ") for word in words)
+
+
+def end_of_braces(text, start):
+    """The place of the brace that closes the one before `start`."""
+    depth = 1
+    for brace in re.finditer(r"[{}]", text[start:]):
+        depth += 1 if brace.group() == "{" else -1
+        if depth == 0:
+            return start + brace.start()
+    raise ValueError(f"the braces do not end: {text[start:start + 60]!r}")
+
+
+def signature_and_clauses(text, start):
+    """A function's signature, its clauses, and the place of its body or of the `;` in the body's stead."""
+    clauses, signature, at = [], None, start
+    while True:
+        opening = re.compile(r"\{|;$", re.MULTILINE).search(text, at)
+        before = text[at : opening.start()]
+        clause = re.search(r"(?:\n *// (?P<above>.*))?\s(?P<kind>requires|ensures)(?: (?P<name>[\w-]+))? $", before)
+        if signature is None:
+            signature = text[start : at + clause.start() if clause else opening.start()].rstrip()
+        if not clause or opening.group() == ";":
+            return signature, clauses, opening.start()
+        at = end_of_braces(text, opening.end()) + 1
+        clauses.append(Clause(clause["kind"], clause["name"] or "", text[opening.end() : at - 1].strip(), clause["above"] or ""))
+
+
+def undented(text, by):
+    """The text with `by` blanks less before each line."""
+    return "\n".join(line.removeprefix(" " * by) for line in text.split("\n"))
+
+
+def call_at(text, lines, number, start, match):
+    """The function whose line this is."""
+    signature, clauses, _ = signature_and_clauses(text, start)
+    indent = len(match["indent"])
+    name = re.match(r"[\w]+", match["rest"]).group()
+    is_public = "pub " in match["how"]
+    return Call(name, comment_above(lines, number, "///"), undented(signature.strip(), indent), clauses, number + 1, is_public)
+
+
+def item_at(text, lines, number, start, match):
+    """The item whose line this is, without its members."""
+    end = re.compile(r"\{|;$", re.MULTILINE).search(text, start)
+    head = text[start : end.start()].strip()
+    body = text[end.end() : end_of_braces(text, end.end())] if end.group() == "{" else ""
+    trait = ""
+    if match["kind"] == "impl":
+        name, trait = subject_of(head)
+    else:
+        name = re.match(r"\w+", match["rest"]).group()
+    is_public = match["how"].startswith("pub ")
+    return Item(match["kind"], name, comment_above(lines, number, "///"), head, body, number + 1, is_public, trait)
+
+
+def without_parameters(words):
+    """A type or trait without its parameters, lifetimes and path."""
+    shorter = re.sub(r"<[^<>]*>|'\w+ |\bmut |&", "", words)
+    return words if shorter == words else without_parameters(shorter)
+
+
+def subject_of(head):
+    """The type of an `impl`, and its trait or ''."""
+    rest = head.removeprefix("unsafe ").removeprefix("impl").strip().replace("->", "")
+    depth = 0
+    if rest.startswith("<"):
+        for at, sign in enumerate(rest):
+            depth += (sign == "<") - (sign == ">")
+            if depth == 0:
+                rest = rest[at + 1 :]
+                break
+    rest = " ".join(re.split(r"\bwhere\b", rest)[0].split())
+    trait, _, owner = rest.rpartition(" for ")
+    return without_parameters(owner).strip(), trait.strip()
+
+
+def items_of(text):
+    """The items of a file in their order, each with its members."""
+    lines = text.split("\n")
+    found, start, inside = [], 0, None
+    for number, line in enumerate(lines):
+        match = ITEM.match(line)
+        place = start
+        start += len(line) + 1
+        if line == "}":
+            inside = None
+        if not match or match["indent"] not in ("", "    "):
+            continue
+        if match["indent"] == "":
+            if match["kind"] == "fn":
+                call = call_at(text, lines, number, place, match)
+                found.append(Item("fn", call.name, call.docs, call.signature, "", number + 1, call.is_public, "", [call]))
+                inside = None
+            else:
+                inside = item_at(text, lines, number, place, match)
+                found.append(inside)
+                if not inside.body:
+                    inside = None
+        elif inside is not None and inside.kind in ("impl", "trait") and match["kind"] == "fn":
+            inside.members.append(call_at(text, lines, number, place, match))
+    return found
+
+
+def exports_of(text):
+    """The names that a module exports of others, each with the name it has there."""
+    found = []
+    for path, group, one in EXPORT.findall(text):
+        for word in (group or one or path.rpartition("::")[2]).split(","):
+            word, _, renamed = word.strip().partition(" as ")
+            if word:
+                base = path if group or one else path.rpartition("::")[0]
+                found.append((base, word, renamed or word))
+    return found
+
+
+def modules_of(root, crate):
+    """The modules of a crate, its root first, without those of tests."""
+    folder = os.path.join(root, "crates", crate, "src")
+    top = next(name for name in ("lib.rt", "main.rt") if os.path.isfile(os.path.join(folder, name)))
+    waiting, found = [((), top, True)], []
+    while waiting:
+        path, name, is_public = waiting.pop(0)
+        file = os.path.join(folder, name)
+        text = read(file)
+        docs = "\n".join(line[3:].removeprefix(" ") for line in text.split("\n") if line.startswith("//!"))
+        relative = os.path.relpath(file, root)
+        found.append(Module(crate, path, relative, docs, is_public, items_of(text), imports(text), exports_of(text)))
+        tests = set(re.findall(r"#\[cfg\(test\)\]\n(?:pub )?mod (\w+);", text))
+        home = "" if name == top else name.removesuffix(".rt") + "/"
+        for how, module in MODULE.findall(text):
+            if module not in tests:
+                waiting.append(((*path, module), f"{home}{module}.rt", is_public and bool(how)))
+    return found
+
+
+def definitions_of(root, crate):
+    """The definitions in a crate's specs, by their key: `crate.specs.Module.name`."""
+    folder = os.path.join(root, "crates", crate, "specs")
+    found = {}
+    for here, _, files in os.walk(folder):
+        for file in sorted(files):
+            path = os.path.join(here, file)
+            module = os.path.relpath(path, folder).removesuffix(".antt").replace(os.sep, ".")
+            for one in definitions_in(read(path), f"{crate}.specs.{module}", os.path.relpath(path, root)):
+                found[one.key] = one
+    return found
+
+
+def definitions_in(text, module, file):
+    """The definitions of a file of specs."""
+    lines = text.split("\n")
+    names = imports(text)
+    own = {match.group(1): f"{module}.{match.group(1)}" for match in map(DEFINITION.match, lines) if match}
+    for number, line in enumerate(lines):
+        match = DEFINITION.match(line)
+        if not match:
+            continue
+        end = number + 1
+        while end < len(lines) and lines[end].strip() and not DEFINITION.match(lines[end]):
+            end += 1
+        while lines[end - 1].startswith("--"):
+            end -= 1
+        name = match.group(1)
+        docs = comment_above(lines, number, "--")
+        yield Definition(f"{module}.{name}", name, docs, "\n".join(lines[number:end]), file, number + 1, {**names, **own})
