@@ -9,24 +9,27 @@ JOINED = out/liblasso.a
 C_LIBRARY = $(shell dirname "$$(rt doc)")/c/liblibc_c.a
 SOURCES = crates.txt $(shell find crates -type f \( -path '*/src/*' -o -path '*/specs/*' -o -path '*/proofs/*' \) -not -path '*/out/*')
 
-# Of what rt says, which crate is proved and how far it is (sed reads and writes line by line; awk need not).
-PROGRESS = sed -unE -e '/^rt: chose --jobs [0-9]+ for /{s///;h}' \
+# Of what rt says, which crate is proved and how far it is (sed reads and writes line by line; awk need not). Where rt
+# is told how many jobs to run, it does not name the crate.
+PROGRESS = sed -unE -e '1{x;s/^.*$$/$(1) and the libraries below it/;x}' \
+	-e '/^rt: chose --jobs [0-9]+ for /{s///;h}' \
 	-e '/^so far: ([0-9]+ of [0-9]+) functions checked.*/{s//: \1 functions checked/;G;s/^(.*)\n(.*)$$/\2\1/p}' \
 	-e 's/^checked ([a-z0-9_]+)[^,]*, (1|([0-9]*[02468])?0) of ([0-9]+)$$/\1: \2 of \4 functions checked/p'
 
 # Of what rt try says, the program's own lines on standard error.
 OWN_LINES = grep -vE '^(interpreter|checked|races): |^run=[a-z-]+ .*proved=no$$'
 
-# Proves and builds a crate by a command of rt.
+# Proves and builds a crate by a command of rt, and by as many jobs as memory allows: rt alone plans on more memory.
 define build
 	@$(MAKE) -s toolchain
 	@echo "proving and building $(1) and the libraries below it; what is proved is kept for the next time" >&2
-	@cd crates/$(1) && rm -f out.failed && { rt $(2) < /dev/null 2>&1 || touch out.failed; } | tee out.log | $(PROGRESS) >&2
+	@jobs=$$(.ci/jobs); cd crates/$(1) && rm -f out.failed && \
+	{ rt $(2) $${jobs:+--jobs "$$jobs"} $(3) < /dev/null 2>&1 || touch out.failed; } | tee out.log | $(PROGRESS) >&2
 	@cd crates/$(1) && if [ -e out.failed ]; then cat out.log >&2; rm -f out.failed out.log; exit 1; fi
 	@rm -f crates/$(1)/out.log
 endef
 
-.PHONY: help try run codes c check test docs fmt bench examples reference all install uninstall deb clean input crate toolchain
+.PHONY: help try run codes c check test verify docs fmt bench examples reference all install uninstall deb clean input crate toolchain python
 
 #: make                              this list
 help:
@@ -66,7 +69,7 @@ codes: $(CODES)
 	@echo "program: $(CURDIR)/$(CODES)"
 
 $(CODES): $(SOURCES)
-	$(call build,lasso_codes,run -- --version)
+	$(call build,lasso_codes,run,-- --version)
 	@touch $(CODES)
 
 #: make c                            proves the library for C if the sources changed, builds it, and prints its paths
@@ -121,14 +124,15 @@ check: crate toolchain
 	@if [ -d "cases/$(CRATE)" ]; then (cd crates/$(CRATE) && { rt run < /dev/null > /dev/null || [ -e out/$(CRATE).stamp ]; }) && cases/run $(CRATE); fi
 	@if [ -d "cases/$(CRATE)/modules" ]; then cases/modules $(CRATE); fi
 
-#: make test                         the gate: make docs; the layout of the code; proofs of all but the tests, by rt ci; then cases and tests of
-#:                                   modules over the programs, and all other tests, which run without proof
-test: toolchain docs
-	.ci/layout
-	RT_JOBS=$${RT_JOBS-$$(.ci/jobs)} .ci/proofs
-	cases/run
-	cases/modules
-	.ci/tests
+#: make test                         all that needs no proof, in ten minutes on two processors: the checks of documents and layout, all tests,
+#:                                   the tests of modules, and the cases over programs that are built without proof
+test: python
+	@.ci/test
+
+#: make verify                       the gate: make test; proofs of all libraries and programs from nothing, by rt ci; the wrong bodies that have
+#:                                   to be refused; the cases that need a proved program; and the tools, without proof
+verify: python
+	@.ci/verify
 
 #: make docs                         checks the documents: links, names of files and clauses, lengths of lines, parts made from the
 #:                                   sources; that manual pages and completions have the options of the programs; that cases find what
@@ -164,7 +168,7 @@ bench:
 fmt: toolchain
 	@for crate in crates/*/; do (cd "$$crate" && rt fmt) || exit 1; done
 
-#: make clean                        removes what was proved and built in this folder; what make test keeps stays
+#: make clean                        removes what was proved and built in this folder; what rt ci keeps stays
 clean:
 	rm -rf out crates/*/out crates/*/out.log crates/*/out.failed
 
@@ -176,6 +180,9 @@ input:
 
 crate:
 	@[ -d "crates/$(or $(CRATE),?)/src" ] || { echo "CRATE=$(CRATE): name a crate of crates.txt, as in make check CRATE=lasso_single" >&2; exit 1; }
+
+python:
+	@command -v python3 > /dev/null || { echo "missing: python3" >&2; exit 1; }
 
 toolchain:
 	@command -v rt > /dev/null || { echo "the toolchain's command rt is not in PATH: put the folder of rt there, and try again" >&2; exit 1; }

@@ -2,7 +2,7 @@
 import glob
 import os
 import re
-from dataclasses import dataclass, field, replace
+from dataclasses import dataclass, field
 
 from functions import functions_of
 
@@ -14,7 +14,9 @@ TYPE_OR_CRATE = re.compile(r"(?<![\w:])(?:([A-Z]\w*)(?=::|\(| \{)|(lasso\w*)::)"
 KNOWN_EVERYWHERE = ("Some", "Ok", "Err", "Vec", "String", "Box", "Option")
 PAGE_FILE = re.compile(r"`(src/[\w/]+\.rt)`")
 EXAMPLES = "lasso_shared"
-KINDS = ("must-fail", "wrong-bodies")
+KIND = "wrong-bodies"
+GATE = os.path.join(HERE, KIND, "gate.txt")
+GATE_LINE = re.compile(r"(\w+): (\w+)/(\w+), (a goal of|the test|the case) (\S+)(?: of (\w+))?")
 
 
 class Unfit(Exception):
@@ -58,6 +60,25 @@ def read_edit(path, crate):
 def edits_in(crate, folder):
     """The files of edits in this folder of the crate."""
     return sorted(glob.glob(f"{HERE}/crates/{crate}/{folder}/*.edit"))
+
+
+def gate_edits():
+    """The edits that the list of the gate names. Each has to say itself what refuses it."""
+    found = []
+    with open(GATE, encoding="utf-8") as source:
+        lines = [line.rstrip("\n") for line in source if line.strip() and not line.startswith("#")]
+    for line in lines:
+        named = GATE_LINE.fullmatch(line)
+        if not named:
+            raise Unfit(f"gate.txt: this is no line of the list: {line}")
+        _, crate, name, kind, what, of = named.groups()
+        edit = read_edit(os.path.join(HERE, "crates", crate, KIND, f"{name}.edit"), crate)
+        own = f"{crate}::{what}" if kind == "a goal of" else (of, what)
+        has = {"a goal of": [edit.function] * (not edit.tests and not edit.cases), "the test": edit.tests, "the case": edit.cases}[kind]
+        if own not in has:
+            raise Unfit(f"gate.txt: {crate}/{name} does not name {kind} {what}")
+        found.append(edit)
+    return found
 
 
 def edits_of_page(path, crate):
@@ -118,18 +139,13 @@ def test_compiles(edit, text):
                 raise Unfit(f"{edit.crate}/{edit.name}: {edit.file} knows no {kind or crate}")
 
 
-def test_fit(edit, in_turn):
-    """Refuses an edit that cannot be applied. Where `in_turn` is set, each change may be of what those before it made."""
+def test_fit(edit):
+    """Refuses an edit that cannot be applied."""
     with open(os.path.join(HERE, "crates", edit.crate, edit.file), encoding="utf-8") as source:
         text = source.read()
     if edit.file.startswith("src/"):
         test_compiles(edit, text)
-    if not in_turn:
-        places(edit, text)
-        return
-    for old, new in edit.changes:
-        places(replace(edit, changes=[(old, new)]), text)
-        text = text.replace(old, new)
+    places(edit, text)
 
 
 def function_and_closure(named):
@@ -202,16 +218,16 @@ def crates_with(folder):
 
 
 def every_edit():
-    """Each edit of each crate as its kind and itself, or the fault of one that cannot be read."""
-    for kind in KINDS:
-        for crate in crates_with(kind):
-            for path in edits_in(crate, kind):
-                try:
-                    yield kind, read_edit(path, crate)
-                except Unfit as fault:
-                    yield kind, fault
-            for path in sorted(glob.glob(f"{HERE}/crates/{crate}/{kind}/*.md")):
-                yield from (("pages", edit) for edit in edits_of_page(path, crate))
+    """Each edit of each crate, and of each page, as its kind and itself, or the fault of one that cannot be read."""
+    for crate in crates_with(KIND):
+        for path in edits_in(crate, KIND):
+            try:
+                yield KIND, read_edit(path, crate)
+            except Unfit as fault:
+                yield KIND, fault
+    for crate in crates_with("must-fail"):
+        for path in sorted(glob.glob(f"{HERE}/crates/{crate}/must-fail/*.md")):
+            yield from (("pages", edit) for edit in edits_of_page(path, crate))
 
 
 def fault_of(kind, edit):
@@ -219,8 +235,8 @@ def fault_of(kind, edit):
     try:
         if isinstance(edit, Unfit):
             raise edit
-        test_fit(edit, kind == "must-fail")
-        if kind == "wrong-bodies":
+        test_fit(edit)
+        if kind == KIND:
             test_names(edit)
             test_grounds(edit)
     except (Unfit, OSError) as fault:
@@ -230,13 +246,15 @@ def fault_of(kind, edit):
 
 def look():
     """Prints each edit that cannot be applied, and how many there are of each kind."""
-    counts = dict.fromkeys((*KINDS, "pages"), 0)
-    unfit = 0
+    counts = dict.fromkeys((KIND, "pages"), 0)
+    faults = []
     for kind, edit in every_edit():
         counts[kind] += 1
-        fault = fault_of(kind, edit)
-        if fault:
-            unfit += 1
-            print(fault)
-    print("wrong bodies: " + ", ".join(f"{count} in {kind}" for kind, count in counts.items()) + f"; {unfit} cannot be applied")
-    return 1 if unfit or not all(counts.values()) else 0
+        faults += filter(None, [fault_of(kind, edit)])
+    try:
+        counts["gate.txt"] = len(gate_edits())
+    except (Unfit, OSError) as fault:
+        faults.append(fault)
+    print(*faults, sep="\n", end="\n" if faults else "")
+    print("wrong bodies: " + ", ".join(f"{count} in {kind}" for kind, count in counts.items()) + f"; {len(faults)} cannot be applied")
+    return 1 if faults or not counts[KIND] else 0

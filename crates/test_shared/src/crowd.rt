@@ -14,18 +14,18 @@ use test_shared_common::steps::{Step, Way};
 #[test]
 fn two_threads_intern_by_each_call(rt: HostRuntime) -> Result<(), Fail> {
     static COPIED: [[Step; 1]; 2] = [
-        [Fills(Way::Copied, &["a"], 10_000)],
-        [Fills(Way::Copied, &["b"], 10_000)],
+        [Fills(Way::Copied, &["a"], 4000)],
+        [Fills(Way::Copied, &["b"], 4000)],
     ];
     static TRY_STATIC: [[Step; 1]; 2] = [
-        [Fills(Way::TryStatic, &["a"], 10_000)],
-        [Fills(Way::TryStatic, &["b"], 10_000)],
+        [Fills(Way::TryStatic, &["a"], 4000)],
+        [Fills(Way::TryStatic, &["b"], 4000)],
     ];
     static STATIC: [[Step; 1]; 2] = [
-        [Fills(Way::Static, &["a"], 10_000)],
-        [Fills(Way::Static, &["b"], 10_000)],
+        [Fills(Way::Static, &["a"], 4000)],
+        [Fills(Way::Static, &["b"], 4000)],
     ];
-    static LAST: [Step; 1] = [Counts(20_000)];
+    static LAST: [Step; 1] = [Counts(8000)];
     for [a, b] in [&COPIED, &TRY_STATIC, &STATIC] {
         runs_in_two(&rt, &[], (a, b), &LAST, PLAIN)?;
     }
@@ -34,10 +34,10 @@ fn two_threads_intern_by_each_call(rt: HostRuntime) -> Result<(), Fail> {
 
 // Texts of five letters. All threads intern those of the last one, in turn with their own.
 static EACH: [[Step; 1]; 4] = [
-    [Fills(Way::TryCopied, &["a", "e"], 10_000)],
-    [Fills(Way::TryCopied, &["b", "e"], 10_000)],
-    [Fills(Way::TryCopied, &["c", "e"], 10_000)],
-    [Fills(Way::TryCopied, &["d", "e"], 10_000)],
+    [Fills(Way::TryCopied, &["a", "e"], 4000)],
+    [Fills(Way::TryCopied, &["b", "e"], 4000)],
+    [Fills(Way::TryCopied, &["c", "e"], 4000)],
+    [Fills(Way::TryCopied, &["d", "e"], 4000)],
 ];
 
 // Four threads intern a list each, and the common one. Returns whether each key resolves to its text.
@@ -60,11 +60,11 @@ fn share_half<R: AllocGlobal + Threads + Wait + Sync + Abort>(
     rt: &R,
     shared: &Shared,
 ) -> Result<(), Fail> {
-    // each list of 10000 texts has 38890 digits and 10000 letters: 244,450 bytes in all
+    // each list of 4000 texts has 14890 digits and 4000 letters: 94,450 bytes in all
     static LAST: [Step; 4] = [
-        Counts(50_000),
-        Shows(&["a", "b", "c", "d", "e"], 10_000),
-        UsesAtMost(4096 + 4 * 244_450),
+        Counts(20_000),
+        Shows(&["a", "b", "c", "d", "e"], 4000),
+        UsesAtMost(4096 + 4 * 94_450),
         Step::EqualsItself,
     ];
     is_so(rt, all_intern(rt, shared)?, "the keys");

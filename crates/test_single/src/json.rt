@@ -58,18 +58,18 @@ fn is_doubled_at(alloc: Global, value: &Value, position: usize) -> bool {
     as_rodeo(alloc, value).err() == Some(JsonError::Doubled(position))
 }
 
-// Comparing each text with all earlier ones would take 20 billion comparisons.
+// Comparing each text with all earlier ones would take 2.4 billion comparisons, and longer than a test may.
 #[test]
 fn a_double_behind_many_texts(rt: HostRuntime) -> Result<(), Fail> {
-    let last_as_first = numbered(rt.alloc(), 200_000, 199_999)?;
+    let last_as_first = numbered(rt.alloc(), 70_000, 69_999)?;
     is_so(
         &rt,
-        is_doubled_at(rt.alloc(), &last_as_first, 199_999),
+        is_doubled_at(rt.alloc(), &last_as_first, 69_999),
         "an interner",
     );
     is_so(
         &rt,
-        is_long_resolver(rt.alloc(), &last_as_first, 200_000),
+        is_long_resolver(rt.alloc(), &last_as_first, 70_000),
         "a resolver",
     );
     Ok(())

@@ -1,7 +1,7 @@
-//! Writers of two shards, which do not wait for each other.
+//! Writers of two shards, which do not wait for each other, and readings, which wait for no writer.
 use crate::checks::is_so;
 use crate::shards::armed::{ArmedState, Gate};
-use lasso_parts::keys::Spur;
+use lasso_parts::keys::{Key, Spur};
 use lasso_parts::util::LassoResult;
 use lasso_shared::threaded::ThreadedRodeo;
 use std::alloc::Global;
@@ -102,6 +102,49 @@ fn writers_apart(rt: HostRuntime) -> Result<(), Fail> {
         &rt,
         are_apart(&rt, &gate, Way::TryStatic, &texts)?,
         "static texts",
+    );
+    Ok(())
+}
+
+// Waits for the writer at the gate, reads the first text, and lets the writer go on. Returns whether it came, and each
+// reading found the text.
+fn reads_beside(shared: &Armed<'_>, gate: &Gate) -> bool {
+    let there = gate.is_first_there();
+    let read = match Spur::try_from_usize(0) {
+        Some(key) => shared.try_resolve(key) == Some("00") && shared.contains_key(key),
+        None => false,
+    };
+    let is_counted = shared.len() > 0 && !shared.is_empty();
+    gate.pass();
+    there && read && is_counted
+}
+
+// A thread interns a thousand texts of one shard, and another one reads while the first holds its shard. Returns
+// whether the readings found the first text.
+fn reads_at_gate<R: Threads + Wait + Sync>(
+    rt: &R,
+    shared: &Armed<'_>,
+    gate: &Gate,
+    texts: &[&'static str],
+) -> LassoResult<bool> {
+    let (filled, read) = join(
+        rt,
+        || fills(rt, shared, gate, Way::TryStatic, texts),
+        || reads_beside(shared, gate),
+    );
+    filled?;
+    Ok(read && gate.is_met())
+}
+
+#[test]
+fn readings_beside_a_writer(rt: HostRuntime) -> Result<(), Fail> {
+    let texts = four_digits(rt.alloc())?;
+    let gate = Gate::new();
+    let shared = armed(rt.alloc(), &gate)?;
+    is_so(
+        &rt,
+        reads_at_gate(&rt, &shared, &gate, &texts)?,
+        "the readings",
     );
     Ok(())
 }

@@ -1,0 +1,124 @@
+"""Runs parts of `make test` and `make verify`: each is a command, whose last line `N passed, M failed` counts."""
+import concurrent.futures
+import os
+import re
+import subprocess
+import sys
+import tempfile
+import threading
+import time
+from dataclasses import dataclass
+
+HERE = os.path.dirname(os.path.dirname(os.path.abspath(__file__)))
+COUNTS = re.compile(rb"^(\d+) passed, (\d+) failed", re.MULTILINE)
+CC = "cc"
+
+
+@dataclass
+class Part:
+    """A command with its words, and a name for what it tries. Where `is_shown` is set, what it writes is shown as it comes."""
+
+    name: str
+    words: list
+    is_shown: bool = False
+
+
+@dataclass
+class Result:
+    """How many of a part's tests passed and failed, and what it took by the clock and of all processors."""
+
+    name: str
+    passed: int = 0
+    failed: int = 0
+    seconds: float = 0.0
+    processors: float = 0.0
+
+
+def counts_of(said, status):
+    """How many passed and failed, by the last line of counts; a command without one is one test. It failed if its status says so."""
+    found = COUNTS.findall(said)
+    passed, failed = map(int, found[-1]) if found else (int(status == 0), int(status != 0))
+    return passed, max(failed, int(status != 0))
+
+
+def run(part):
+    """Runs the part, and returns its result and what it wrote."""
+    begun = time.monotonic()
+    with tempfile.TemporaryFile() as said:
+        started = subprocess.Popen(
+            part.words, cwd=HERE, stdin=subprocess.DEVNULL, stdout=subprocess.PIPE if part.is_shown else said, stderr=subprocess.STDOUT
+        )
+        for line in started.stdout or ():
+            said.write(line)
+            sys.stdout.buffer.write(line)
+            sys.stdout.buffer.flush()
+        _, status, used = os.wait4(started.pid, 0)
+        started.returncode = os.waitstatus_to_exitcode(status)
+        said.seek(0)
+        text = said.read()
+    passed, failed = counts_of(text, started.returncode)
+    return Result(part.name, passed, failed, time.monotonic() - begun, used.ru_utime + used.ru_stime), text
+
+
+def tell(result, said, is_shown):
+    """Prints a line on the part, after what it wrote if it failed and that was not shown."""
+    if result.failed and not is_shown:
+        sys.stdout.flush()
+        sys.stdout.buffer.write(said)
+        sys.stdout.buffer.flush()
+    took = f"{result.seconds:.0f} s, {result.processors:.0f} s of processors"
+    print(f"{result.name}: {result.passed} passed, {result.failed} failed ({took})", flush=True)
+
+
+def run_all(parts, at_once):
+    """Runs the parts, this number of them side by side and the first ones first. Prints a line on each as it ends, and returns all results."""
+    printing = threading.Lock()
+
+    def one(part):
+        result, said = run(part)
+        with printing:
+            tell(result, said, part.is_shown)
+        return result
+
+    with concurrent.futures.ThreadPoolExecutor(at_once) as pool:
+        return list(pool.map(one, parts))
+
+
+def total(results):
+    """Prints how many passed and failed in all parts as the last line, and returns the status."""
+    passed = sum(result.passed for result in results)
+    failed = sum(result.failed for result in results)
+    print(f"{passed} passed, {failed} failed", flush=True)
+    return 1 if failed or not passed else 0
+
+
+def has(command):
+    """Whether there is a command of this name."""
+    return subprocess.run(["sh", "-c", 'command -v "$1"', "sh", command], stdout=subprocess.DEVNULL, check=False).returncode == 0
+
+
+def install_compiler():
+    """Installs a C compiler by apt-get, which root alone may do."""
+    if os.geteuid() != 0 or not has("apt-get"):
+        return
+    print(f"installing a C compiler by apt-get, since there is no {CC}", flush=True)
+    quiet = {"env": {**os.environ, "DEBIAN_FRONTEND": "noninteractive"}, "stdout": subprocess.DEVNULL, "check": False}
+    subprocess.run(["apt-get", "update", "-q"], **quiet)
+    subprocess.run(["apt-get", "install", "-q", "-y", "--no-install-recommends", "gcc", "libc6-dev"], **quiet)
+
+
+def set_up():
+    """Names what is missing, and ends the command, before anything is done. A missing C compiler is installed where that may be done."""
+    if not has(CC):
+        install_compiler()
+    missing = [
+        what
+        for command, what in (
+            ("rt", "the toolchain's command rt: put its folder in PATH"),
+            ("git", "git"),
+            (CC, f"a C compiler with the name {CC}: on Debian, apt-get install gcc libc6-dev as root"),
+        )
+        if not has(command)
+    ]
+    if missing:
+        sys.exit("\n".join(f"missing: {what}" for what in missing))
