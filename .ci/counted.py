@@ -53,7 +53,7 @@ def run(part):
             sys.stdout.buffer.write(line)
             sys.stdout.buffer.flush()
         _, status, used = os.wait4(started.pid, 0)
-        started.returncode = os.waitstatus_to_exitcode(status)
+        started.returncode = os.WEXITSTATUS(status) if os.WIFEXITED(status) else 128 + os.WTERMSIG(status)
         said.seek(0)
         text = said.read()
     passed, failed = counts_of(text, started.returncode)
