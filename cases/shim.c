@@ -8,6 +8,8 @@
    EINTR_READ, EINTR_WRITE      the call of this number is interrupted
    EINTR_TIMES                  and further ones, so that this number of calls in a row are
    FAIL_SAY                     writes to standard error are made, but report EIO
+   SEED                         each random byte is this number
+   FAIL_SEED                    there are no random bytes: asking for them fails by EIO
    CLOCK_STEP, CLOCK_GOOD       the clock moves by this number of milliseconds each time it is read, and fails after this number of times
    REFUSE                       once the input has ended, a request for more than this number of bytes of memory is refused
    REFUSE_AFTER                 instead such requests are refused after this number of them, wherever the input is
@@ -149,6 +151,18 @@ ssize_t write(int file, const void *bytes, size_t size)
     if (file != STDOUT_FILENO)
         return syscall(SYS_write, file, bytes, size);
     return is_made(&output, size, &count) ? traced('w', syscall(SYS_write, file, bytes, count)) : count;
+}
+
+int getentropy(void *bytes, size_t size)
+{
+    if (number("FAIL_SEED")) {
+        errno = EIO;
+        return -1;
+    }
+    if (!getenv("SEED"))
+        return syscall(SYS_getrandom, bytes, size, 0) == (long)size ? 0 : -1;
+    memset(bytes, (int)number("SEED"), size);
+    return 0;
 }
 
 int clock_gettime(clockid_t clock, struct timespec *time)

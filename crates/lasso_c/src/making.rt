@@ -52,13 +52,8 @@ pub extern "C" fn lasso_new_seeded(
     ensures refused { ¬ (result ≡ DONE) → result ≡ NO_MEMORY }
     ensures kept { ¬ (result ≡ DONE) → lasso.new.seat.value ≡ lasso.old.seat.value }
 {
-    make(
-        alloc,
-        lasso,
-        Capacity::default(),
-        limit,
-        Seed::text(seed0, seed1),
-    )
+    let usual = Capacity::default();
+    make(alloc, lasso, usual, limit, Seed::text(seed0, seed1))
 }
 
 /// `lasso_new_seeded` of the capacity that `lasso_new_sized` has.
@@ -80,8 +75,8 @@ pub extern "C" fn lasso_new_sized_seeded(
     ensures refused { ¬ (result ≡ DONE) → result ≡ NO_MEMORY }
     ensures kept { ¬ (result ≡ DONE) → lasso.new.seat.value ≡ lasso.old.seat.value }
 {
-    let sized = Capacity::new(texts, bytes.max(1));
-    make(alloc, lasso, sized, limit, Seed::text(seed0, seed1))
+    let room = Capacity::new(texts, bytes.max(1));
+    make(alloc, lasso, room, limit, Seed::text(seed0, seed1))
 }
 
 /// `lasso_new` for texts that strangers choose: it hashes them with two keys, by SipHash-1-3. It returns `NO_MEMORY` out of memory,

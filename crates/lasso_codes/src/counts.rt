@@ -22,6 +22,7 @@ use crate::streams::{Input, Output};
 use lasso_columns::counts::{by_frequency_in_parts, count_codes, count_next};
 use lasso_columns::{LineError, SpurRodeo};
 use lasso_input::{Line, Stretch};
+use lasso_parts::hasher::TextState;
 use lasso_parts::util::MemoryLimits;
 use std::alloc::Global;
 use std::cmp::Reverse;
@@ -41,6 +42,7 @@ pub fn counts<H: AllocGlobal + Threads + Sync, R: Read + Drop, W: Write + Drop>(
     input: &mut Input<R>,
     output: &mut Output<W>,
     settings: Settings,
+    hasher: TextState,
 ) -> Result<(), RunError>
     ensures report { Reports input.old output.old output.new (CountsEnds settings input.new.left result) }
     ensures flushed { ¬ (IsWriteEnd result) → output.new.pending ≡ [] }
@@ -49,7 +51,7 @@ pub fn counts<H: AllocGlobal + Threads + Sync, R: Read + Drop, W: Write + Drop>(
     ensures gone { ¬ (result ≡ Err RunError.WriteFailed) → output.new.gone ≡ output.old.gone + gone_readers result }
     ensures write_failed { ReportsFailure result input.old input.new output.old output.new (CountsEnds settings input.new.left) }
 {
-    let result = write_counts(rt, input, output, settings);
+    let result = write_counts(rt, input, output, settings, hasher);
     end_flushed(output, result)
 }
 
@@ -59,15 +61,16 @@ fn write_counts<H: AllocGlobal + Threads + Sync, R: Read + Drop, W: Write + Drop
     input: &mut Input<R>,
     output: &mut Output<W>,
     settings: Settings,
+    hasher: TextState,
 ) -> Result<(), RunError>
     ensures report { Reports input.old output.old output.new (CountsEnds settings input.new.left result) }
     ensures reads { input.new.failures ≡ input.old.failures + failed_reads result }
     ensures writes { output.new.failures ≡ output.old.failures + failed_writes result }
     ensures gone { output.new.gone ≡ output.old.gone + gone_readers result }
 {
-    let mut rodeo = new_rodeo(rt.alloc(), MemoryLimits::new(settings.limit))?;
+    let mut rodeo = new_rodeo(rt.alloc(), MemoryLimits::new(settings.limit), hasher)?;
     let mut counts = Vec::new(rt.alloc());
-    count_all(rt, input, &mut rodeo, &mut counts, settings)?;
+    count_all(rt, input, &mut rodeo, &mut counts, settings, hasher)?;
     let table = LineTable::new(rt.alloc(), &rodeo)?;
     let Some(own) = table.own() else {
         let Ok(lines) = lines_by_frequency(rt, rt.alloc(), &table, &counts, settings.workers) else {
@@ -91,6 +94,7 @@ fn count_all<H: AllocGlobal + Threads + Sync, R: Read + Drop>(
     rodeo: &mut SpurRodeo,
     counts: &mut Vec<u64>,
     settings: Settings,
+    hasher: TextState,
 ) -> Result<(), RunError>
     requires no_texts { rodeo.old.texts ≡ [] }
     requires no_counts { counts.old.items ≡ [] }
@@ -105,6 +109,7 @@ fn count_all<H: AllocGlobal + Threads + Sync, R: Read + Drop>(
     let rule = TextRule {
         alloc: rt.alloc(),
         only_utf8: settings.only_utf8,
+        hasher,
     };
     if settings.workers < 2 {
         return count_lines(rule, input, rodeo, counts);

@@ -61,7 +61,7 @@ fn write_decoded<R: Read + Drop, W: Write + Drop>(
         let Some(header) = next_header(input, &mut line, column)? else {
             return Ok(());
         };
-        let mut rodeo = new_rodeo(rule.alloc, limits)?;
+        let mut rodeo = new_rodeo(rule.alloc, limits, rule.hasher)?;
         read_texts(rule, input, &mut line, &mut rodeo, header.distinct, column)?;
         let table = LineTable::new(rule.alloc, &rodeo)?;
         write_lines(input, output, &mut line, &table, header, null, column)?;

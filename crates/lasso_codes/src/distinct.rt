@@ -51,7 +51,7 @@ fn write_distinct<R: Read + Drop, W: Write + Drop>(
     ensures writes { output.new.failures ≡ output.old.failures + failed_writes result }
     ensures gone { output.new.gone ≡ output.old.gone + gone_readers result }
 {
-    let mut rodeo = new_rodeo(rule.alloc, limits)?;
+    let mut rodeo = new_rodeo(rule.alloc, limits, rule.hasher)?;
     let mut walk = Walk::new(rule.alloc);
     let mut line = Vec::new(rule.alloc);
     let mut number = 1;

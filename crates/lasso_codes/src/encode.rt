@@ -25,6 +25,7 @@ use crate::output::end_flushed;
 use crate::streams::{Input, Output};
 use lasso_columns::{LineError, NULL, SpurRodeo, is_null};
 use lasso_input::{Line, Stretch, text_of};
+use lasso_parts::hasher::TextState;
 use lasso_parts::util::MemoryLimits;
 use lasso_single::coding::intern_code_next;
 use std::alloc::Global;
@@ -44,6 +45,7 @@ pub fn encode<H: AllocGlobal + Threads + Sync, R: Read + Drop, W: Write + Drop>(
     output: &mut Output<W>,
     settings: Settings,
     null: Option<&[u8]>,
+    hasher: TextState,
 ) -> Result<(), RunError>
     ensures report { Reports input.old output.old output.new (EncodeEnds settings (word_of null.entry) input.new.left result) }
     ensures flushed { ¬ (IsWriteEnd result) → output.new.pending ≡ [] }
@@ -52,7 +54,7 @@ pub fn encode<H: AllocGlobal + Threads + Sync, R: Read + Drop, W: Write + Drop>(
     ensures gone { ¬ (result ≡ Err RunError.WriteFailed) → output.new.gone ≡ output.old.gone + gone_readers result }
     ensures write_failed { ReportsFailure result input.old input.new output.old output.new (EncodeEnds settings (word_of null.entry) input.new.left) }
 {
-    let result = write_encoded(rt, input, output, settings, null);
+    let result = write_encoded(rt, input, output, settings, null, hasher);
     end_flushed(output, result)
 }
 
@@ -63,15 +65,16 @@ fn write_encoded<H: AllocGlobal + Threads + Sync, R: Read + Drop, W: Write + Dro
     output: &mut Output<W>,
     settings: Settings,
     null: Option<&[u8]>,
+    hasher: TextState,
 ) -> Result<(), RunError>
     ensures report { Reports input.old output.old output.new (EncodeEnds settings (word_of null.entry) input.new.left result) }
     ensures reads { input.new.failures ≡ input.old.failures + failed_reads result }
     ensures writes { output.new.failures ≡ output.old.failures + failed_writes result }
     ensures gone { output.new.gone ≡ output.old.gone + gone_readers result }
 {
-    let mut rodeo = new_rodeo(rt.alloc(), MemoryLimits::new(settings.limit))?;
+    let mut rodeo = new_rodeo(rt.alloc(), MemoryLimits::new(settings.limit), hasher)?;
     let mut numbers = Vec::new(rt.alloc());
-    number_lines(rt, input, &mut rodeo, &mut numbers, null, settings)?;
+    number_lines(rt, input, &mut rodeo, &mut numbers, null, settings, hasher)?;
     let table = LineTable::new(rt.alloc(), &rodeo)?;
     write_column_in_parts(
         rt,
@@ -91,6 +94,7 @@ fn number_lines<H: AllocGlobal + Threads + Sync, R: Read + Drop>(
     numbers: &mut Vec<u32>,
     null: Option<&[u8]>,
     settings: Settings,
+    hasher: TextState,
 ) -> Result<(), RunError>
     requires no_texts { rodeo.old.texts ≡ [] }
     requires no_numbers { numbers.old.items ≡ [] }
@@ -105,6 +109,7 @@ fn number_lines<H: AllocGlobal + Threads + Sync, R: Read + Drop>(
     let rule = TextRule {
         alloc: rt.alloc(),
         only_utf8: settings.only_utf8,
+        hasher,
     };
     if settings.workers < 2 {
         return encode_lines(rule, input, rodeo, numbers, null);

@@ -6,19 +6,25 @@ ghost use Rattle.lasso_parts.specs.declared.util.LassoErrorKind.TheVariants.{Fai
 
 use crate::error::RunError;
 use lasso_columns::SpurRodeo;
+use lasso_parts::hasher::TextState;
 use lasso_parts::util::{Capacity, MemoryLimits};
 use lasso_single::rodeo::Rodeo;
 use std::alloc::Global;
 
-/// A new interner for lines.
+/// A new interner for lines, which hashes by this seed.
 ///
 /// # Errors
 /// Out of memory, with the line number 0.
-pub fn new_rodeo(alloc: Global, limits: MemoryLimits) -> Result<SpurRodeo, RunError>
+pub fn new_rodeo(
+    alloc: Global,
+    limits: MemoryLimits,
+    hasher: TextState,
+) -> Result<SpurRodeo, RunError>
     ensures made { IfOk result (λ rodeo. rodeo ≡ made_with 4096 limits) }
     ensures refused { IfErr result (λ error. error ≡ RunError.Line (Refused 0 FailedAllocation)) }
 {
-    match Rodeo::with_capacity_and_memory_limits(alloc, Capacity::default(), limits) {
+    let capacity = Capacity::default();
+    match Rodeo::with_capacity_memory_limits_and_hasher(alloc, capacity, limits, hasher) {
         Ok(rodeo) => Ok(rodeo),
         Err(_) => Err(RunError::no_memory(0)),
     }

@@ -6,6 +6,7 @@ ghost use Rattle.lasso_codes.specs.Limits.{InternsOrFinds, IsLetIn, IsLineFault,
 
 use lasso_columns::LineError;
 use lasso_input::{Line, Stretch, escape_in, is_let_in, own_text};
+use lasso_parts::hasher::TextState;
 use lasso_parts::keys::Spur;
 use lasso_parts::util::{LassoError, LassoErrorKind};
 use lasso_single::batch::{Batch, intern_next};
@@ -20,6 +21,8 @@ pub struct TextRule {
     pub alloc: Global,
     /// Whether a line that is not UTF-8 is refused.
     pub only_utf8: bool,
+    /// The seed by which interners hash.
+    pub hasher: TextState,
 }
 
 /// What is kept from line to line.

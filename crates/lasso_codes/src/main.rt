@@ -36,7 +36,9 @@ pub mod streams;
 
 use arguments::{ArgumentError, Request, command_of};
 use ending::{Ending, end};
-use program::{BUFFER_SIZE, Ran, run};
+use error::RunError;
+use lasso_parts::hasher::TextState;
+use program::{BUFFER_SIZE, Ran, run_with_hasher};
 use progress::{Terminals, Watched, shows_progress};
 use std::alloc::AllocError;
 use std::io::{BufReader, BufWriter, ErrorKind, IsTerminal};
@@ -46,8 +48,12 @@ use std::thread::Threads;
 use std::{env, io};
 
 fn main(rt: HostRuntime) -> ExitCode {
+    let Ok(hasher) = TextState::random(&rt) else {
+        let _ = eprintln!(rt; "no random seed: read failed");
+        return ExitCode::from(RunError::ReadFailed.status());
+    };
     match argument_words(&rt) {
-        Ok(words) => end(&rt, &run_words(&rt, &words, terminals(&rt))),
+        Ok(words) => end(&rt, &run_words(&rt, &words, terminals(&rt), hasher)),
         Err(ending) => end(&rt, &ending),
     }
 }
@@ -66,12 +72,13 @@ fn run_words<'a, R: AllocGlobal + Input + Print + Eprint + Clock + Threads + Syn
     rt: &R,
     words: &'a [String],
     terminals: Terminals,
+    hasher: TextState,
 ) -> Ending<'a>
     ensures refused { (text : List ℕ) → command_of (map string_bytes words.now) ≡ Err text → IsRefusal text result }
     ensures run { (asked : Command × Option Text) → command_of (map string_bytes words.now) ≡ Ok asked → IsRunOf asked result }
 {
     match command_of(words) {
-        Ok(request) => Ending::Ran(run_program(rt, &request, terminals)),
+        Ok(request) => Ending::Ran(run_program(rt, &request, terminals, hasher)),
         Err(error) => Ending::Refused(error),
     }
 }
@@ -81,6 +88,7 @@ fn run_program<'a, R: AllocGlobal + Input + Print + Eprint + Clock + Threads + S
     rt: &R,
     request: &Request<'a>,
     terminals: Terminals,
+    hasher: TextState,
 ) -> Ran<'a>
     ensures { result.request ≡ request.now }
 {
@@ -94,7 +102,7 @@ fn run_program<'a, R: AllocGlobal + Input + Print + Eprint + Clock + Threads + S
     };
     let mut input = streams::Input::new(reader);
     let mut output = streams::Output::new(writer);
-    let ran = run(rt, request, &mut input, &mut output);
+    let ran = run_with_hasher(rt, request, &mut input, &mut output, hasher);
     input.into_inner().wipe();
     // Dropping the writer would write what a failed write left in the buffer. Nothing is tried again.
     let (_writer, _left) = output.into_parts();

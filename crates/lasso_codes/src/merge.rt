@@ -62,7 +62,7 @@ fn write_merged<R: Read + Drop, W: Write + Drop>(
     ensures writes { output.new.failures ≡ output.old.failures + failed_writes result }
     ensures gone { output.new.gone ≡ output.old.gone + gone_readers result }
 {
-    let mut rodeo = new_rodeo(rule.alloc, limits)?;
+    let mut rodeo = new_rodeo(rule.alloc, limits, rule.hasher)?;
     let mut numbers = Vec::new(rule.alloc);
     merge_columns(rule, input, &mut rodeo, &mut numbers, limits)?;
     let table = LineTable::new(rule.alloc, &rodeo)?;
@@ -89,7 +89,7 @@ fn merge_columns<R: Read + Drop>(
         let Some(header) = next_header(input, &mut line, column)? else {
             return Ok(());
         };
-        let mut texts = new_rodeo(rule.alloc, limits)?;
+        let mut texts = new_rodeo(rule.alloc, limits, rule.hasher)?;
         read_texts(rule, input, &mut line, &mut texts, header.distinct, column)?;
         match merge_texts(rule.alloc, rodeo, &texts.into_reader()) {
             Ok(table) => add_numbers(input, &mut line, numbers, &table, header, column)?,

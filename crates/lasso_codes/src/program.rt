@@ -27,6 +27,7 @@ use crate::lines::TextRule;
 use crate::merge::merge;
 use crate::output::write_bytes;
 use crate::streams::{Input, Output};
+use lasso_parts::hasher::TextState;
 use lasso_parts::util::MemoryLimits;
 use std::io::{Read, Write};
 use std::thread::Threads;
@@ -61,7 +62,7 @@ impl<'a> Ran<'a> {
     }
 }
 
-/// Runs the request as `run_request` does.
+/// Runs the request as `run_request` does, with the fixed seed.
 pub fn run<'a, H: AllocGlobal + Threads + Sync, R: Read + Drop, W: Write + Drop>(
     rt: &H,
     request: &Request<'a>,
@@ -81,7 +82,31 @@ pub fn run<'a, H: AllocGlobal + Threads + Sync, R: Read + Drop, W: Write + Drop>
     ensures write_failed { ReportsFailure result.ended input.old input.new output.old output.new
         (RequestEnds request.now.command (word_of request.now.null) input.new.left) }
 {
-    let ended = run_request(rt, request, input, output);
+    run_with_hasher(rt, request, input, output, TextState::new())
+}
+
+/// Runs the request as `run_request` does. Interners hash by this seed, which what is written does not depend on.
+pub fn run_with_hasher<'a, H: AllocGlobal + Threads + Sync, R: Read + Drop, W: Write + Drop>(
+    rt: &H,
+    request: &Request<'a>,
+    input: &mut Input<R>,
+    output: &mut Output<W>,
+    hasher: TextState,
+) -> Ran<'a>
+    ensures request { result.request ≡ request.now }
+    ensures report { (verb : Verb) (settings : Settings) → request.now.command ≡ Run verb settings →
+        Reports input.old output.old output.new (VerbEnds verb settings (word_of request.now.null) input.new.left result.ended) }
+    ensures help { request.now.command ≡ Help → input.new ≡ input.old }
+    ensures verb_help { (verb : Verb) → request.now.command ≡ VerbHelp verb → input.new ≡ input.old }
+    ensures version { request.now.command ≡ Version → input.new ≡ input.old }
+    ensures flushed { ¬ (IsWriteEnd result.ended) → output.new.pending ≡ [] }
+    ensures reads { ¬ (result.ended ≡ Err RunError.WriteFailed) → input.new.failures ≡ input.old.failures + failed_reads result.ended }
+    ensures writes { output.new.failures ≡ output.old.failures + failed_writes result.ended }
+    ensures gone { ¬ (result.ended ≡ Err RunError.WriteFailed) → output.new.gone ≡ output.old.gone + gone_readers result.ended }
+    ensures write_failed { ReportsFailure result.ended input.old input.new output.old output.new
+        (RequestEnds request.now.command (word_of request.now.null) input.new.left) }
+{
+    let ended = run_request(rt, request, input, output, hasher);
     Ran {
         request: *request,
         ended,
@@ -97,6 +122,7 @@ pub fn run_request<H: AllocGlobal + Threads + Sync, R: Read + Drop, W: Write + D
     request: &Request<'_>,
     input: &mut Input<R>,
     output: &mut Output<W>,
+    hasher: TextState,
 ) -> Result<(), RunError>
     ensures distinct { (settings : Settings) → request.now.command ≡ Run Distinct settings →
         Reports input.old output.old output.new (DistinctEnds settings.only_utf8 settings.limit input.new.left result) }
@@ -128,12 +154,13 @@ pub fn run_request<H: AllocGlobal + Threads + Sync, R: Read + Drop, W: Write + D
             let rule = TextRule {
                 alloc: rt.alloc(),
                 only_utf8: settings.only_utf8,
+                hasher,
             };
             match verb {
-                Verb::Counts => counts(rt, input, output, settings),
+                Verb::Counts => counts(rt, input, output, settings, hasher),
                 Verb::Decode => decode(rule, input, output, limits, null),
                 Verb::Distinct => distinct(rule, input, output, limits),
-                Verb::Encode => encode(rt, input, output, settings, null),
+                Verb::Encode => encode(rt, input, output, settings, null, hasher),
                 Verb::Merge => merge(rule, input, output, limits, settings.binary),
             }
         }

@@ -133,7 +133,7 @@ impl<R: Read + Drop> Input<R> {
         ensures faults { IfErr result IsInputError }
         ensures reads { self.new.failures ≡ self.old.failures + failed_reads result }
     {
-        let rounds = Rounds::new(workers);
+        let rounds = rounds_of(rule, workers);
         let by = LineTexts::OfBytes(rule.only_utf8);
         let outcome = encode_stream_by(rt, &mut self.inner, rodeo, null, entries, rounds, by);
         let Err(error) = outcome else {
@@ -161,7 +161,7 @@ impl<R: Read + Drop> Input<R> {
         ensures reads { self.new.failures ≡ self.old.failures + failed_reads result }
     {
         let by = LineTexts::OfBytes(rule.only_utf8);
-        match StreamEncoder::new(rule.alloc, &mut self.inner, Rounds::new(workers), by) {
+        match StreamEncoder::new(rule.alloc, &mut self.inner, rounds_of(rule, workers), by) {
             Ok(encoder) => Ok(encoder),
             Err(error) => Err(self.failed_unless_full(&error, 1)),
         }
@@ -384,4 +384,11 @@ fn write_some<W: Write + Drop>(inner: &mut BufWriter<W>, bytes: &[u8]) -> io::Re
         }
     }
     Err(io::Error::from(ErrorKind::TimedOut))
+}
+
+// The usual rounds of this number of workers, which hash by the seed of the run.
+fn rounds_of(rule: TextRule, workers: usize) -> Rounds {
+    let mut rounds = Rounds::new(workers);
+    rounds.hasher = rule.hasher;
+    rounds
 }

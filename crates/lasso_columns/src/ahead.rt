@@ -11,6 +11,7 @@ use crate::line_texts::{LineTexts, with_texts};
 use crate::reading_blocks::{Blocks, Sizes, new_chunk, read_blocks};
 use crate::rounds::put_blocks;
 use crate::stream::{Rounds, StreamError};
+use lasso_parts::hasher::TextState;
 use std::alloc::Global;
 use std::io;
 use std::io::{BufRead, ErrorKind};
@@ -232,9 +233,10 @@ fn encode_and_read<R: AllocGlobal + Threads + Sync, I: BufRead>(
             read_next(rt.alloc(), input, chunk, spare, now, plan, by),
         );
     }
+    let hasher = plan.rounds.hasher;
     let mut work = || -> Vec<Option<Block>>
         ensures { AreBlocksFor (word_of null.entry) rodeo.entry.now.texts now.entry.now.blocks.items result.items }
-    { encode_others(rt, rodeo, now, null) };
+    { encode_others(rt, rodeo, now, null, hasher) };
     let mut read = || -> Turn
         requires { 0 < length chunk.now }
         ensures next { ReadsMore now.entry.now.more by (I.remaining input.entry.now) (I.remaining input.exit.now) result.next.blocks.items result.next.more }
@@ -242,7 +244,7 @@ fn encode_and_read<R: AllocGlobal + Threads + Sync, I: BufRead>(
         ensures last { IsLastFor (word_of null.entry) rodeo.entry.now.texts now.entry.now.blocks.items result.last }
     {
         let next = read_next(rt.alloc(), input, chunk, spare, now, plan, by);
-        let last = encode_last(rt.alloc(), rodeo, now, null);
+        let last = encode_last(rt.alloc(), rodeo, now, null, hasher);
         Turn { next, last }
     };
     let (made, turn) = join_mut(rt, &mut work, &mut read);
@@ -256,24 +258,32 @@ fn encode_others<R: AllocGlobal + Threads + Sync>(
     rodeo: &SpurRodeo,
     now: &Blocks,
     null: Option<&[u8]>,
+    hasher: TextState,
 ) -> Vec<Option<Block>>
     ensures { AreBlocksFor (word_of null.entry) rodeo.now.texts now.now.blocks.items result.items }
 {
     let others = now.blocks.len().saturating_sub(1);
-    match encode_blocks(rt, rodeo, &now.blocks[..others], null) {
+    match encode_blocks(rt, rodeo, &now.blocks[..others], null, hasher) {
         Ok(made) => made,
         Err(_) => Vec::new(rt.alloc()),
     }
 }
 
 // Encodes the last block. Returns `None` if there is none, or if memory or codes run out.
-fn encode_last(alloc: Global, rodeo: &SpurRodeo, now: &Blocks, null: Option<&[u8]>) -> Option<Block>
+fn encode_last(
+    alloc: Global,
+    rodeo: &SpurRodeo,
+    now: &Blocks,
+    null: Option<&[u8]>,
+    hasher: TextState,
+) -> Option<Block>
     ensures { IsLastFor (word_of null.entry) rodeo.now.texts now.now.blocks.items result }
 {
     if now.blocks.is_empty() {
         return None;
     }
-    encode_block(alloc, rodeo, &now.blocks[now.blocks.len() - 1], null)
+    let last = &now.blocks[now.blocks.len() - 1];
+    encode_block(alloc, rodeo, last, null, hasher)
 }
 
 // What was made of the blocks beside the interner: `made` of all but the last, and `last`. The contract speaks of

@@ -6,6 +6,7 @@ ghost use Rattle.lasso_columns.specs.Rows.{is_null, word_of};
 use crate::interners::{SpurRodeo, SpurRodeoReader};
 use crate::rows::{NULL, is_null};
 use lasso_input::Stretch;
+use lasso_parts::hasher::TextState;
 use lasso_parts::keys::Spur;
 use lasso_parts::util::LassoResult;
 use lasso_single::batch::{Batch, get_next};
@@ -30,17 +31,18 @@ pub struct Block {
 }
 
 /// Encodes the lines of the bytes, up to the first that is not UTF-8. Lines that equal `null` are nulls. Texts
-/// that the interner lacks go into a list of the block's own. Returns `None` if memory or codes run out.
+/// that the interner lacks go into a list of the block's own, whose index hashes by this seed. Returns `None` if memory or codes run out.
 pub fn encode_block<S: BuildHasher, A: Allocator>(
     alloc: Global,
     rodeo: &Rodeo<Spur, S, A>,
     bytes: &[u8],
     null: Option<&[u8]>,
+    hasher: TextState,
 ) -> Option<Block>
     ensures block { IfSome result (λ block. IsBlockOf (word_of null.entry) rodeo.now.texts bytes.now block) }
     ensures base { IfSome result (λ block. block.base ≡ length rodeo.now.texts) }
 {
-    let Ok(mut added) = new_rodeo(alloc) else {
+    let Ok(mut added) = new_rodeo(alloc, hasher) else {
         return None;
     };
     let base = rodeo.len();
@@ -123,15 +125,15 @@ fn added_code(added: &mut SpurRodeo, text: &str, base: usize) -> Option<u32>
     Some(code as u32)
 }
 
-// An interner for the texts of one block, without a limit.
-fn new_rodeo(alloc: Global) -> LassoResult<SpurRodeo>
+// An interner for the texts of one block, without a limit, which hashes by this seed.
+fn new_rodeo(alloc: Global, hasher: TextState) -> LassoResult<SpurRodeo>
     ensures { IfOk result (λ rodeo. rodeo.texts ≡ []) }
 {
-    let rodeo: SpurRodeo = Rodeo::default(alloc)?;
+    let rodeo: SpurRodeo = Rodeo::with_hasher(alloc, hasher)?;
     Ok(rodeo)
 }
 
-/// Encodes the lines of each block beside the interner, by a thread for each if one can be started. A block
+/// Encodes the lines of each block beside the interner, by a thread for each if one can be started, each with this seed. A block
 /// whose worker runs out of memory or of codes is `None`.
 ///
 /// # Errors
@@ -141,6 +143,7 @@ pub fn encode_blocks<R: AllocGlobal + Threads + Sync>(
     rodeo: &SpurRodeo,
     blocks: &[Vec<u8>],
     null: Option<&[u8]>,
+    hasher: TextState,
 ) -> Result<Vec<Option<Block>>, AllocError>
     ensures len { IfOk result (λ made. vec_len made ≡ length blocks.now) }
     ensures each { IfOk result (λ made. (i : ℕ) (d : _) (e : _) → i < length blocks.now →
@@ -149,6 +152,6 @@ pub fn encode_blocks<R: AllocGlobal + Threads + Sync>(
     let work = move |i: usize| -> Option<Block>
         requires { i < length blocks.now }
         ensures { IfSome result (λ block. IsBlockAt (word_of null.entry) rodeo.entry.now.texts blocks.entry.now i block) }
-    { encode_block(rt.alloc(), rodeo, &blocks[i], null) };
+    { encode_block(rt.alloc(), rodeo, &blocks[i], null, hasher) };
     map_indices(rt, rt.alloc(), blocks.len(), &work)
 }

@@ -5,11 +5,13 @@ ghost use Rattle.lasso_columns.specs.Steps.{AreLeft, AreLeftAfter, EncodesFirst,
 ghost use Rattle.lasso_columns.specs.Streams.{AreBytesBy, StopsInStream, StopsInStreamBy};
 ghost use Rattle.lasso_columns.specs.Texts.{texts_by};
 ghost use Rattle.lasso_input.specs.Lines.{lines_of};
+ghost use Rattle.lasso_parts.specs.TextHash.{seeded};
 
 use crate::ahead::Ahead;
 use crate::faults::LineError;
 use crate::interners::SpurRodeo;
 use crate::line_texts::LineTexts;
+use lasso_parts::hasher::TextState;
 use std::alloc::Global;
 use std::error::Error;
 use std::io::BufRead;
@@ -31,21 +33,25 @@ pub struct Rounds {
     pub smallest: usize,
     /// The bytes of a block of a later round at most.
     pub largest: usize,
+    /// The seed by which the threads' interners hash.
+    pub hasher: TextState,
 }
 
 impl Rounds {
-    /// Blocks of 64 KiB to 2 MiB or up to 64 KiB more, for this number of workers.
+    /// Blocks of 64 KiB to 2 MiB or up to 64 KiB more, for this number of workers, which hash with the fixed seed.
     pub fn new(workers: usize) -> Self
         ensures workers { result.workers ≡ workers }
         ensures alone { result.alone ≡ 262144 }
         ensures smallest { result.smallest ≡ 65536 }
         ensures largest { result.largest ≡ 2097152 }
+        ensures hasher { result.hasher ≡ seeded 0 0 }
     {
         Rounds {
             workers,
             alone: 262_144,
             smallest: 65_536,
             largest: 2_097_152,
+            hasher: TextState::new(),
         }
     }
 }

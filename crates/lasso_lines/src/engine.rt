@@ -11,6 +11,7 @@ use crate::fault::RunFault;
 use crate::stream::{ByteReader, ByteWriter};
 use crate::stretches::{answer_lines, answer_stretch};
 use lasso_input::Stretch;
+use lasso_parts::hasher::TextState;
 use lasso_parts::util::{Capacity, MemoryLimits};
 use lasso_single::batch::Batch;
 use lasso_single::rodeo::Rodeo;
@@ -23,7 +24,7 @@ use std::sync::Wait;
 ///
 /// A line that is refused or is not UTF-8 ends the run after the answers to the lines before it. So does
 /// out of memory at a line. Out of memory before the first line is reported as line 0, and nothing is
-/// written. After a failed read or write, what was written is a beginning of the report.
+/// written. After a failed read or write, what was written is a beginning of the report. Hashes have the fixed seed.
 pub fn run<R: AllocGlobal + Wait, I: ByteReader, O: ByteWriter>(
     rt: &R,
     reader: &mut I,
@@ -39,7 +40,27 @@ pub fn run<R: AllocGlobal + Wait, I: ByteReader, O: ByteWriter>(
     ensures delivered { OnlyGrows (O.delivered writer.old) (O.delivered writer.new) }
     ensures no_usage { ¬ (result ≡ Err Usage) }
 {
-    let result = answer_input(rt, reader, writer, limits);
+    run_with_hasher(rt, reader, writer, limits, TextState::new())
+}
+
+/// `run` with an interner that hashes by this seed: the report does not depend on it.
+pub fn run_with_hasher<R: AllocGlobal + Wait, I: ByteReader, O: ByteWriter>(
+    rt: &R,
+    reader: &mut I,
+    writer: &mut O,
+    limits: MemoryLimits,
+    hasher: TextState,
+) -> Result<(), RunFault>
+    ensures report { (input : List ℕ) → I.left reader.old ≡ Some input →
+        Writes O.delivered O.pending writer.old writer.new (λ part. Ends input limits part result) }
+    ensures whole { OnOk result (Ended (I.left reader.old) (I.left reader.new)) }
+    ensures reads { I.failures reader.new ≡ I.failures reader.old + failed_reads result }
+    ensures writes { O.failures writer.new ≡ O.failures writer.old + failed_writes result }
+    ensures nothing_pending { ¬ (result ≡ Err WriteFailed) → O.pending writer.new ≡ Some [] }
+    ensures delivered { OnlyGrows (O.delivered writer.old) (O.delivered writer.new) }
+    ensures no_usage { ¬ (result ≡ Err Usage) }
+{
+    let result = answer_input(rt, reader, writer, limits, hasher);
     if let Err(RunFault::ReadFailed | RunFault::WriteFailed) = result {
         return result;
     }
@@ -53,6 +74,7 @@ fn answer_input<R: AllocGlobal + Wait, I: ByteReader, O: ByteWriter>(
     reader: &mut I,
     writer: &mut O,
     limits: MemoryLimits,
+    hasher: TextState,
 ) -> Result<(), RunFault>
     ensures report { (input : List ℕ) → I.left reader.old ≡ Some input →
         Writes O.delivered O.pending writer.old writer.new (λ part. Ends input limits part result) }
@@ -63,7 +85,12 @@ fn answer_input<R: AllocGlobal + Wait, I: ByteReader, O: ByteWriter>(
     ensures delivered { OnlyGrows (O.delivered writer.old) (O.delivered writer.new) }
     ensures no_usage { ¬ (result ≡ Err Usage) }
 {
-    let made = Rodeo::with_capacity_and_memory_limits(rt.alloc(), Capacity::default(), limits);
+    let made = Rodeo::with_capacity_memory_limits_and_hasher(
+        rt.alloc(),
+        Capacity::default(),
+        limits,
+        hasher,
+    );
     let mut rodeo = match made {
         Ok(rodeo) => rodeo,
         Err(error) => return Err(RunFault::Refused(0, error)),

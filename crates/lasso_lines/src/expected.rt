@@ -2,9 +2,9 @@
 //!
 //! An interner with room for them need not grow, and workers that share it wait while it grows. A wrong guess only
 //! costs time or memory: no contract says anything of it.
+use crate::answers::LineRodeo;
 use lasso_input::Stretch;
-use lasso_parts::keys::Spur;
-use lasso_parts::util::FixedState;
+use lasso_parts::hasher::TextState;
 use lasso_single::rodeo::Rodeo;
 use memchr::memchr_iter;
 use std::alloc::Global;
@@ -21,11 +21,16 @@ const PLACE: usize = 4096;
 const LINES_OF_A_TEXT: usize = 8;
 
 /// About how many texts the lines of the input have, but none if the input is short.
-pub(crate) fn expected_texts(alloc: Global, input: &[u8], workers: usize) -> usize {
+pub(crate) fn expected_texts(
+    alloc: Global,
+    input: &[u8],
+    workers: usize,
+    hasher: TextState,
+) -> usize {
     if input.len() <= FIRST_BYTES {
         return 0;
     }
-    let Ok(mut rodeo) = Rodeo::new(alloc) else {
+    let Ok(mut rodeo) = Rodeo::with_hasher(alloc, hasher) else {
         return 0;
     };
     let end = input.len().min(FIRST_BYTES);
@@ -58,7 +63,7 @@ fn feeds_near(input: &[u8], at: usize) -> usize {
 }
 
 // Interns lines up to the first that is not UTF-8, and returns how many.
-fn intern_first(rodeo: &mut Rodeo<Spur, FixedState, Global>, lines: Stretch<'_>) -> usize {
+fn intern_first(rodeo: &mut LineRodeo, lines: Stretch<'_>) -> usize {
     let mut lines = lines;
     for count in 0..FIRST_BYTES {
         let Some(line) = lines.next_ended() else {

@@ -20,6 +20,7 @@ mod stretches;
 pub mod workers;
 
 use fault::RunFault;
+use lasso_parts::hasher::TextState;
 use program::run_words;
 use standard::{StandardReader, StandardWriter};
 use std::alloc::AllocError;
@@ -31,7 +32,11 @@ use std::thread::Threads;
 use std::{env, io};
 
 fn main(rt: HostRuntime) -> ExitCode {
-    match report_lines(&rt) {
+    let Ok(hasher) = TextState::random(&rt) else {
+        let _ = eprintln!(rt; "no random seed: read failed");
+        return ExitCode::from(RunFault::ReadFailed.status());
+    };
+    match report_lines(&rt, hasher) {
         Ok(()) => ExitCode::SUCCESS,
         Err(fault) => {
             let _ = eprintln!(rt; "{fault}");
@@ -40,8 +45,9 @@ fn main(rt: HostRuntime) -> ExitCode {
     }
 }
 
-// Runs from standard input to standard output, with the program's arguments.
-fn report_lines<R>(rt: &R) -> Result<(), RunFault>
+// Runs from standard input to standard output, with the program's arguments. Texts are hashed with a random seed: the lines may be
+// a stranger's.
+fn report_lines<R>(rt: &R, hasher: TextState) -> Result<(), RunFault>
 where
     R: AllocGlobal + Env + Input + Print + Threads + Wait + Sync,
 {
@@ -50,7 +56,7 @@ where
     let mut reader = input.map_err(no_memory)?;
     let output = StandardWriter::new(rt.alloc(), io::writer(rt));
     let mut writer = output.map_err(no_memory)?;
-    run_words(rt, &words, &mut reader, &mut writer)
+    run_words(rt, &words, &mut reader, &mut writer, hasher)
 }
 
 // The arguments after the program's name. Returns `Usage` if one is not UTF-8.

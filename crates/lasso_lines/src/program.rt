@@ -10,21 +10,23 @@ ghost use Rattle.lasso_lines.specs.Ordered.{WritesOrdered, BeginsOrdered};
 ghost use Rattle.lasso_lines.specs.declared.fault.RunFault.TheVariants.{Usage, WriteFailed};
 
 use crate::arguments::{Settings, arguments};
-use crate::engine::run;
+use crate::engine::run_with_hasher;
 use crate::fault::RunFault;
 use crate::stream::{ByteReader, ByteWriter};
-use crate::workers::{OpenGate, run_workers};
+use crate::workers::{OpenGate, run_workers_with_hasher};
+use lasso_parts::hasher::TextState;
 use lasso_parts::util::MemoryLimits;
 use std::sync::Wait;
 use std::thread::Threads;
 
-/// Parses the arguments, and runs over the reader's lines: `run_workers` if they set a number of workers,
-/// else `run`. Returns `Usage` for wrong arguments; nothing is read or written then.
+/// Parses the arguments, and runs over the reader's lines: `run_workers_with_hasher` if they set a number of workers,
+/// else `run_with_hasher`. Returns `Usage` for wrong arguments; nothing is read or written then.
 pub fn run_words<R: AllocGlobal + Threads + Wait + Sync, I: ByteReader, O: ByteWriter>(
     rt: &R,
     words: &[String],
     reader: &mut I,
     writer: &mut O,
+    hasher: TextState,
 ) -> Result<(), RunFault>
     ensures usage { settings_of (map string_bytes words.now) ≡ None → (result ≡ Err Usage) × (reader.new ≡ reader.old) × (writer.new ≡ writer.old) }
     ensures report { WithoutWorkers words.now (I.left reader.old)
@@ -52,19 +54,20 @@ pub fn run_words<R: AllocGlobal + Threads + Wait + Sync, I: ByteReader, O: ByteW
                 limit,
                 workers: None,
             },
-        ) => run(rt, reader, writer, MemoryLimits::new(limit)),
+        ) => run_with_hasher(rt, reader, writer, MemoryLimits::new(limit), hasher),
         Ok(
             Settings {
                 limit,
                 workers: Some(workers),
             },
-        ) => run_workers(
+        ) => run_workers_with_hasher(
             rt,
             reader,
             writer,
             MemoryLimits::new(limit),
             workers,
             &OpenGate,
+            hasher,
         ),
         Err(fault) => Err(fault),
     }

@@ -22,6 +22,7 @@ use crate::shares::share_out;
 use crate::stream::{ByteReader, ByteWriter};
 use lasso_input::Stretch;
 use lasso_log::log::Pass;
+use lasso_parts::hasher::TextState;
 use lasso_parts::keys::Spur;
 use lasso_parts::util::{Capacity, MemoryLimits};
 use lasso_shared::threaded::{SpurThreadedRodeo, ThreadedRodeo};
@@ -61,7 +62,7 @@ impl Gate for OpenGate {
 /// The first line that is not UTF-8 ends the run before a worker starts. Each worker stops at its first
 /// refused line, and the fault names the lowest of them. Out of memory at no line is reported as line 0. In
 /// these cases, and after a failed read, nothing is written. After a failed write, what was written is a
-/// beginning of the output. Never retries a failed read or write.
+/// beginning of the output. Never retries a failed read or write. Hashes have the fixed seed.
 pub fn run_workers<R: AllocGlobal + Threads + Wait + Sync, I: ByteReader, O: ByteWriter, G: Gate>(
     rt: &R,
     reader: &mut I,
@@ -85,11 +86,45 @@ pub fn run_workers<R: AllocGlobal + Threads + Wait + Sync, I: ByteReader, O: Byt
     ensures begins { (input : List ℕ) → I.left reader.old ≡ Some input →
         OnWriteFailed result (Writes O.delivered O.pending writer.old writer.new (BeginsOrdered (lines_of input))) }
 {
+    let hasher = TextState::new();
+    run_workers_with_hasher(rt, reader, writer, limits, workers, gate, hasher)
+}
+
+/// `run_workers` with an interner that hashes by this seed, which the workers share: what is written does not depend on it.
+pub fn run_workers_with_hasher<
+    R: AllocGlobal + Threads + Wait + Sync,
+    I: ByteReader,
+    O: ByteWriter,
+    G: Gate,
+>(
+    rt: &R,
+    reader: &mut I,
+    writer: &mut O,
+    limits: MemoryLimits,
+    workers: usize,
+    gate: &G,
+    hasher: TextState,
+) -> Result<(), RunFault>
+    ensures whole { OnOk result (Ended (I.left reader.old) (I.left reader.new)) }
+    ensures reads { I.failures reader.new ≡ I.failures reader.old + failed_reads result }
+    ensures writes { O.failures writer.new ≡ O.failures writer.old + failed_writes result }
+    ensures nothing_pending { ¬ (result ≡ Err WriteFailed) → O.pending writer.new ≡ Some [] }
+    ensures delivered { OnlyGrows (O.delivered writer.old) (O.delivered writer.new) }
+    ensures nothing_written { IfErr result (λ fault. ¬ (fault ≡ WriteFailed) → Keeps O.delivered O.pending writer.old writer.new) }
+    ensures no_usage { ¬ (result ≡ Err Usage) }
+    ensures fault { (input : List ℕ) → I.left reader.old ≡ Some input → IfErr result (IsFaultOf (lines_of input)) }
+    ensures refused { (input : List ℕ) → I.left reader.old ≡ Some input → IfErr result (IsExplainedBy limits (lines_of input)) }
+    ensures texts { (input : List ℕ) → I.left reader.old ≡ Some input → OnOk result (AreTexts (lines_of input)) }
+    ensures lines { (input : List ℕ) → I.left reader.old ≡ Some input →
+        OnOk result (Writes O.delivered O.pending writer.old writer.new (WritesOrdered (lines_of input))) }
+    ensures begins { (input : List ℕ) → I.left reader.old ≡ Some input →
+        OnWriteFailed result (Writes O.delivered O.pending writer.old writer.new (BeginsOrdered (lines_of input))) }
+{
     let workers = workers.max(1);
     flush_all(writer)?;
     let mut input = Vec::new(rt.alloc());
     read_all(rt, reader, &mut input)?;
-    let rodeo = new_interner(rt.alloc(), limits, &input, workers)?;
+    let rodeo = new_interner(rt.alloc(), limits, &input, workers, hasher)?;
     let mut pass = rodeo.pass();
     let codes = intern_lines(rt, &rodeo, &mut pass, &input, workers, gate)?;
     drop(input);
@@ -103,16 +138,20 @@ fn new_interner(
     limits: MemoryLimits,
     input: &[u8],
     workers: usize,
+    hasher: TextState,
 ) -> Result<SpurThreadedRodeo, RunFault>
     ensures opening { IfOk result (λ rodeo. rodeo.opening ≡ begun limits) }
     ensures fault { IfErr result (λ fault. fault ≡ Refused 0 FailedAllocation) }
 {
-    let texts = expected_texts(alloc, input, workers);
+    let texts = expected_texts(alloc, input, workers, hasher);
     let room = Capacity::for_strings(texts.max(Capacity::default().strings()));
-    if let Ok(rodeo) = ThreadedRodeo::with_capacity_and_memory_limits(alloc, room, limits) {
+    if let Ok(rodeo) = ThreadedRodeo::with_capacity_memory_limits_and_hasher(
+        alloc, room, limits, hasher,
+    ) {
         return Ok(rodeo);
     }
-    match ThreadedRodeo::with_capacity_and_memory_limits(alloc, Capacity::default(), limits) {
+    let usual = Capacity::default();
+    match ThreadedRodeo::with_capacity_memory_limits_and_hasher(alloc, usual, limits, hasher) {
         Ok(rodeo) => Ok(rodeo),
         Err(error) => Err(RunFault::Refused(0, error)),
     }

@@ -2,6 +2,7 @@
 use crate::checks::is_so;
 use lasso::{Rodeo, SpurRodeo};
 use lasso_columns::{Rounds, StreamError};
+use lasso_parts::hasher::TextState;
 use std::io::{BufRead, BufReader};
 use std::test::Fail;
 use std::thread::Threads;
@@ -39,6 +40,7 @@ fn rounds_of(workers: usize, alone: usize) -> Rounds {
         alone,
         smallest: 1,
         largest: 1,
+        hasher: TextState::with_seed(5, 6),
     }
 }
 

@@ -3,6 +3,7 @@
 use crate::checks::{all_right, is_by_the_limit, is_so};
 use lasso::{Capacity, LassoResult, MemoryLimits, Rodeo, SpurRodeo};
 use lasso_columns::{LineError, LineTexts, NULL, Rounds, StreamEncoder, StreamError, encode_rows};
+use lasso_parts::hasher::TextState;
 use std::alloc::Global;
 use std::io;
 use std::io::{BufRead, BufReader, ErrorKind, Read};
@@ -152,6 +153,7 @@ fn rounds_of(workers: usize, size: usize) -> Rounds {
         alone: size,
         smallest: size,
         largest: size.saturating_mul(2),
+        hasher: TextState::with_seed(5, 6),
     }
 }
 
@@ -548,6 +550,7 @@ fn a_stream_is_encoded_round_by_round(rt: HostRuntime) -> Result<(), Fail> {
         alone: 1,
         smallest: 1,
         largest: 1,
+        hasher: TextState::with_seed(5, 6),
     };
     let entries = by_rounds(&rt, b"to\n-\nbe\nto\nbe\nto\nor\n", rounds)?;
     is_so(

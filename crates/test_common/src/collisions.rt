@@ -14,3 +14,12 @@ pub fn colliding(alloc: Global, count: u32) -> Result<Vec<String>, AllocError> {
     }
     Ok(texts)
 }
+
+/// Different texts of 32 bytes, `count` of them, that are not known to collide under any seed.
+pub fn not_colliding(alloc: Global, count: u32) -> Result<Vec<String>, AllocError> {
+    let mut texts = Vec::new(alloc);
+    for number in 0..count {
+        texts.push(format!(in alloc; "{number:08}{COLLIDES}")?)?;
+    }
+    Ok(texts)
+}

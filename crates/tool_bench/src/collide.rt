@@ -1,19 +1,22 @@
-//! Texts that collide under the fixed seed, in an interner with the hasher of that seed and in one with a keyed hasher.
+//! Texts that collide under the fixed seed, in interners with that seed, with others and with a keyed hasher, beside other texts.
 use crate::table::Table;
 use crate::timing::{REFUSED, Tenths, elapsed_since, least, started, sum_of_positions, tenths_if};
 use anyhow::Result;
 use lasso::keyed::keyed_by;
-use lasso::{FixedState, Key, LassoResult, Rodeo, Spur};
+use lasso::{FixedState, Key, LassoResult, Rodeo, Spur, TextState};
 use std::alloc::Global;
 use std::hash::BuildHasher;
 use std::rt::Clock;
-use test_common::collisions::colliding;
+use test_common::collisions::{colliding, not_colliding};
 
 // How often each interner is filled.
 const ROUNDS: u32 = 4;
 
-/// Times filling interners with `count` texts that collide under the fixed seed: the least of several rounds, by a text. It fails if
-/// there is no memory for the texts.
+// The rounds' seeds are multiples of this number.
+const SPREAD: u64 = 0x9e37_79b9_7f4a_7c15;
+
+/// Times filling interners with `count` texts that collide under the fixed seed, and with as many that don't: the least of several
+/// rounds, by a text. In each round `seeded` has another seed. It fails if there is no memory for the texts.
 pub fn time_collisions<R: AllocGlobal + Clock + Print>(
     rt: &R,
     table: &mut Table,
@@ -21,13 +24,21 @@ pub fn time_collisions<R: AllocGlobal + Clock + Print>(
 ) -> Result<()> {
     let texts = colliding(rt.alloc(), count)?;
     let hasher = keyed_by(*b"sixteen of bytes");
+    let others = not_colliding(rt.alloc(), count)?;
     let mut fixed = Ok(u64::MAX);
+    let mut seeded = Ok(u64::MAX);
+    let mut seeded_others = Ok(u64::MAX);
     let mut keyed = Ok(u64::MAX);
-    for _ in 0..ROUNDS {
+    for round in 0..ROUNDS {
+        let other = TextState::with_seed(u64::from(round).wrapping_mul(SPREAD), SPREAD);
         fixed = least(fixed, time_filling(rt, FixedState::new(), &texts));
+        seeded = least(seeded, time_filling(rt, other, &texts));
+        seeded_others = least(seeded_others, time_filling(rt, other, &others));
         keyed = least(keyed, time_filling(rt, hasher, &texts));
     }
     table.add(rt, "fixed", texts.len(), fixed);
+    table.add(rt, "seeded", texts.len(), seeded);
+    table.add(rt, "others", texts.len(), seeded_others);
     table.add(rt, "keyed", texts.len(), keyed);
     Ok(())
 }

@@ -26,7 +26,9 @@
 use crate::iter::TextList;
 use crate::{LassoError, LassoErrorKind, LassoResult};
 use std::cell::UnsafeCell;
+use std::collections::hash_map::RandomState;
 use std::ffi::c_void;
+use std::hash::{BuildHasher, Hasher};
 use std::panic::RefUnwindSafe;
 use std::sync::{Mutex, PoisonError};
 use std::{ptr, slice, str};
@@ -47,7 +49,14 @@ pub(crate) struct LassoText {
 }
 
 extern "C" {
-    fn lasso_new_sized(lasso: *mut Lasso, texts: usize, bytes: usize, limit: usize) -> u32;
+    fn lasso_new_sized_seeded(
+        lasso: *mut Lasso,
+        texts: usize,
+        bytes: usize,
+        limit: usize,
+        seed0: u64,
+        seed1: u64,
+    ) -> u32;
     fn lasso_intern(lasso: *mut Lasso, text: *const u8, text_length: usize, code: *mut u32) -> u32;
     fn lasso_set_limit(lasso: *mut Lasso, limit: usize) -> u32;
     fn lasso_clear(lasso: *mut Lasso) -> u32;
@@ -128,6 +137,18 @@ unsafe impl Send for Handle {}
 // A panic finds each handle good (6).
 impl RefUnwindSafe for Handle {}
 
+/// The seed by which an interner hashes: two numbers.
+#[derive(Clone, Copy)]
+pub(crate) struct Seed(pub(crate) u64, pub(crate) u64);
+
+impl Seed {
+    /// Two numbers that std's `RandomState` makes of random keys.
+    pub(crate) fn random() -> Self {
+        let number = || RandomState::new().build_hasher().finish();
+        Self(number(), number())
+    }
+}
+
 impl Handle {
     /// `LASSO_NONE`: no interner yet.
     fn none() -> Self {
@@ -141,11 +162,17 @@ impl Handle {
 
     /// An interner without texts. It has room for `texts` texts before its list grows, and a first
     /// bucket of `bytes` bytes. Its buckets take at most `limit` bytes, or those of the first one.
-    /// The only error is `FailedAllocation`.
-    pub(crate) fn with_room(texts: usize, bytes: usize, limit: usize) -> LassoResult<Self> {
+    /// It hashes by the seed. The only error is `FailedAllocation`.
+    pub(crate) fn with_room(
+        texts: usize,
+        bytes: usize,
+        limit: usize,
+        seed: Seed,
+    ) -> LassoResult<Self> {
         let mut handle = Self::none();
+        let lasso = handle.lasso.get_mut();
         // SAFETY: a handle of this function's (1, 2).
-        let status = unsafe { lasso_new_sized(handle.lasso.get_mut(), texts, bytes, limit) };
+        let status = unsafe { lasso_new_sized_seeded(lasso, texts, bytes, limit, seed.0, seed.1) };
         outcome(status)?;
         Ok(handle)
     }
@@ -332,7 +359,7 @@ mod tests {
 
     #[test]
     fn positions_past_the_codes_have_no_text() {
-        let mut handle = Handle::with_room(0, 1, usize::MAX).unwrap();
+        let mut handle = Handle::with_room(0, 1, usize::MAX, Seed(1, 2)).unwrap();
         handle.intern("red").unwrap();
         assert_eq!(handle.text(0), Some("red"));
         assert_eq!(handle.text(1), None);

@@ -4,7 +4,7 @@ mod clones;
 mod conversions;
 
 use crate::error::or_panic;
-use crate::foreign::{Handle, SharedHandle};
+use crate::foreign::{Handle, Seed, SharedHandle};
 use crate::iter::TextList;
 use crate::{
     Capacity, Iter, Key, LassoError, LassoErrorKind, LassoResult, MemoryLimits, RodeoReader,
@@ -18,7 +18,8 @@ use std::marker::PhantomData;
 /// An interner: each distinct text once, and a small key for each.
 ///
 /// `K` is the type of its keys. The hasher `S` is kept, and not used: the library hashes texts on
-/// its own, with a fixed seed, so whoever chooses the texts can make them collide.
+/// its own, with a random seed for each interner, or that of [`with_seed`](Self::with_seed). A clone
+/// has the seed of its source.
 ///
 /// One thread at a time uses it. It may move to another thread, and is not `Sync`: a
 /// [`RodeoReader`] is.
@@ -116,6 +117,25 @@ impl<K: Key> Rodeo<K, RandomState> {
     ) -> Self {
         Self::with_capacity_memory_limits_and_hasher(capacity, memory_limits, RandomState::new())
     }
+
+    /// An interner without texts, of the default capacity and without a limit, whose table hashes by
+    /// this seed, so that each run takes the same steps. Whoever knows the seed can choose texts that
+    /// collide. Keys don't depend on it.
+    ///
+    /// ```rust
+    /// use lasso_proved::{Key, Rodeo};
+    ///
+    /// let mut rodeo: Rodeo = Rodeo::with_seed(7, 9);
+    /// assert_eq!(rodeo.get_or_intern("red").into_usize(), 0);
+    /// ```
+    pub fn with_seed(seed0: u64, seed1: u64) -> Self {
+        or_panic(Self::try_seeded(
+            Capacity::default(),
+            MemoryLimits::default(),
+            RandomState::new(),
+            Seed(seed0, seed1),
+        ))
+    }
 }
 
 impl<K: Key, S: BuildHasher> Rodeo<K, S> {
@@ -157,9 +177,18 @@ impl<K: Key, S: BuildHasher> Rodeo<K, S> {
         limits: MemoryLimits,
         hasher: S,
     ) -> LassoResult<Self> {
+        Self::try_seeded(capacity, limits, hasher, Seed::random())
+    }
+
+    fn try_seeded(
+        capacity: Capacity,
+        limits: MemoryLimits,
+        hasher: S,
+        seed: Seed,
+    ) -> LassoResult<Self> {
         let (texts, bytes) = (capacity.strings(), capacity.bytes().get());
         Ok(Self {
-            handle: Handle::with_room(texts, bytes, limits.max_memory_usage())?,
+            handle: Handle::with_room(texts, bytes, limits.max_memory_usage(), seed)?,
             hasher,
             key: PhantomData,
         })

@@ -1,7 +1,7 @@
 //! The interner that threads share.
 
 use crate::error::or_panic;
-use crate::foreign::{Handle, SharedHandle};
+use crate::foreign::{Handle, Seed, SharedHandle};
 use crate::foreign_shared::Users;
 use crate::iter::TextList;
 use crate::rodeo::text_of;
@@ -225,7 +225,12 @@ impl<K, S> ThreadedRodeo<K, S> {
     }
 
     fn one_thread(&self) -> Handle {
-        let mut handle = or_panic(Handle::with_room(self.len(), self.first, usize::MAX));
+        let mut handle = or_panic(Handle::with_room(
+            self.len(),
+            self.first,
+            usize::MAX,
+            Seed::random(),
+        ));
         for text in self.strings() {
             or_panic(handle.intern(text));
         }

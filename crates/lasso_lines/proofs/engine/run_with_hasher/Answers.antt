@@ -1,7 +1,7 @@
 use Rattle.std.proofs.lemmas.Result.{err_from_is_err_and}
 use Rattle.lasso_lines.proofs.Known.{grows_stays, only_grows_then}
 use Rattle.lasso_lines.proofs.Ways.{ends_unflushed}
-use Rattle.lasso_lines.proofs.engine.run.Goals as goal
+use Rattle.lasso_lines.proofs.engine.run_with_hasher.Goals as goal
 
 pub returns-in_err-flush_all-clause-report : goal.returns-in_err-flush_all-clause-report
 returns-in_err-flush_all-clause-report g c = λ input e.

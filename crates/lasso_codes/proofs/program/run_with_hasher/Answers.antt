@@ -2,7 +2,7 @@ use Rattle.std.proofs.Common.{◌∙◌, ap}
 use Rattle.lasso_columns.specs.Rows.{word_of}
 use Rattle.lasso_codes.specs.declared.arguments.Command.TheVariants.{Run}
 use Rattle.lasso_codes.proofs.Verbs.{verb_end}
-use Rattle.lasso_codes.proofs.program.run.Goals as goal
+use Rattle.lasso_codes.proofs.program.run_with_hasher.Goals as goal
 
 pub returns-clause-report : goal.returns-clause-report
 returns-clause-report g c = λ verb settings asked bytes known.

@@ -12,7 +12,7 @@ use Rattle.lasso_lines.proofs.Explaining.{no_interner_explained, input_explained
 use Rattle.lasso_lines.proofs.FirstFaults.{no_interner, input_fault_is, end_fault_is, where_ok}
 use Rattle.lasso_lines.proofs.Known.{only_grows_then}
 use Rattle.lasso_lines.proofs.Named.{writes_lines, begins_lines}
-use Rattle.lasso_lines.proofs.workers.run_workers.Goals as goal
+use Rattle.lasso_lines.proofs.workers.run_workers_with_hasher.Goals as goal
 
 pub returns-clause-lines : goal.returns-clause-lines
 returns-clause-lines g c = λ input left.
