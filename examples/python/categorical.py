@@ -12,7 +12,7 @@ import random
 import sys
 import time
 from array import array
-from collections.abc import Callable, Iterator
+from collections.abc import Callable, Iterable, Iterator
 from typing import Any
 
 import numpy
@@ -45,7 +45,7 @@ def batches_of(column: pandas.Series, batch: int) -> Iterator[pandas.Series]:
         yield column.iloc[start:start + batch]
 
 
-def to_categorical(batches: Iterator[pandas.Series]) -> pandas.Categorical:
+def to_categorical(batches: Iterable[pandas.Series]) -> pandas.Categorical:
     """The column that the batches make, whose categories are its texts in the order in which they come first."""
     with Interner() as interner:
         codes = array("I")
@@ -106,14 +106,16 @@ def main() -> None:
         rounds = {
             "lasso, batch by batch to a Categorical": timed(to_categorical, batches_of(column, batch)),
             "pandas.factorize, in one call": timed(pandas.factorize, column),
+            "lasso, in one call to a Categorical": timed(to_categorical, [column]),
             "lasso, codes in one call": timed(encode, column),
             "lasso, codes of a list": timed(encode, items),
             "a dict, codes of a list": timed(loop, items),
             "lasso, Arrow's buffers in one call": timed(encode, arrow),
         }
-        (_, ours), (_, (codes, uniques)), *others, (_, by_arrow) = rounds.values()
+        (_, ours), (_, (codes, uniques)), (_, whole), *others, (_, by_arrow) = rounds.values()
         same = all((numpy.frombuffer(other, dtype=numpy.int32) == codes).all() for _, other in others)
-        if not is_same(ours, codes, uniques) or not same or not (numpy.frombuffer(by_arrow, dtype=numpy.int32) == codes[column.notna()]).all():
+        same = same and bool((numpy.frombuffer(by_arrow, dtype=numpy.int32) == codes[column.notna()]).all())
+        if not (same and is_same(ours, codes, uniques) and is_same(whole, codes, uniques)):
             sys.exit("categorical.py: the codes or the texts are not those of pandas")
         for name, (took, _) in rounds.items():
             times.setdefault(name, []).append(took)

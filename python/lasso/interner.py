@@ -86,7 +86,7 @@ class Interner(Core):
 
     def copy(self: _Kind) -> _Kind:
         """Another interner of the same class with the same texts, codes, limit and attributes. The limit is greater if the texts' bytes are."""
-        made = self.__new__(type(self))
+        made = Core.__new__(type(self))
         self._clone(made)
         made.__dict__.update(self.__dict__)
         return made
@@ -100,7 +100,7 @@ class Interner(Core):
 
 def _loaded(kind: type[_Kind], texts: list[str], limit: int | None) -> _Kind:
     """An interner of a class, with these texts under the codes of their order, and with that limit."""
-    made = kind.__new__(kind)
+    made = Core.__new__(kind)
     made._open(None)
     encode_into(made, texts, None, array("I"), True)
     made.limit = limit

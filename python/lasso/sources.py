@@ -80,7 +80,7 @@ def _rows_of(texts: Any) -> Any:
         raise TypeError("one text, where many are wanted: give a list of texts")
     if hasattr(texts, "to_numpy"):
         texts = texts.to_numpy()
-    if isinstance(texts, list):
+    if type(texts) is list:
         return texts
     if hasattr(texts, "mask"):
         return texts.tolist()

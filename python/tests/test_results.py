@@ -20,6 +20,9 @@ from lasso import NULL, Codes, Interner, InternerClosed, LassoError
 class Named(Interner):
     """A subclass whose constructor wants a word."""
 
+    def __new__(cls, name: str) -> Named:
+        return super().__new__(cls)
+
     def __init__(self, name: str) -> None:
         super().__init__(limit=5000)
         self.name = name
@@ -89,6 +92,14 @@ def test_makes_categoricals_of_integers_by_value() -> None:
     for past in ([2], [-2], [2**32], numpy.array([2**64 - 1], dtype=numpy.uint64), array("I", [NULL - 1])):
         with pytest.raises(ValueError):
             interner.to_categorical(past)
+
+
+def test_takes_a_list_for_what_it_gives() -> None:
+    class Short(list[str]):
+        def __len__(self) -> int:
+            return 1
+
+    assert list(Interner().encode(Short(["red", "blue"]))) == [0, 1]
 
 
 def test_has_the_nulls_of_pandas() -> None:
