@@ -217,13 +217,15 @@ static int limit_of(PyObject *number, size_t *limit)
     return fits ? 0 : -1;
 }
 
-static PyObject *core_open(Core *core, PyObject *number)
+static PyObject *core_open(Core *core, PyObject *words)
 {
+    PyObject *number;
     size_t limit;
-    if (limit_of(number, &limit) < 0)
+    unsigned long long seed0, seed1;
+    if (!PyArg_ParseTuple(words, "OKK", &number, &seed0, &seed1) || limit_of(number, &limit) < 0)
         return NULL;
     core_enter(core);
-    uint32_t status = lasso_new(&core->lasso, limit);
+    uint32_t status = lasso_new_seeded(&core->lasso, limit, seed0, seed1);
     if (status != LASSO_DONE)
         return raise_status(status, -1);
     Py_RETURN_NONE;
@@ -344,7 +346,7 @@ static PyMethodDef methods[] = {
     {"close", (PyCFunction)core_close, METH_NOARGS,
      "close($self, /)\n--\n\nGives the memory back. len, memory and limit are 0 then, interner[code] raises IndexError, this call does nothing,\n"
      "and every other raises InternerClosed."},
-    {"_open", (PyCFunction)core_open, METH_O, "Makes an interner without texts, with a limit or None."},
+    {"_open", (PyCFunction)core_open, METH_VARARGS, "_open(limit, seed0, seed1): makes an interner without texts, with a limit or None."},
     {"_clone", (PyCFunction)core_clone, METH_O, "Makes a copy of the interner in another Core."},
     {"_check_rows", (PyCFunction)core_check_rows, METH_VARARGS,
      "_check_rows(items, nulls): raises TypeError for the first item of a list or a buffer of objects that is neither a str nor a null."},

@@ -3,6 +3,8 @@
 from __future__ import annotations
 
 import importlib
+import operator
+import os
 from array import array
 from collections.abc import Iterable, Iterator
 from types import TracebackType
@@ -18,13 +20,14 @@ _Kind = TypeVar("_Kind", bound="Interner")
 class Interner(Core):
     """Texts, each once, in the order in which they came. A text's code is its position, from 0.
 
-    ``limit`` is how many bytes the texts' buckets may take; None is no limit. The first bucket has 4,096 bytes whatever the limit. Threads may
+    ``limit`` is how many bytes the texts' buckets may take; None is no limit. The first bucket has 4,096 bytes whatever the limit. ``seed`` is a
+    number below 2^128, by which texts are hashed; None is a new one of the system's random numbers. Codes are the same whatever it is. Threads may
     share an interner: each call waits for one that lets others run meanwhile. ``encode`` and ``get_many`` let other threads between blocks of
     rows. Its memory is given back at the end of a ``with`` block, by ``close``, or when the interner is garbage.
     """
 
-    def __init__(self, limit: int | None = None) -> None:
-        self._open(limit)
+    def __init__(self, limit: int | None = None, *, seed: int | None = None) -> None:
+        self._open(limit, *_halves(seed))
 
     def __enter__(self: _Kind) -> _Kind:
         return self
@@ -98,10 +101,18 @@ class Interner(Core):
         return _loaded, (type(self), self.texts(), self.limit), self.__dict__ or None
 
 
+def _halves(seed: int | None) -> tuple[int, int]:
+    """A seed, or a new one, as two numbers of 64 bits."""
+    whole = int.from_bytes(os.urandom(16), "little") if seed is None else operator.index(seed)
+    if not 0 <= whole < 2**128:
+        raise ValueError(f"a seed of {seed}, which is not from 0 up to 2^128 - 1")
+    return whole % 2**64, whole >> 64
+
+
 def _loaded(kind: type[_Kind], texts: list[str], limit: int | None) -> _Kind:
     """An interner of a class, with these texts under the codes of their order, and with that limit."""
     made = Core.__new__(kind)
-    made._open(None)
+    made._open(None, *_halves(None))
     encode_into(made, texts, None, array("I"), True)
     made.limit = limit
     return made

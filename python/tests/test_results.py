@@ -164,6 +164,22 @@ def test_takes_whole_limits_alone() -> None:
     assert (interner.limit, Interner(limit=True).limit) == (None, 1)
 
 
+def test_codes_are_the_same_whatever_the_seed() -> None:
+    texts = [f"text {row % 700}" for row in range(2000)]
+    for seed in (None, 0, 1, 2**64, 2**128 - 1, True):
+        interner = Interner(seed=seed)
+        assert list(interner.encode(texts)) == [row % 700 for row in range(2000)]
+        assert interner.copy().encode(texts[:3]) == array("I", [0, 1, 2])
+    for wrong in (-1, 2**128):
+        with pytest.raises(ValueError, match="a seed of"):
+            Interner(seed=wrong)
+    for wrong in (1.5, "5", b"0123456789abcdef"):
+        with pytest.raises(TypeError):
+            Interner(seed=wrong)  # type: ignore[arg-type]
+    with pytest.raises(TypeError):
+        Interner(None, 5)  # type: ignore[misc]
+
+
 def test_subclasses_stay_what_they_are() -> None:
     named = Named("colours")
     named.encode(["red", "blue"])
