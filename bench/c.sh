@@ -56,5 +56,9 @@ measure_c() {
     need_pandas
     [ -n "$PANDAS" ] || return 0
     echo
-    PYTHONPATH=$PWD/python LASSO_LIBRARY=$PWD/out/liblasso.so.0 $PRIORITY /usr/bin/python3 examples/python/categorical.py
+    rm -rf "$OUT/python" && cp -r python "$OUT/python"
+    /usr/bin/python3 "$OUT/python/backend.py" > "$OUT/core.log"
+    for words in "" "2000000 20000" "2000000 200000 65536 7" "2000000 200000 65536 35" "1000000 100000 65536 200"; do
+        PYTHONPATH=$OUT/python $PRIORITY /usr/bin/python3 examples/python/categorical.py $words
+    done
 }

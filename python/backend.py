@@ -1,6 +1,7 @@
-"""Makes the wheel of the module lasso, with the shared library in it. pip calls it, as pyproject.toml says.
+"""Builds the module lasso, with the library for C in its extension module. pip calls it, as pyproject.toml says; run as a program it builds
+the extension module into the folder lasso.
 
-The library is the one that the environment variable LASSO_LIBRARY names, or else the installed one, which the system's loader finds.
+The library is the archive liblasso.a that the environment variable LASSO_LIBRARY names, or else the one that pkg-config finds.
 """
 
 from __future__ import annotations
@@ -8,8 +9,11 @@ from __future__ import annotations
 import ctypes
 import os
 import re
+import shlex
+import subprocess
 import sys
 import sysconfig
+import tempfile
 import zipfile
 from base64 import urlsafe_b64encode
 from hashlib import sha256
@@ -19,20 +23,22 @@ from typing import Any
 HERE = Path(__file__).resolve().parent
 PROJECT: dict[str, str] = dict(re.findall(r'^([\w-]+) = "(.*)"$', (HERE / "pyproject.toml").read_text(encoding="utf-8"), re.M))
 VERSION = re.findall(r'^__version__ = "(.*)"$', (HERE / "lasso/__init__.py").read_text(encoding="utf-8"), re.M)[0]
-SHARED = f"liblasso.so.{VERSION.split('.')[0]}"
+CORE = "_core.abi3.so"
 FOLDER = f"lasso-{VERSION}.dist-info"
 
 
 def build_wheel(wheel_directory: str, config_settings: Any = None, metadata_directory: Any = None) -> str:
     """Writes the wheel into a folder, and returns its name."""
-    files = {f"lasso/{file.name}": file.read_bytes() for file in (HERE / "lasso/__init__.py", HERE / "lasso/py.typed")}
-    files[f"lasso/{SHARED}"] = _library().read_bytes()
+    files = {f"lasso/{file.name}": file.read_bytes() for file in sorted((HERE / "lasso").iterdir()) if file.suffix in (".py", ".pyi", ".typed")}
+    with tempfile.TemporaryDirectory() as folder:
+        files[f"lasso/{CORE}"] = build_core(Path(folder) / CORE).read_bytes()
     platform = re.sub(r"\W", "_", sysconfig.get_platform())
-    return _write(wheel_directory, f"py3-none-{platform}", files)
+    return _write(wheel_directory, f"cp311-abi3-{platform}", files)
 
 
 def build_editable(wheel_directory: str, config_settings: Any = None, metadata_directory: Any = None) -> str:
-    """The same for ``pip install -e``: a wheel that leads to this folder."""
+    """The same for ``pip install -e``: a wheel that leads to this folder, in which the extension module is built."""
+    build_core(HERE / "lasso" / CORE)
     return _write(wheel_directory, "py3-none-any", {"lasso.pth": f"{HERE}\n".encode()})
 
 
@@ -40,19 +46,54 @@ def build_sdist(sdist_directory: str, config_settings: Any = None) -> str:
     sys.exit("lasso has no source distribution, since the library is not built by Python: build a wheel")
 
 
-def _library() -> Path:
-    """The shared library that the wheel takes in."""
+def build_core(path: Path) -> Path:
+    """Compiles the extension module, with the library in it, to this path."""
+    if sysconfig.get_config_var("Py_GIL_DISABLED"):
+        sys.exit("lasso needs a Python with its global lock: this one is free-threaded")
+    headers = sysconfig.get_paths()["include"]
+    if not (Path(headers) / "Python.h").is_file():
+        sys.exit(f"{headers}/Python.h is missing: install the headers of Python, as Debian's python3-dev")
+    library, header = _library()
+    command = [
+        *shlex.split(os.environ.get("CC", "cc")), "-O2", "-fPIC", "-shared", "-fvisibility=hidden", "-std=c11", f"-I{headers}", f"-I{header}",
+        *sorted(map(str, (HERE / "core").glob("*.c"))), str(library), "-Wl,--exclude-libs,ALL", "-Wl,-z,now,-z,relro", "-o", str(path),
+    ]
+    run = subprocess.run(command, stdout=subprocess.PIPE, stderr=subprocess.STDOUT, text=True, check=False)
+    if run.returncode != 0:
+        sys.exit(f"the extension module can't be built with {library}:\n{run.stdout}")
+    try:
+        ctypes.PyDLL(str(path), os.RTLD_NOW)
+    except OSError as fault:
+        path.unlink()
+        sys.exit(f"{library} is no library of lasso: {fault}")
+    return path
+
+
+def _library() -> tuple[Path, Path]:
+    """The archive that goes into the module, and the folder of lasso.h."""
     named = os.environ.get("LASSO_LIBRARY", "")
-    if not named:
-        try:
-            ctypes.CDLL(SHARED)
-        except OSError as fault:
-            sys.exit(f"no shared library of lasso: install it, or name it in LASSO_LIBRARY ({fault})")
-        mapped = Path("/proc/self/maps").read_text(encoding="utf-8")
-        named = str(re.findall(rf"(/.*/{re.escape(SHARED)}[.\d]*)$", mapped, re.M)[0])
-    if not Path(named).is_file():
-        sys.exit(f"LASSO_LIBRARY={named}: there is no such file")
-    return Path(named)
+    library = Path(named) if named else Path(_variable("libdir")) / "liblasso.a"
+    if named and library.suffix != ".a":
+        sys.exit(f"LASSO_LIBRARY={named}: name the archive liblasso.a, which goes into the module")
+    if not library.is_file():
+        sys.exit(f"LASSO_LIBRARY={named}: there is no such file" if named else f"{library}, which lasso.pc names, is missing")
+    own = HERE.parent / "crates/lasso_c/include"
+    header = own if named and own.is_dir() else library.parent.parent / "include" if named else Path(_variable("includedir"))
+    if not (header / "lasso.h").is_file():
+        sys.exit(f"{header}/lasso.h is missing")
+    return library, header
+
+
+def _variable(name: str) -> str:
+    """A folder that lasso.pc names."""
+    try:
+        run = subprocess.run(["pkg-config", f"--variable={name}", "lasso"], stdout=subprocess.PIPE, stderr=subprocess.STDOUT, text=True, check=False)
+        found, said = run.stdout.strip() if run.returncode == 0 else "", run.stdout
+    except OSError as fault:
+        found, said = "", str(fault)
+    if not found:
+        sys.exit(f"no library of lasso: install it, name the folder of lasso.pc in PKG_CONFIG_PATH, or liblasso.a in LASSO_LIBRARY ({said.strip()})")
+    return found
 
 
 def _write(folder: str, tag: str, files: dict[str, bytes]) -> str:
@@ -80,3 +121,7 @@ def _metadata() -> bytes:
         "License: MIT OR Apache-2.0", f"Requires-Python: {PROJECT['requires-python']}", "Description-Content-Type: text/markdown", "",
     ]
     return ("\n".join(lines) + "\n" + (HERE / PROJECT["readme"]).read_text(encoding="utf-8")).encode()
+
+
+if __name__ == "__main__":
+    print(build_core(HERE / "lasso" / CORE))

@@ -1,6 +1,7 @@
-"""Encodes a pandas column to a Categorical batch by batch, and prints its time beside that of pandas.factorize.
+"""Encodes a pandas column to a Categorical batch by batch, and prints its time beside those of pandas.factorize and a loop over a dict.
 
-usage: categorical.py [ROWS [TEXTS [BATCH]]], 2,000,000 rows of 200,000 texts in batches of 65,536 unless given
+usage: categorical.py [ROWS [TEXTS [BATCH [BYTES]]]], 2,000,000 rows of 200,000 texts of 8 to 14 bytes in batches of 65,536 unless given; with
+BYTES each text is that long
 
 A hundredth of the rows have no text. The result is compared with pandas's own, and the program ends with status 1 where they differ.
 """
@@ -11,23 +12,27 @@ import random
 import sys
 import time
 from array import array
-from collections.abc import Callable, Iterator
+from collections.abc import Callable, Iterable, Iterator
 from typing import Any
 
 import numpy
 import pandas
 
-from lasso import Interner
+from lasso import NULL, Interner
 
 ROUNDS = 5
 SEED = 20261126
 LETTERS = "etaoinshrdlucmfwypvbgkqjxz"
 
 
-def column_of(rows: int, texts: int) -> pandas.Series:
-    """A column of the pandas type object with this many rows, of a fixed seed. None is a row without a text."""
+def column_of(rows: int, texts: int, size: int) -> pandas.Series:
+    """A column of the pandas type object with this many rows, of a fixed seed. None is a row without a text. The texts are of a size in bytes,
+    or of several sizes if it is 0."""
     rng = random.Random(SEED)
-    words = [f"{''.join(rng.choices(LETTERS, k=rng.randint(2, 8)))}{number}" for number in range(texts)]
+    if size == 0:
+        words = [f"{''.join(rng.choices(LETTERS, k=rng.randint(2, 8)))}{number}" for number in range(texts)]
+    else:
+        words = [f"{number}".rjust(size, rng.choice(LETTERS)) for number in range(texts)]
     drawn = rng.choices(words, k=rows)
     for row in range(0, rows, 100):
         drawn[row] = None
@@ -40,7 +45,7 @@ def batches_of(column: pandas.Series, batch: int) -> Iterator[pandas.Series]:
         yield column.iloc[start:start + batch]
 
 
-def to_categorical(batches: Iterator[pandas.Series]) -> pandas.Categorical:
+def to_categorical(batches: Iterable[pandas.Series]) -> pandas.Categorical:
     """The column that the batches make, whose categories are its texts in the order in which they come first."""
     with Interner() as interner:
         codes = array("I")
@@ -67,10 +72,16 @@ class Arrow:
         return len(self.starts) - 1
 
 
-def encode(column: pandas.Series | Arrow) -> numpy.ndarray:
-    """The codes of a column, -1 for a row without a text, as pandas has it."""
+def encode(column: pandas.Series | list[str | None] | Arrow) -> array[int]:
+    """The codes of a column."""
     with Interner() as interner:
-        return numpy.frombuffer(interner.encode(column), dtype=numpy.int32)
+        return interner.encode(column)
+
+
+def loop(texts: list[str | None]) -> array[int]:
+    """The codes of a list by a dict, NULL for None."""
+    codes: dict[str | None, int] = {None: NULL}
+    return array("I", [codes.setdefault(text, len(codes) - 1) for text in texts])
 
 
 def timed(call: Callable[..., Any], *words: Any) -> tuple[float, Any]:
@@ -85,8 +96,9 @@ def is_same(ours: pandas.Categorical, codes: numpy.ndarray, texts: numpy.ndarray
 
 
 def main() -> None:
-    rows, texts, batch = (*map(int, sys.argv[1:]), *(2_000_000, 200_000, 65_536)[len(sys.argv) - 1:])
-    column = column_of(rows, texts)
+    rows, texts, batch, size = (*map(int, sys.argv[1:]), *(2_000_000, 200_000, 65_536, 0)[len(sys.argv) - 1:])
+    column = column_of(rows, texts, size)
+    items = list(column)
     present = column[column.notna()]
     arrow = Arrow(list(present))
     times: dict[str, list[float]] = {}
@@ -94,17 +106,23 @@ def main() -> None:
         rounds = {
             "lasso, batch by batch to a Categorical": timed(to_categorical, batches_of(column, batch)),
             "pandas.factorize, in one call": timed(pandas.factorize, column),
+            "lasso, in one call to a Categorical": timed(to_categorical, [column]),
             "lasso, codes in one call": timed(encode, column),
+            "lasso, codes of a list": timed(encode, items),
+            "a dict, codes of a list": timed(loop, items),
             "lasso, Arrow's buffers in one call": timed(encode, arrow),
         }
-        (_, ours), (_, (codes, uniques)), (_, encoded), (_, by_arrow) = rounds.values()
-        if not is_same(ours, codes, uniques) or not (encoded == codes).all() or not (by_arrow == codes[column.notna()]).all():
+        (_, ours), (_, (codes, uniques)), (_, whole), *others, (_, by_arrow) = rounds.values()
+        same = all((numpy.frombuffer(other, dtype=numpy.int32) == codes).all() for _, other in others)
+        same = same and bool((numpy.frombuffer(by_arrow, dtype=numpy.int32) == codes[column.notna()]).all())
+        if not (same and is_same(ours, codes, uniques) and is_same(whole, codes, uniques)):
             sys.exit("categorical.py: the codes or the texts are not those of pandas")
         for name, (took, _) in rounds.items():
             times.setdefault(name, []).append(took)
     print(f"{rows} rows of {len(uniques)} texts, batches of {batch}: the codes and texts of pandas; the least of {ROUNDS} rounds")
+    best = min(times["pandas.factorize, in one call"])
     for name, took in times.items():
-        print(f"{name:<40}{min(took):>8.3f} seconds{min(took) * 1e9 / rows:>8.1f} ns a row")
+        print(f"{name:<40}{min(took):>8.3f} seconds{min(took) * 1e9 / rows:>8.1f} ns a row{min(took) / best:>6.2f} of factorize")
 
 
 main()
