@@ -15,8 +15,9 @@
  * - A length counts elements, not bytes: bytes of a uint8_t array, numbers of an int32_t, int64_t or uint32_t
  *   array.
  * - The caller owns all memory. No pointer is kept after a call returns.
- * - A pointer is aligned for its elements. It may be NULL if its length is 0; report is never NULL. (Inline
- *   functions of this header replace NULL. A caller without the header, as ctypes, never passes NULL.)
+ * - A pointer is aligned for its elements. It may be NULL if its length is 0. A handle, a report and each other
+ *   pointer without a length is never NULL, except that lasso_free(NULL) does nothing. (Inline functions of this
+ *   header take NULL. A caller without the header, as ctypes, never passes NULL to any call.)
  * - An array has at least as many elements as its length says, and at most 2^63 - 1 bytes.
  * - Outputs, *report included, must not overlap other arguments.
  * - A refused call, whose status is not LASSO_DONE, writes only *report and leaves its interner as it was. Only the
@@ -457,7 +458,10 @@ uint32_t lasso_set_limit(struct lasso *lasso, size_t limit);
  */
 uint32_t lasso_clear(struct lasso *lasso);
 
-/* Frees the interner, if there is one. The handle is then as LASSO_NONE, so a second call does nothing. */
+/*
+ * Frees the interner, if there is one. The handle is then as LASSO_NONE, so a second call does nothing. With NULL it
+ * does nothing, as free.
+ */
 void lasso_free(struct lasso *lasso);
 
 /*
@@ -476,7 +480,8 @@ size_t lasso_status_text(uint32_t status, uint8_t *text, size_t text_length);
 uint32_t lasso_version(void);
 
 /*
- * The same calls, with NULL allowed for an array of no elements. The library itself never gets NULL.
+ * The same calls, with NULL allowed for an array of no elements, and for the handle of lasso_free. The library itself
+ * never gets NULL.
  */
 static inline const void *lasso_read_from(const void *array, size_t length)
 {
@@ -598,6 +603,13 @@ static inline uint32_t lasso_intern_batch_nulls_inline(struct lasso *lasso,
                                     (uint32_t *)lasso_write_to(codes, codes_length), codes_length, report);
 }
 #define lasso_intern_batch_nulls lasso_intern_batch_nulls_inline
+
+static inline void lasso_free_inline(struct lasso *lasso)
+{
+    if (lasso != NULL)
+        lasso_free(lasso);
+}
+#define lasso_free lasso_free_inline
 
 static inline uint32_t lasso_get_inline(struct lasso *lasso, const uint8_t *text, size_t text_length, uint32_t *code)
 {
