@@ -65,6 +65,8 @@ def some_step(random):
     greatest = 2**63 - 1 if is_large else 2**31 - 1
     data, offsets = some_layout(random, greatest)
     rows = max(len(offsets) - 1, 0)
+    small_data, small_offsets = some_layout(random, 2**31 - 1)
+    texts = max(len(small_offsets) - 1, 0)
     code = random.choice([0, 1, 2, 5, 20, 2**32 - 1])
     room = random.choice([0, 1, 5, 100, 10000])
     limit = random.choice([0, 1, 4096, 5000, 9000, 20000, ENDLESS, ENDLESS])
@@ -84,8 +86,8 @@ def some_step(random):
         (5, ("text", handle, code)),
         (3, ("texts", handle, random.choice([0, 0, 1, 5, ENDLESS]), random.choice([0, 1, 5, 50]))),
         (6, ("dictionary", handle, random.choice([0, 0, 1, 5, 2**32, ENDLESS]), random.choice([0, 10, 300, 50000]), random.choice([0, 1, 2, 10, 100]), is_large)),
-        (8, ("encode", data, offsets, some_bitmap(random, rows) if random.random() < 0.5 else None, some_null(random), about(random, rows), about(random, len(data)), about(random, len(offsets) or 1))),
-        (8, ("decode", data, offsets, some_codes(random, rows), some_null(random), random.choice([0, room, 50000]), None, None)),
+        (8, ("encode", small_data, small_offsets, some_bitmap(random, texts) if random.random() < 0.5 else None, some_null(random), about(random, texts), about(random, len(small_data)), about(random, texts + 1))),
+        (8, ("decode", small_data, small_offsets, some_codes(random, texts), some_null(random), random.choice([0, room, 50000]), None, None)),
         (1, ("status_text", random.choice([*range(17), 2**32 - 1]), random.choice([0, 1, 5, 100]))),
     ]
     step = random.choices([step for _, step in steps], [weight for weight, _ in steps])[0]
@@ -330,10 +332,13 @@ def in_a_child(work):
     ends = os.pipe()
     child = os.fork()
     if child == 0:
-        os.close(ends[0])
-        with os.fdopen(ends[1], "wb") as pipe:
-            pickle.dump(work(), pipe)
-        os._exit(0)
+        try:
+            os.close(ends[0])
+            with os.fdopen(ends[1], "wb") as pipe:
+                pickle.dump(work(), pipe)
+            os._exit(0)
+        finally:
+            os._exit(1)
     os.close(ends[1])
     with os.fdopen(ends[0], "rb") as pipe:
         said = pipe.read()
@@ -341,8 +346,17 @@ def in_a_child(work):
     return pickle.loads(said) if status == 0 else f"the process ended with status {status}"
 
 
+def some_filling(random):
+    """A call of a sequence that fills buckets, empties them and fills them again: of one handle."""
+    text = random.choice(PIECES).encode() * random.choice([1, 5, 14, 100, 1000, 2000, 5000])
+    steps = [("clear", 0), ("set_limit", 0, random.choice([0, 9000, 20000, 60000, ENDLESS])), ("clone", 0, 1), ("intern", 0, text + b"%d" % random.randrange(100))]
+    return random.choices(steps, [1, 1, 0.2, 10])[0]
+
+
 def some_steps(random):
     """A sequence of calls."""
+    if random.random() < 0.2:
+        return [("new", 0, random.choice([0, 20000, ENDLESS, ENDLESS]), None, None)] + [some_filling(random) for _ in range(40)]
     return [("new", 0, ENDLESS, None, None)] + [some_step(random) for _ in range(random.choice([1, 5, 40]))]
 
 
