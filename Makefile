@@ -144,6 +144,8 @@ docs:
 	install/check
 	cases/run --try
 	wrong-bodies/run --dry
+	docs/shell
+	install/trials
 
 #: make examples                     builds the callers in C, Rust and Python and the recipes for many machines, runs them, and tries an
 #:                                   installation; as root, since it installs what is missing of the system's packages

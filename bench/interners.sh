@@ -9,6 +9,7 @@ SHARED_NAMES="zipf distinct few"
 # Builds the interners that Rust has for threads; where the packages can't be had, or are not built, std stands alone, and nothing where that
 # is not built either.
 build_rivals() {
+    # shellcheck disable=SC2034 # bench/columns.sh reads it
     COLUMNS_SHARED=$OUT/interners/release/columns
     build_over_crates interners dashmap fxhash hashbrown && return
     COLUMNS_SHARED=
