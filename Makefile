@@ -134,7 +134,7 @@ test: toolchain docs
 
 #: make docs                         checks the documents: links, names of files and clauses, lengths of lines, parts made from the
 #:                                   sources; that manual pages and completions have the options of the programs; that cases find what
-#:                                   is wrong; and that each wrong body can be applied
+#:                                   is wrong; that each wrong body can be applied; that no command runs from an odd name; and shellcheck
 docs:
 	docs/check --try
 	docs/check

@@ -268,8 +268,8 @@ uint32_t lasso_clone(struct lasso *lasso, struct lasso *clone);
 /*
  * Interns a text, and appends it first if it is absent. *code is its code until lasso_clear, lasso_new or lasso_free.
  *
- * Returns LASSO_NOT_UTF8; LASSO_NO_INTERNER; for an absent text LASSO_NO_CODE_LEFT, LASSO_LIMIT_REACHED,
- * LASSO_NO_MEMORY; else LASSO_DONE.
+ * Returns the first that applies: LASSO_NOT_UTF8; LASSO_NO_INTERNER; for an absent text LASSO_NO_CODE_LEFT,
+ * LASSO_LIMIT_REACHED, LASSO_NO_MEMORY; else LASSO_DONE.
  */
 uint32_t lasso_intern(struct lasso *lasso, const uint8_t *text, size_t text_length, uint32_t *code);
 
@@ -311,7 +311,7 @@ uint32_t lasso_intern_batch_nulls(struct lasso *lasso,
 /*
  * Looks up a text, and appends nothing: *code is its code.
  *
- * Returns LASSO_NOT_UTF8, LASSO_NO_INTERNER, LASSO_NO_SUCH_TEXT, else LASSO_DONE.
+ * Returns the first that applies: LASSO_NOT_UTF8, LASSO_NO_INTERNER, LASSO_NO_SUCH_TEXT, else LASSO_DONE.
  */
 uint32_t lasso_get(struct lasso *lasso, const uint8_t *text, size_t text_length, uint32_t *code);
 
@@ -320,8 +320,8 @@ uint32_t lasso_get(struct lasso *lasso, const uint8_t *text, size_t text_length,
 
 /*
  * Looks up the texts of a layout, and appends none: writes the code of each text in order, or absent for a text that
- * the interner does not have. No text has the code LASSO_ABSENT. report->texts is the number of texts, and
- * report->bytes is 0.
+ * the interner does not have. No text has the code LASSO_ABSENT. report->texts is the number of texts, also if there
+ * is no room for their codes, and report->bytes is 0.
  *
  * bytes, offsets      read: as in lasso_encode.
  * codes               written. codes_length counts codes, one for each text; it may be greater.
@@ -437,7 +437,18 @@ size_t lasso_len(struct lasso *lasso);
 /* How many texts fit before the interner's list of texts grows, at least lasso_len. 0 without an interner. */
 size_t lasso_capacity(struct lasso *lasso);
 
-/* How many bytes the interner's buckets of texts take. 0 without an interner. */
+/*
+ * How many bytes the interner's buckets of texts take. 0 without an interner.
+ *
+ * A text goes into the current bucket, at first the first one, if it fits. Else it goes into the smallest bucket with
+ * room that lasso_clear emptied, and that one becomes the current one. Else a bucket is made:
+ * - of the text's length, if that is above twice the doubling size; it does not become the current one. The doubling
+ *   size is at first the size of the first bucket.
+ * - else of all that the limit leaves, if that is below twice the doubling size;
+ * - else of twice the doubling size, which becomes the doubling size.
+ * A text that is longer than what the limit leaves is refused. lasso_clear keeps the first bucket, and those of the
+ * last kind, and the doubling size.
+ */
 size_t lasso_memory(struct lasso *lasso);
 
 /* How many bytes those buckets may take. 0 without an interner. */
