@@ -1,12 +1,14 @@
 # Each line after '#:' is a line of `make help`. A bare `make` is `make help`.
 FILE ?= sample/words.txt
 PREFIX ?= /usr/local
-export FILE PREFIX DESTDIR BINDIR INCLUDEDIR LIBDIR MANDIR BASHDIR ZSHDIR FISHDIR
+# Words of the caller reach recipes by the environment, letter by letter: neither make nor a shell expands them.
+WORDS = FILE PREFIX DESTDIR BINDIR INCLUDEDIR LIBDIR MANDIR BASHDIR ZSHDIR FISHDIR CRATE PART
+$(foreach word,$(WORDS),$(eval override $(word) := $$(value $(word))))
+export $(WORDS)
 PROGRAM = crates/lasso_lines/out/lasso_lines
 CODES = crates/lasso_codes/out/lasso_codes
 LIBRARY = crates/lasso_c/out/liblasso_c.a
 JOINED = out/liblasso.a
-C_LIBRARY = $(shell dirname "$$(rt doc)")/c/liblibc_c.a
 SOURCES = crates.txt $(shell find crates -type f \( -path '*/src/*' -o -path '*/specs/*' -o -path '*/proofs/*' \) -not -path '*/out/*')
 
 # Of what rt says, which crate is proved and how far it is (sed reads and writes line by line; awk need not). Where rt
@@ -42,11 +44,11 @@ help:
 #: make try FILE=path [ARGS=..]      builds lasso_lines without proof and runs it on the file, in a minute or two
 #:                                   (rt try: at most 1 MiB of output and 60 seconds; 20 million steps if it interprets)
 try: input toolchain
-	@echo "make try proves nothing. make run FILE=$$FILE proves lasso_lines first: once, 18 minutes on four cores." >&2
+	@printf '%s\n' "make try proves nothing. make run FILE='$$FILE' proves lasso_lines first: once, 18 minutes on four cores." >&2
 	@said=$$(mktemp) && trap 'rm -f "$$said"' EXIT && (cd crates/lasso_lines && rt try -- $(ARGS)) < "$$FILE" 2> "$$said"; status=$$?; \
 	if grep -q '^checked: no-answer: .* wrote more than' "$$said"; then \
 		echo "make try: the output is more than 1 MiB (1048576 bytes), the most that rt try hands on." >&2; \
-		echo "Give fewer lines, as by head -n 1000 $$FILE > part && make try FILE=part, or use make run: it has no such limit." >&2; \
+		printf '%s\n' "Give fewer lines, as by head -n 1000 '$$FILE' > part && make try FILE=part, or use make run: it has no such limit." >&2; \
 	elif grep -q '^checked: no-answer: .* time limit' "$$said"; then \
 		echo "make try: the run took more than 60 seconds, the most that rt try gives a program. Give fewer lines, or use make run." >&2; \
 	elif grep -q '^run=ended ' "$$said"; then $(OWN_LINES) "$$said" >&2; \
@@ -66,7 +68,7 @@ $(PROGRAM): $(SOURCES) | input
 #: Build:
 #: make codes                        proves the program lasso_codes if the sources changed, builds it, and prints its path
 codes: $(CODES)
-	@echo "program: $(CURDIR)/$(CODES)"
+	@printf '%s\n' "program: $$PWD/$(CODES)"
 
 $(CODES): $(SOURCES)
 	$(call build,lasso_codes,run,-- --version)
@@ -74,11 +76,11 @@ $(CODES): $(SOURCES)
 
 #: make c                            proves the library for C if the sources changed, builds it, and prints its paths
 c: $(JOINED)
-	@install/pc '$(CURDIR)/out' '$(CURDIR)/crates/lasso_c/include' '$${prefix}' '$${libdir}/liblasso.a' > out/lasso.pc
-	@echo "header:     $(CURDIR)/crates/lasso_c/include/lasso.h"
-	@echo "library:    $(CURDIR)/$(JOINED)"
-	@echo "shared:     $(CURDIR)/out/liblasso.so.0"
-	@echo "pkg-config: PKG_CONFIG_PATH=$(CURDIR)/out pkg-config --cflags --libs lasso"
+	@install/pc "$$PWD/out" "$$PWD/crates/lasso_c/include" "$$PWD/out" '"$${libdir}/liblasso.a"' > out/lasso.pc
+	@printf '%s\n' "header:     $$PWD/crates/lasso_c/include/lasso.h" \
+		"library:    $$PWD/$(JOINED)" \
+		"shared:     $$PWD/out/liblasso.so.0" \
+		"pkg-config: PKG_CONFIG_PATH=$$PWD/out pkg-config --cflags --libs lasso"
 
 $(LIBRARY): $(SOURCES)
 	$(call build,lasso_c,lib)
@@ -86,7 +88,7 @@ $(LIBRARY): $(SOURCES)
 
 # The library for C with the toolchain's part that calls malloc in it, and the same as a shared library.
 $(JOINED): $(LIBRARY) VERSION install/link
-	@install/link $(LIBRARY) "$(C_LIBRARY)"
+	@install/link $(LIBRARY)
 
 #: make all                          proves and builds the programs and the libraries that make install copies
 all: $(PROGRAM) $(CODES) $(JOINED)
@@ -115,14 +117,14 @@ deb: all
 #: make check CRATE=name             proves one crate, over the libraries below it, and runs its tests, or the cases of a program that has
 #:                                   some; of a crate of tests it runs the tests without proof
 check: crate toolchain
-	@tested=no; if grep -rqF '#[test]' crates/$(CRATE)/src; then tested=yes; fi; \
-	case "$(CRATE) $$tested" in \
-	test_*" yes") .ci/tests $(CRATE) ;; \
-	*" yes") cd crates/$(CRATE) && rt check && rt test ;; \
-	*) cd crates/$(CRATE) && rt check ;; \
+	@tested=no; if grep -rqF '#[test]' "crates/$$CRATE/src"; then tested=yes; fi; \
+	case "$$CRATE $$tested" in \
+	test_*" yes") .ci/tests "$$CRATE" ;; \
+	*" yes") cd "crates/$$CRATE" && rt check && rt test ;; \
+	*) cd "crates/$$CRATE" && rt check ;; \
 	esac
-	@if [ -d "cases/$(CRATE)" ]; then (cd crates/$(CRATE) && { rt run < /dev/null > /dev/null || [ -e out/$(CRATE).stamp ]; }) && cases/run $(CRATE); fi
-	@if [ -d "cases/$(CRATE)/modules" ]; then cases/modules $(CRATE); fi
+	@if [ -d "cases/$$CRATE" ]; then (cd "crates/$$CRATE" && { rt run < /dev/null > /dev/null || [ -e "out/$$CRATE.stamp" ]; }) && cases/run "$$CRATE"; fi
+	@if [ -d "cases/$$CRATE/modules" ]; then cases/modules "$$CRATE"; fi
 
 #: make test                         all that needs no proof, in ten minutes on two processors: the checks of documents and layout, all tests,
 #:                                   the tests of modules, and the cases over programs that are built without proof
@@ -136,7 +138,7 @@ verify: python
 
 #: make docs                         checks the documents: links, names of files and clauses, lengths of lines, parts made from the
 #:                                   sources; that manual pages and completions have the options of the programs; that cases find what
-#:                                   is wrong; and that each wrong body can be applied
+#:                                   is wrong; that each wrong body can be applied; that no command runs from an odd name; and shellcheck
 docs:
 	docs/check --try
 	docs/check
@@ -146,6 +148,8 @@ docs:
 	install/check
 	cases/run --try
 	wrong-bodies/run --dry
+	docs/shell
+	install/trials
 
 #: make reference                    writes the reference of all public calls to out/reference, and prints the path of its first page
 reference:
@@ -160,7 +164,7 @@ examples:
 
 #: make bench [PART=..]              prints the tables of bench/README.md, or the one that PART names, as PART=calls
 bench:
-	bench/run $(PART)
+	bench/run $${PART:+"$$PART"}
 
 #:
 #: Look after the sources:
@@ -174,12 +178,13 @@ clean:
 
 # The file can be read, or the command ends before anything is built.
 input:
-	@if [ ! -e "$$FILE" ]; then echo "FILE=$$FILE: there is no such file" >&2; exit 1; \
-	elif [ -d "$$FILE" ]; then echo "FILE=$$FILE: this is a folder; give a file of lines" >&2; exit 1; \
-	elif [ ! -r "$$FILE" ]; then echo "FILE=$$FILE: the file can't be read; see its permissions" >&2; exit 1; fi
+	@if [ ! -e "$$FILE" ]; then printf '%s\n' "FILE=$$FILE: there is no such file" >&2; exit 1; \
+	elif [ -d "$$FILE" ]; then printf '%s\n' "FILE=$$FILE: this is a folder; give a file of lines" >&2; exit 1; \
+	elif [ ! -r "$$FILE" ]; then printf '%s\n' "FILE=$$FILE: the file can't be read; see its permissions" >&2; exit 1; fi
 
 crate:
-	@[ -d "crates/$(or $(CRATE),?)/src" ] || { echo "CRATE=$(CRATE): name a crate of crates.txt, as in make check CRATE=lasso_single" >&2; exit 1; }
+	@case "$$CRATE" in '' | *[!a-z0-9_]*) false ;; *) [ -d "crates/$$CRATE/src" ] ;; esac || \
+		{ printf '%s\n' "CRATE=$$CRATE: name a crate of crates.txt, as in make check CRATE=lasso_single" >&2; exit 1; }
 
 python:
 	@command -v python3 > /dev/null || { echo "missing: python3" >&2; exit 1; }

@@ -7,13 +7,11 @@ C_NAMES="rows distinct"
 # Proves and builds the library for C, and the shared library for Python, and builds the program over it.
 build_c() {
     need /usr/bin/cc gcc
-    need /usr/bin/pkg-config pkg-config
     if ! make -s c > "$OUT/c.log" 2>&1; then
         cat "$OUT/c.log" >&2
         exit 1
     fi
-    export PKG_CONFIG_PATH=$PWD/out
-    cc -O2 -Wall -Wextra -std=c11 -o "$BATCHES" bench/batches.c $(pkg-config --cflags --libs lasso)
+    cc -O2 -Wall -Wextra -std=c11 -o "$BATCHES" bench/batches.c -I crates/lasso_c/include out/liblasso.a
 }
 
 # The inputs, and the right code of each of their lines: how many distinct ones came before its first.

@@ -1,7 +1,7 @@
 # The tables of single calls, beside the best that Rust has and std, and of calls with all texts beside single ones, over texts of
 # given sizes. A part of bench/run, which names the folders and builds the best.
 
-OURS_CALLS=$PWD/crates/tool_bench/out/tool_bench
+OURS_CALLS=crates/tool_bench/out/tool_bench
 CALLS=$OUT/best/release/calls
 STANDARD_CALLS=$OUT/calls-std
 CALL_ROUNDS=15

@@ -13,7 +13,7 @@ rounds_of_cluster() {
         $PRIORITY "$CODES" encode --binary < "$lines" > "$OUT/cluster.whole"
         echo "whole encode $(((${EPOCHREALTIME/[.,]/} - start) / 1000))e-3"
         for processes in 1 2 4; do
-            TMPDIR=$OUT LASSO_CODES=$CODES $PRIORITY examples/cluster/with_parallel "$lines" "$OUT/cluster.parts" "$processes" "$CLUSTER_PARTS" |
+            TMPDIR=$PWD/$OUT LASSO_CODES=$(realpath -- "$CODES") $PRIORITY examples/cluster/with_parallel "$PWD/$lines" "$PWD/$OUT/cluster.parts" "$processes" "$CLUSTER_PARTS" |
                 sed "s/^/$processes /"
             cmp "$OUT/cluster.whole" "$OUT/cluster.parts"
         done

@@ -2,7 +2,7 @@
 # programs and the best that Rust has. LASSO_CODES=path names a program
 # that was built elsewhere.
 
-CODES=${LASSO_CODES:-$PWD/crates/lasso_codes/out/lasso_codes}
+CODES=${LASSO_CODES:-crates/lasso_codes/out/lasso_codes}
 CODES_STANDARD=$OUT/codes-std
 CODES_BEST=$OUT/best/release/codes
 CODES_ROUNDS=8
@@ -28,19 +28,19 @@ in_one_form() {
 
 # The commands that write how often each line of an input came, ours first, with the goals of the ratios of ours to them.
 commands_of_counts() {
-    echo "ours - exec $CODES counts < $1"
-    echo "sort_uniq_sort 0.15 LC_ALL=C sort --parallel=4 < $1 | LC_ALL=C uniq -c | LC_ALL=C sort --parallel=4 -rn"
-    echo "mawk 0.60 exec $MAWK '{ c[\$0]++ } END { for (line in c) print c[line], line }' < $1"
-    echo "std 0.60 exec $CODES_STANDARD counts < $1"
-    [ -z "$HASHES" ] || echo "hashbrown - exec $CODES_BEST counts < $1"
+    echo "ours - exec ${CODES@Q} counts < ${1@Q}"
+    echo "sort_uniq_sort 0.15 LC_ALL=C sort --parallel=4 < ${1@Q} | LC_ALL=C uniq -c | LC_ALL=C sort --parallel=4 -rn"
+    echo "mawk 0.60 exec $MAWK '{ c[\$0]++ } END { for (line in c) print c[line], line }' < ${1@Q}"
+    echo "std 0.60 exec ${CODES_STANDARD@Q} counts < ${1@Q}"
+    [ -z "$HASHES" ] || echo "hashbrown - exec ${CODES_BEST@Q} counts < ${1@Q}"
 }
 
 # Those that write its distinct lines.
 commands_of_distinct() {
-    echo "ours - exec $CODES distinct < $1"
-    echo "mawk 0.40 exec $MAWK '!seen[\$0]++' < $1"
-    echo "std - exec $CODES_STANDARD distinct < $1"
-    [ -z "$HASHES" ] || echo "hashbrown - exec $CODES_BEST distinct < $1"
+    echo "ours - exec ${CODES@Q} distinct < ${1@Q}"
+    echo "mawk 0.40 exec $MAWK '!seen[\$0]++' < ${1@Q}"
+    echo "std - exec ${CODES_STANDARD@Q} distinct < ${1@Q}"
+    [ -z "$HASHES" ] || echo "hashbrown - exec ${CODES_BEST@Q} distinct < ${1@Q}"
 }
 
 # Stops unless all commands of standard input write the same, once it is put into one form.
@@ -48,7 +48,7 @@ compare_outputs() {
     local form=$1 name goal command
     rm -f "$OUT/codes.right"
     while read -r name goal command; do
-        bash -o pipefail -c "$command" | $form > "$OUT/codes.got"
+        bash -o pipefail -c "$command" | "$form" > "$OUT/codes.got"
         [ -s "$OUT/codes.right" ] || mv "$OUT/codes.got" "$OUT/codes.right"
         [ ! -e "$OUT/codes.got" ] || cmp "$OUT/codes.right" "$OUT/codes.got"
     done
@@ -82,14 +82,14 @@ measure_columns_of_lines() {
         "$CODES" encode --binary < "$lines" > "$column"
         python3 bench/column.py < "$lines" | cmp - "$column"
         time_commands "encode --binary, $name" << END
-ours - exec $CODES encode --binary < $lines
-lasso_lines 1.20 exec $OURS < $lines
+ours - exec ${CODES@Q} encode --binary < ${lines@Q}
+lasso_lines 1.20 exec ${OURS@Q} < ${lines@Q}
 END
         [ -n "$decodes" ] || continue
         "$CODES" decode < "$column" | cmp - "$lines"
         time_commands "decode, $name" << END
-ours - exec $CODES decode < $column
-lasso_lines 1.20 exec $OURS < $lines
+ours - exec ${CODES@Q} decode < ${column@Q}
+lasso_lines 1.20 exec ${OURS@Q} < ${lines@Q}
 END
     done
     rm -f "$column"
@@ -108,8 +108,8 @@ measure_merge() {
     "$CODES" encode --binary < "$lines" > "$folder/whole"
     "$CODES" merge --binary < "$folder/columns" | cmp - "$folder/whole"
     time_commands "merge of $PARTS parts, $1" << END
-ours - exec $CODES merge --binary < $folder/columns
-encode_of_whole 1.30 exec $CODES encode --binary < $lines
+ours - exec ${CODES@Q} merge --binary < ${folder@Q}/columns
+encode_of_whole 1.30 exec ${CODES@Q} encode --binary < ${lines@Q}
 END
     rm -rf "$folder"
 }
@@ -117,22 +117,23 @@ END
 # A verb with its options, with four workers compared with one, over inputs, each after the goal of the ratio; and with two on `ten`. Where they
 # don't write the same bytes it stops.
 measure_workers() {
-    local verb=$1 goal name lines count
+    local verb=$1 words goal name lines count
+    read -ra words <<< "$verb"
     while read -r goal name; do
         lines=$OUT/inputs/$name
-        "$CODES" $verb < "$lines" > "$OUT/codes.right"
+        "$CODES" "${words[@]}" < "$lines" > "$OUT/codes.right"
         for count in 1 2 4; do
-            "$CODES" $verb --workers "$count" < "$lines" | cmp - "$OUT/codes.right"
+            "$CODES" "${words[@]}" --workers "$count" < "$lines" | cmp - "$OUT/codes.right"
         done
         rm -f "$OUT/codes.right"
         time_commands "$verb, 4, $name" << END
-ours - exec $CODES $verb --workers 4 < $lines
-one_worker $goal exec $CODES $verb --workers 1 < $lines
+ours - exec ${CODES@Q} $verb --workers 4 < ${lines@Q}
+one_worker $goal exec ${CODES@Q} $verb --workers 1 < ${lines@Q}
 END
         [ "$name" = ten ] || continue
         time_commands "$verb, 2, $name" << END
-ours - exec $CODES $verb --workers 2 < $lines
-one_worker 0.85 exec $CODES $verb --workers 1 < $lines
+ours - exec ${CODES@Q} $verb --workers 2 < ${lines@Q}
+one_worker 0.85 exec ${CODES@Q} $verb --workers 1 < ${lines@Q}
 END
     done
 }

@@ -1,6 +1,6 @@
 # The table of columns of texts, beside the same in Rust and in Python's pandas. A part of bench/run, which names the folders and makes the inputs.
 
-COLUMNS_OURS=$PWD/crates/tool_bench/out/tool_bench
+COLUMNS_OURS=crates/tool_bench/out/tool_bench
 COLUMNS=$OUT/best/release/columns
 COLUMN_NAMES="zipf distinct few ten large long"
 COLUMN_ROUNDS=3

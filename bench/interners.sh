@@ -1,7 +1,7 @@
 # The tables of interners that threads share, beside those that Rust has. A part of bench/run, which names the folders, builds
 # over the system's packages of Rust crates, makes the inputs, and takes the peak of a program's memory.
 
-OURS_SHARED="$PWD/crates/tool_bench/out/tool_bench"
+OURS_SHARED=crates/tool_bench/out/tool_bench
 INTERNERS=$OUT/interners/release/interners
 RIVALS="maps locked list lockless"
 SHARED_NAMES="zipf distinct few"
@@ -9,6 +9,7 @@ SHARED_NAMES="zipf distinct few"
 # Builds the interners that Rust has for threads; where the packages can't be had, or are not built, std stands alone, and nothing where that
 # is not built either.
 build_rivals() {
+    # shellcheck disable=SC2034 # bench/columns.sh reads it
     COLUMNS_SHARED=$OUT/interners/release/columns
     build_over_crates interners dashmap fxhash hashbrown && return
     COLUMNS_SHARED=
@@ -28,7 +29,7 @@ rounds_of_interners() {
     for ((round = 0; round < $2; round++)); do
         "$OURS_SHARED" interners < "$1" | sed 's/^/ours /'
         for rival in $RIVALS; do
-            "$INTERNERS" $rival round < "$1" | sed "s/^/$rival /"
+            "$INTERNERS" "$rival" round < "$1" | sed "s/^/$rival /"
         done
     done
 }
@@ -45,7 +46,7 @@ peaks() {
 
 # How many locked instructions a program executes while it interns each line of a file.
 locked() {
-    valgrind --tool=callgrind --dump-instr=yes --compress-strings=no --compress-pos=no --callgrind-out-file="$OUT/callgrind" $1 \
+    in_words valgrind --tool=callgrind --dump-instr=yes --compress-strings=no --compress-pos=no --callgrind-out-file="$OUT/callgrind" "$1" \
         < "$2" > /dev/null 2> "$OUT/callgrind.log"
     python3 bench/locked.py "$OUT/callgrind"
     rm -f "$OUT/callgrind"

@@ -1,4 +1,5 @@
 # What `bench/refusals` does with a script.
+# shellcheck disable=SC2154 # bench/refusals sets these
 
 # The text in hexadecimal digits, as tool_replay reads it.
 digits() {

@@ -14,7 +14,7 @@ worker_programs() {
 compare_workers() {
     local name command
     while read -r name command; do
-        $command < "$1" > "$OUT/$name.lines"
+        in_words "$command" < "$1" > "$OUT/$name.lines"
         cmp "$OUT/lasso_lines.lines" "$OUT/$name.lines"
     done < <(worker_programs 4)
     rm -f "$OUT"/*.lines
@@ -28,8 +28,8 @@ rounds_of_workers() {
     for ((round = 0; round < ROUNDS; round++)); do
         for threads in 1 2 4; do
             while read -r name command; do
-                /usr/bin/time -f "$name $threads %e" -o "$OUT/workers.seconds" -a $command < "$1" > /dev/null
-            done < <(worker_programs $threads)
+                in_words /usr/bin/time -f "$name $threads %e" -o "$OUT/workers.seconds" -a "$command" < "$1" > /dev/null
+            done < <(worker_programs "$threads")
         done
     done
     cat "$OUT/workers.seconds"
@@ -42,7 +42,7 @@ peaks_of_workers() {
     for threads in 1 2 4; do
         while read -r name command; do
             echo "$name $threads $(peak "$command" "$1")"
-        done < <(worker_programs $threads)
+        done < <(worker_programs "$threads")
     done
 }
 

@@ -1,4 +1,4 @@
-/* Calls with NULL for arrays of no elements, as a caller with empty vectors makes them. It is good C and good C++. */
+/* Calls with NULL for arrays of no elements, as a caller with empty vectors makes them, and lasso_free(NULL). It is good C and good C++. */
 #include "lasso.h"
 
 #include "check.h"
@@ -89,5 +89,10 @@ int main(void)
     CHECK(lasso_dictionary(&lasso, 0, NULL, 0, written, 2, &report) == LASSO_DONE && tells(&report, 1, 0, 0));
     CHECK(written[0] == 0 && written[1] == 0);
     lasso_free(&lasso);
+
+    /* No handle, by the name and by its address. */
+    void (*release)(struct lasso *) = lasso_free;
+    lasso_free(NULL);
+    release(NULL);
     return 0;
 }

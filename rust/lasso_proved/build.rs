@@ -34,6 +34,9 @@ fn main() {
 /// Links `liblasso.a` of a folder, which has all that it needs.
 fn link_archive(folder: &Path) -> Result<(), String> {
     let shown = folder.display();
+    if shown.to_string().contains('\n') {
+        return Err(format!("The folder {shown:?} has a line feed in its name"));
+    }
     let folder = folder
         .canonicalize()
         .map_err(|error| format!("The folder {shown} can't be read: {error}"))?;
@@ -45,6 +48,22 @@ fn link_archive(folder: &Path) -> Result<(), String> {
     println!("cargo:rustc-link-search=native={}", folder.display());
     println!("cargo:rustc-link-lib=static=lasso");
     Ok(())
+}
+
+/// The words that pkg-config prints: blanks end them, unless a backslash is before a blank.
+fn words_of(text: &str) -> Vec<String> {
+    let mut words = vec![String::new()];
+    let mut letters = text.chars();
+    while let Some(letter) = letters.next() {
+        let last = words.len() - 1;
+        match letter {
+            '\\' => words[last].extend(letters.next()),
+            _ if letter.is_whitespace() => words.push(String::new()),
+            _ => words[last].push(letter),
+        }
+    }
+    words.retain(|word| !word.is_empty());
+    words
 }
 
 /// Links what lasso.pc names: the installed library, or the file that `make c` has built. Another
@@ -64,7 +83,7 @@ fn link_by_pkg_config() -> Result<(), String> {
             told.trim()
         ));
     }
-    for word in String::from_utf8_lossy(&output.stdout).split_whitespace() {
+    for word in &words_of(&String::from_utf8_lossy(&output.stdout)) {
         if let Some(folder) = word.strip_prefix("-L") {
             println!("cargo:rustc-link-search=native={folder}");
         } else if let Some(library) = word.strip_prefix("-l") {

@@ -15,8 +15,9 @@
  * - A length counts elements, not bytes: bytes of a uint8_t array, numbers of an int32_t, int64_t or uint32_t
  *   array.
  * - The caller owns all memory. No pointer is kept after a call returns.
- * - A pointer is aligned for its elements. It may be NULL if its length is 0; report is never NULL. (Inline
- *   functions of this header replace NULL. A caller without the header, as ctypes, never passes NULL.)
+ * - A pointer is aligned for its elements. It may be NULL if its length is 0. A handle, a report and each other
+ *   pointer without a length is never NULL, except that lasso_free(NULL) does nothing. (Inline functions of this
+ *   header take NULL. A caller without the header, as ctypes, never passes NULL to any call.)
  * - An array has at least as many elements as its length says, and at most 2^63 - 1 bytes.
  * - Outputs, *report included, must not overlap other arguments.
  * - A refused call, whose status is not LASSO_DONE, writes only *report and leaves its interner as it was. Only the
@@ -281,8 +282,8 @@ uint32_t lasso_clone(struct lasso *lasso, struct lasso *clone);
 /*
  * Interns a text, and appends it first if it is absent. *code is its code until lasso_clear, lasso_new or lasso_free.
  *
- * Returns LASSO_NOT_UTF8; LASSO_NO_INTERNER; for an absent text LASSO_NO_CODE_LEFT, LASSO_LIMIT_REACHED,
- * LASSO_NO_MEMORY; else LASSO_DONE.
+ * Returns the first that applies: LASSO_NOT_UTF8; LASSO_NO_INTERNER; for an absent text LASSO_NO_CODE_LEFT,
+ * LASSO_LIMIT_REACHED, LASSO_NO_MEMORY; else LASSO_DONE.
  */
 uint32_t lasso_intern(struct lasso *lasso, const uint8_t *text, size_t text_length, uint32_t *code);
 
@@ -324,7 +325,7 @@ uint32_t lasso_intern_batch_nulls(struct lasso *lasso,
 /*
  * Looks up a text, and appends nothing: *code is its code.
  *
- * Returns LASSO_NOT_UTF8, LASSO_NO_INTERNER, LASSO_NO_SUCH_TEXT, else LASSO_DONE.
+ * Returns the first that applies: LASSO_NOT_UTF8, LASSO_NO_INTERNER, LASSO_NO_SUCH_TEXT, else LASSO_DONE.
  */
 uint32_t lasso_get(struct lasso *lasso, const uint8_t *text, size_t text_length, uint32_t *code);
 
@@ -333,8 +334,8 @@ uint32_t lasso_get(struct lasso *lasso, const uint8_t *text, size_t text_length,
 
 /*
  * Looks up the texts of a layout, and appends none: writes the code of each text in order, or absent for a text that
- * the interner does not have. No text has the code LASSO_ABSENT. report->texts is the number of texts, and
- * report->bytes is 0.
+ * the interner does not have. No text has the code LASSO_ABSENT. report->texts is the number of texts, also if there
+ * is no room for their codes, and report->bytes is 0.
  *
  * bytes, offsets      read: as in lasso_encode.
  * codes               written. codes_length counts codes, one for each text; it may be greater.
@@ -450,7 +451,18 @@ size_t lasso_len(struct lasso *lasso);
 /* How many texts fit before the interner's list of texts grows, at least lasso_len. 0 without an interner. */
 size_t lasso_capacity(struct lasso *lasso);
 
-/* How many bytes the interner's buckets of texts take. 0 without an interner. */
+/*
+ * How many bytes the interner's buckets of texts take. 0 without an interner.
+ *
+ * A text goes into the current bucket, at first the first one, if it fits. Else it goes into the smallest bucket with
+ * room that lasso_clear emptied, and that one becomes the current one. Else a bucket is made:
+ * - of the text's length, if that is above twice the doubling size; it does not become the current one. The doubling
+ *   size is at first the size of the first bucket.
+ * - else of all that the limit leaves, if that is below twice the doubling size;
+ * - else of twice the doubling size, which becomes the doubling size.
+ * A text that is longer than what the limit leaves is refused. lasso_clear keeps the first bucket, and those of the
+ * last kind, and the doubling size.
+ */
 size_t lasso_memory(struct lasso *lasso);
 
 /* How many bytes those buckets may take. 0 without an interner. */
@@ -471,7 +483,10 @@ uint32_t lasso_set_limit(struct lasso *lasso, size_t limit);
  */
 uint32_t lasso_clear(struct lasso *lasso);
 
-/* Frees the interner, if there is one. The handle is then as LASSO_NONE, so a second call does nothing. */
+/*
+ * Frees the interner, if there is one. The handle is then as LASSO_NONE, so a second call does nothing. With NULL it
+ * does nothing, as free.
+ */
 void lasso_free(struct lasso *lasso);
 
 /*
@@ -490,7 +505,8 @@ size_t lasso_status_text(uint32_t status, uint8_t *text, size_t text_length);
 uint32_t lasso_version(void);
 
 /*
- * The same calls, with NULL allowed for an array of no elements. The library itself never gets NULL.
+ * The same calls, with NULL allowed for an array of no elements, and for the handle of lasso_free. The library itself
+ * never gets NULL.
  */
 static inline const void *lasso_read_from(const void *array, size_t length)
 {
@@ -612,6 +628,13 @@ static inline uint32_t lasso_intern_batch_nulls_inline(struct lasso *lasso,
                                     (uint32_t *)lasso_write_to(codes, codes_length), codes_length, report);
 }
 #define lasso_intern_batch_nulls lasso_intern_batch_nulls_inline
+
+static inline void lasso_free_inline(struct lasso *lasso)
+{
+    if (lasso != NULL)
+        lasso_free(lasso);
+}
+#define lasso_free lasso_free_inline
 
 static inline uint32_t lasso_get_inline(struct lasso *lasso, const uint8_t *text, size_t text_length, uint32_t *code)
 {

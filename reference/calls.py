@@ -1,0 +1,371 @@
+"""Random sequences of calls of the library for C, compared with the reference's."""
+import ctypes
+import os
+import pickle
+import struct
+
+import guarded
+import library as reference
+import shrinking
+from guarded import Input, Output
+from library import Refused
+
+HANDLES = 3
+STATUS, SIZE = ctypes.c_uint32, ctypes.c_size_t
+LENGTHS = [0, 0, 1, 1, 2, 3, 5, 14, 15, 16, 100, 2047, 2048, 4095, 4096, 4097, 8192, 9000]
+PIECES = ["a", "b", "c", "é", "漢", "\U0001f40e", "\0"]
+WRONG = [b"\xff", b"\xc3", b"\xed\xa0\x80", b"\xf4\x90\x80\x80", b"\xc0\x80", b"\x80"]
+ENDLESS = 2**64 - 1
+
+
+def some_text(random):
+    """A text, short as a rule, and seldom wrong."""
+    if random.random() < 0.02:
+        return random.choice(WRONG)
+    size = random.choice(LENGTHS if random.random() < 0.3 else LENGTHS[:7])
+    text = (random.choice(PIECES) * size).encode()[:size] if random.random() < 0.5 else "".join(random.choices(PIECES, k=min(size, 20))).encode()
+    return text.decode("utf-8", "ignore").encode()
+
+
+def some_layout(random, greatest):
+    """Bytes and offsets of texts, a slice of them as a rule, and seldom damaged."""
+    texts = [some_text(random) for _ in range(random.choice([0, 1, 2, 3, 8, 9, 30]))]
+    texts += random.choices(texts, k=random.randrange(len(texts) + 1)) if texts else []
+    data, offsets = b"".join(texts), [0]
+    for text in texts:
+        offsets.append(offsets[-1] + len(text))
+    if random.random() < 0.2:
+        offsets = offsets[random.randrange(len(offsets)) :]
+    if random.random() < 0.15 and offsets:
+        offsets[random.randrange(len(offsets))] = random.choice([-1, 0, len(data), len(data) + 1, greatest, -greatest - 1, random.randrange(len(data) + 1)])
+    if random.random() < 0.05:
+        data = data[: random.randrange(len(data) + 1)]
+    return data, [] if random.random() < 0.03 else offsets
+
+
+def about(random, size):
+    """A length of an output: enough as a rule, and seldom too short."""
+    return max(random.choice([size, size, size, size + 1, size + 7, size - 1, 0]), 0)
+
+
+def some_bitmap(random, rows):
+    """A bitmap of that many rows, or none; seldom too short."""
+    return b"" if random.random() < 0.3 else random.randbytes(about(random, (rows + 7) // 8))
+
+
+def some_null(random):
+    """The code of nulls."""
+    return random.choice([2**32 - 1, 0, 1, 7])
+
+
+def some_step(random):
+    """A call: its name and its arguments, as plain values."""
+    handle = random.randrange(HANDLES)
+    is_large = random.random() < 0.4
+    greatest = 2**63 - 1 if is_large else 2**31 - 1
+    data, offsets = some_layout(random, greatest)
+    rows = max(len(offsets) - 1, 0)
+    small_data, small_offsets = some_layout(random, 2**31 - 1)
+    texts = max(len(small_offsets) - 1, 0)
+    code = random.choice([0, 1, 2, 5, 20, 2**32 - 1])
+    room = random.choice([0, 1, 5, 100, 10000])
+    limit = random.choice([0, 1, 4096, 5000, 9000, 20000, ENDLESS, ENDLESS])
+    keys = random.choice([None, (0, 0), (random.randrange(2**64), 1)])
+    steps = [
+        (3, ("new", handle, limit, None, keys)),
+        (1, ("new", handle, limit, (random.choice([0, 1, 60, 1000, 2**60, ENDLESS]), random.choice([0, 1, 5, 100, 8192, 2**62, ENDLESS])), keys)),
+        (2, ("clone", handle, (handle + random.randrange(1, HANDLES)) % HANDLES)),
+        (1, ("free", handle)),
+        (1, ("clear", handle)),
+        (2, ("set_limit", handle, limit)),
+        (15, ("intern", handle, some_text(random))),
+        (10, ("intern_batch", handle, data, offsets, some_bitmap(random, rows) if random.random() < 0.5 else None, some_null(random), about(random, rows), is_large)),
+        (5, ("get", handle, some_text(random))),
+        (6, ("get_batch", handle, data, offsets, random.choice([2**32 - 1, 0, 9]), about(random, rows), is_large)),
+        (5, ("resolve", handle, code, random.choice([0, 1, 3, 20, 9000]))),
+        (5, ("text", handle, code)),
+        (3, ("texts", handle, random.choice([0, 0, 1, 5, ENDLESS]), random.choice([0, 1, 5, 50]))),
+        (6, ("dictionary", handle, random.choice([0, 0, 1, 5, 2**32, ENDLESS]), random.choice([0, 10, 300, 50000]), random.choice([0, 1, 2, 10, 100]), is_large)),
+        (8, ("encode", small_data, small_offsets, some_bitmap(random, texts) if random.random() < 0.5 else None, some_null(random), about(random, texts), about(random, len(small_data)), about(random, texts + 1))),
+        (8, ("decode", small_data, small_offsets, some_codes(random, texts), some_null(random), random.choice([0, room, 50000]), None, None)),
+        (1, ("status_text", random.choice([*range(17), 2**32 - 1]), random.choice([0, 1, 5, 100]))),
+    ]
+    step = random.choices([step for _, step in steps], [weight for weight, _ in steps])[0]
+    if step[0] == "decode":
+        codes = step[3]
+        step = (*step[:6], about(random, len(codes) + 1), about(random, (len(codes) + 7) // 8) if random.random() < 0.5 else None)
+    return step
+
+
+def some_codes(random, texts):
+    """Codes of a dictionary with that many texts; seldom one that it doesn't have."""
+    codes = [random.randrange(texts) for _ in range(random.choice([0, 1, 7, 8, 9, 40]))] if texts else []
+    while random.random() < 0.2:
+        codes.insert(random.randrange(len(codes) + 1), random.choice([texts, 2**32 - 1, 0, 7]))
+    return codes
+
+
+NO_TEXT = ctypes.create_string_buffer(1)
+
+
+def room_for_texts(count):
+    """An output of that many structs, each LASSO_NO_TEXT."""
+    lent = Output(2 * count, "Q", False)
+    lent.before = lent.after = struct.pack("2Q", ctypes.addressof(NO_TEXT), 0) * count
+    return lent
+
+
+class Differs(Exception):
+    """What a call does differently."""
+
+
+def expect(what, found, wanted):
+    """Raises Differs unless they are the same."""
+    if found != wanted:
+        raise Differs(f"{what}: {str(found)[:300]}, wanted {str(wanted)[:300]}")
+
+
+class Run:
+    """A sequence of calls, of the library and of the reference at once."""
+
+    def __init__(self, path, memory):
+        self.library = guarded.Library(path, memory)
+        self.handles = [memory(bytes(16)) for _ in range(HANDLES)]
+        self.held = [None] * HANDLES
+        self.lent = {}  # what a handle lends: the code, the address and the text
+
+    def step(self, step):
+        """Makes the call."""
+        getattr(self, step[0])(*step[1:])
+        if step[0] not in ("encode", "decode", "status_text"):
+            self.look(step[1], is_reading=step[0] in ("get", "get_batch", "resolve", "text", "texts", "dictionary", "clone"))
+
+    def number(self, name, handle):
+        """A call that returns a number."""
+        return self.library.call(name, SIZE, self.handles[handle].at)
+
+    def look(self, handle, is_reading):
+        """Compares the counts of a handle, whether it holds an interner, and the texts that it lent."""
+        interner = self.held[handle]
+        expect("lasso_len", self.number("lasso_len", handle), len(interner.codes) if interner else 0)
+        expect("lasso_memory", self.number("lasso_memory", handle), interner.account.usage if interner else 0)
+        expect("lasso_limit", self.number("lasso_limit", handle), interner.account.limit if interner else 0)
+        capacity = self.number("lasso_capacity", handle)
+        expect("lasso_capacity is enough", capacity >= len(interner.codes) if interner else capacity == 0, True)
+        at, live = struct.unpack("QB", self.handles[handle].content()[:9])
+        expect("the handle holds an interner", (at != 0, live), (interner is not None, int(interner is not None)))
+        lent = self.lent.get(handle, [])
+        self.lent[handle] = [(address, text) for address, text in lent if is_reading or len(text) >= 15]
+        for address, text in self.lent[handle]:
+            expect("a lent text", ctypes.string_at(address, len(text)), text)
+
+    def refused_or(self, handle, work):
+        """What the reference returns, or how it refuses."""
+        try:
+            return reference.DONE, work(self.held[handle])
+        except Refused as refused:
+            return refused.status, refused
+
+    def compared(self, name, wanted, report, outputs, *arguments):
+        """Calls by name and compares: the status, the report if there is one, and what each output holds."""
+        refused = isinstance(wanted, Refused)
+        tell = Output(3, "Q", False)
+        found = self.library.call(name, STATUS, *arguments, *([tell] if report else []))
+        expect(f"{name}: the status", found, wanted.status if refused else reference.DONE)
+        if report:
+            expect(f"{name}: the report", struct.unpack("3Q", tell.after), wanted.report if refused else wanted[0])
+        for number, output in enumerate(outputs):
+            values = [] if refused else wanted[number + bool(report)]
+            expect(f"{name}: output {number + 1}", output.after, output.after_writing(values))
+
+    # Calls that make and end interners.
+
+    def new(self, handle, limit, sizes, keys):
+        arguments = [self.handles[handle].at, *(sizes or ()), limit, *(keys or ())]
+        name = "lasso_new" + ("_sized" if sizes else "") + ("_keyed" if keys else "")
+        status = self.library.call(name, STATUS, *arguments)
+        is_too_much = bool(sizes) and max(sizes) >= 2**60
+        expect(f"{name}: the status", status, reference.NO_MEMORY if is_too_much else reference.DONE)
+        if not is_too_much:
+            self.held[handle] = reference.Interner(limit, max(sizes[1], 1) if sizes else 4096)
+            self.lent[handle] = []
+            room = self.number("lasso_capacity", handle)
+            expect("the capacity of a new interner is enough", room >= (sizes[0] if sizes else 50), True)
+
+    def clone(self, handle, other):
+        status, clone = self.refused_or(handle, lambda interner: reference.holding(interner).clone())
+        expect("lasso_clone: the status", self.library.call("lasso_clone", STATUS, self.handles[handle].at, self.handles[other].at), status)
+        if status == reference.DONE:
+            self.held[other] = clone
+            self.lent[other] = []
+        self.look(other, is_reading=False)
+
+    def free(self, handle):
+        self.library.call("lasso_free", None, self.handles[handle].at)
+        self.held[handle], self.lent[handle] = None, []
+        expect("lasso_free: the handle", self.handles[handle].content()[:9], bytes(9))
+
+    def clear(self, handle):
+        status, _ = self.refused_or(handle, reference.holding)
+        expect("lasso_clear: the status", self.library.call("lasso_clear", STATUS, self.handles[handle].at), status)
+        self.lent[handle] = []
+        if self.held[handle]:
+            self.held[handle].codes = {}
+            self.held[handle].account.clear()
+
+    def set_limit(self, handle, limit):
+        status, _ = self.refused_or(handle, reference.holding)
+        expect("lasso_set_limit: the status", self.library.call("lasso_set_limit", STATUS, self.handles[handle].at, limit), status)
+        if self.held[handle]:
+            self.held[handle].account.limit = limit
+
+    # Calls that intern and look up.
+
+    def intern(self, handle, text):
+        _, wanted = self.refused_or(handle, lambda interner: ([reference.intern(interner, text)],))
+        code = Output(1, "I", False)
+        self.compared("lasso_intern", wanted, False, [code], self.handles[handle].at, Input(text), code)
+
+    def intern_batch(self, handle, data, offsets, present, null, codes_room, is_large):
+        _, wanted = self.refused_or(handle, lambda interner: reference.intern_batch(interner, data, offsets, present, null, codes_room))
+        if isinstance(wanted, Refused):
+            wanted = (wanted.status, wanted.report, [])
+        name = "lasso_intern_batch" + ("" if present is None else "_nulls") + ("_large" if is_large else "")
+        codes, report = Output(codes_room, "I"), Output(3, "Q", False)
+        nulls = [] if present is None else [Input(present), null]
+        status = self.library.call(name, STATUS, self.handles[handle].at, Input(data), Input(offsets, "q" if is_large else "i"), *nulls, codes, report)
+        expect(f"{name}: status and report", (status, struct.unpack("3Q", report.after)), wanted[:2])
+        expect(f"{name}: the codes", codes.after, codes.after_writing(wanted[2]))
+
+    def get(self, handle, text):
+        _, wanted = self.refused_or(handle, lambda interner: ([reference.get(interner, text)],))
+        code = Output(1, "I", False)
+        self.compared("lasso_get", wanted, False, [code], self.handles[handle].at, Input(text), code)
+
+    def get_batch(self, handle, data, offsets, absent, codes_room, is_large):
+        _, wanted = self.refused_or(handle, lambda interner: reference.get_batch(interner, data, offsets, absent, codes_room))
+        codes = Output(codes_room, "I")
+        name = "lasso_get_batch" + ("_large" if is_large else "")
+        self.compared(name, wanted, True, [codes], self.handles[handle].at, Input(data), Input(offsets, "q" if is_large else "i"), absent, codes)
+
+    def resolve(self, handle, code, room):
+        _, wanted = self.refused_or(handle, lambda interner: reference.text_at(interner, code))
+        text, whole = Output(room), Output(1, "Q", False)
+        wanted = wanted if isinstance(wanted, Refused) else (wanted[:room], [len(wanted)])
+        self.compared("lasso_resolve", wanted, False, [text, whole], self.handles[handle].at, code, text, whole)
+
+    def dictionary(self, handle, start, bytes_room, offsets_room, is_large):
+        greatest = 2**63 - 1 if is_large else 2**31 - 1
+        _, wanted = self.refused_or(handle, lambda interner: reference.dictionary(interner, start, bytes_room, offsets_room, greatest))
+        outputs = [Output(bytes_room), Output(offsets_room, "q" if is_large else "i")]
+        self.compared("lasso_dictionary" + ("_large" if is_large else ""), wanted, True, outputs, self.handles[handle].at, start, *outputs)
+
+    # Texts that are lent.
+
+    def text(self, handle, code):
+        status, wanted = self.refused_or(handle, lambda interner: reference.text_at(interner, code))
+        lent = room_for_texts(1)
+        expect("lasso_text: the status", self.library.call("lasso_text", STATUS, self.handles[handle].at, code, lent), status)
+        if status == reference.DONE:
+            self.lend(handle, lent.after, wanted)
+        else:
+            expect("lasso_text: the struct", lent.after, lent.before)
+
+    def texts(self, handle, start, room):
+        held = list(self.held[handle].codes) if self.held[handle] else []
+        wanted = held[start : start + room]
+        lent = room_for_texts(room)
+        expect("lasso_texts: the count", self.library.call("lasso_texts", SIZE, self.handles[handle].at, start, lent, room), len(wanted))
+        for number, text in enumerate(wanted):
+            self.lend(handle, lent.after[16 * number : 16 * number + 16], text)
+        expect("lasso_texts: the rest", lent.after[16 * len(wanted) :], lent.before[16 * len(wanted) :])
+
+    def lend(self, handle, pair, text):
+        """Compares a lent text, and keeps where it is."""
+        address, length = struct.unpack("2Q", pair)
+        expect("a lent text's length", length, len(text))
+        expect("a lent text is somewhere", address != 0, True)
+        expect("a lent text", ctypes.string_at(address, length), text)
+        self.lent.setdefault(handle, []).append((address, text))
+
+    # Columns by one call.
+
+    def encode(self, data, offsets, present, null, codes_room, bytes_room, offsets_room):
+        _, wanted = self.refused_or(0, lambda _: reference.encode(data, offsets, present, null, codes_room, bytes_room, offsets_room))
+        outputs = [Output(codes_room, "I"), Output(bytes_room), Output(offsets_room, "i")]
+        nulls = [] if present is None else [Input(present), null]
+        self.compared("lasso_encode" + ("" if present is None else "_nulls"), wanted, True, outputs, Input(data), Input(offsets, "i"), *nulls, *outputs)
+
+    def decode(self, data, offsets, codes, null, bytes_room, offsets_room, bitmap_room):
+        _, wanted = self.refused_or(0, lambda _: reference.decode(data, offsets, codes, null, bytes_room, offsets_room, bitmap_room))
+        outputs = [Output(bytes_room), Output(offsets_room, "i")] + ([] if bitmap_room is None else [Output(bitmap_room)])
+        nulls = [] if bitmap_room is None else [null]
+        self.compared("lasso_decode" + ("" if bitmap_room is None else "_nulls"), wanted, True, outputs, Input(data), Input(offsets, "i"), Input(codes, "I"), *nulls, *outputs)
+
+    def status_text(self, status, room):
+        whole, text = Output(1000), Output(room)
+        size = self.library.call("lasso_status_text", SIZE, status, whole)
+        expect("lasso_status_text: the size", (self.library.call("lasso_status_text", SIZE, status, text), 0 < size < 1000), (size, True))
+        said = whole.after[:size]
+        expect("lasso_status_text: the text", (said.isascii(), said == b"not a status"), (True, status > 14))
+        expect("lasso_status_text: what is written", (whole.after, text.after), (whole.after_writing(list(said)), text.after_writing(list(said[:room]))))
+
+
+def difference(steps, path, memory):
+    """What differs in a sequence of calls, or None."""
+    run = Run(path, memory)
+    try:
+        for number, step in enumerate(steps):
+            try:
+                run.step(step)
+            except (Differs, guarded.Broken) as found:
+                return f"call {number + 1}: {found}"
+    finally:
+        for handle in run.handles:
+            run.library.call("lasso_free", None, handle.at)
+            handle.end()
+    return None
+
+
+def in_a_child(work):
+    """What the work returns in a process of its own, or how that ended."""
+    ends = os.pipe()
+    child = os.fork()
+    if child == 0:
+        try:
+            os.close(ends[0])
+            with os.fdopen(ends[1], "wb") as pipe:
+                pickle.dump(work(), pipe)
+            os._exit(0)
+        finally:
+            os._exit(1)
+    os.close(ends[1])
+    with os.fdopen(ends[0], "rb") as pipe:
+        said = pipe.read()
+    _, status = os.waitpid(child, 0)
+    return pickle.loads(said) if status == 0 else f"the process ended with status {status}"
+
+
+def some_filling(random):
+    """A call of a sequence that fills buckets, empties them and fills them again: of one handle."""
+    text = random.choice(PIECES).encode() * random.choice([1, 5, 14, 100, 1000, 2000, 5000])
+    steps = [("clear", 0), ("set_limit", 0, random.choice([0, 9000, 20000, 60000, ENDLESS])), ("clone", 0, 1), ("intern", 0, text + b"%d" % random.randrange(100))]
+    return random.choices(steps, [1, 1, 0.2, 10])[0]
+
+
+def some_steps(random):
+    """A sequence of calls."""
+    if random.random() < 0.2:
+        return [("new", 0, random.choice([0, 20000, ENDLESS, ENDLESS]), None, None)] + [some_filling(random) for _ in range(40)]
+    return [("new", 0, ENDLESS, None, None)] + [some_step(random) for _ in range(random.choice([1, 5, 40]))]
+
+
+def smallest(steps, goes_wrong):
+    """The sequence made small, as long as it goes wrong."""
+    steps = shrinking.shorter(steps, goes_wrong)
+    for number, step in enumerate(steps):
+        for place, value in enumerate(step):
+            if isinstance(value, (bytes, list)):
+                put = lambda less, place=place, number=number: steps[:number] + [(*steps[number][:place], less, *steps[number][place + 1 :])] + steps[number + 1 :]
+                steps = put(shrinking.shorter(value, lambda less, put=put: goes_wrong(put(less))))
+    return steps

@@ -1,0 +1,208 @@
+"""lasso_codes anew: what it writes, says and returns, from its README and its manual page."""
+import collections
+import re
+
+from account import Account
+from lines import is_utf8, lines_of
+
+NO_CODE = 4294967295
+OPTIONS = {
+    "counts": ("--limit", "--top", "--utf8", "--workers", "--quiet"),
+    "decode": ("--limit", "--null", "--utf8", "--quiet"),
+    "distinct": ("--limit", "--utf8", "--quiet"),
+    "encode": ("--limit", "--null", "--binary", "--utf8", "--workers", "--quiet"),
+    "merge": ("--limit", "--binary", "--utf8", "--quiet"),
+}
+UNITS = {"": 1, "K": 2**10, "M": 2**20, "G": 2**30}
+
+
+class Ends(Exception):
+    """The end of a run: its status, a pattern of its message, and what is written."""
+
+    def __init__(self, status, message, output=b""):
+        super().__init__(status, message)
+        self.status, self.message, self.output = status, message, output
+
+
+def number_of(word):
+    """The number below 2^64 that a word is, or None."""
+    found = re.fullmatch("([0-9]{1,20})([KMG]?)", word)
+    number = int(found[1]) * UNITS[found[2]] if found else 2**64
+    return number if number < 2**64 else None
+
+
+def options_of(words):
+    """The verb and its options; Ends for a wrong argument, a help text or the version."""
+    if not words or words[0] not in (*OPTIONS, "--help", "--version"):
+        raise Ends(3, re.escape(words[0]) + ": .+" if words else ".+")
+    if words[0].startswith("--"):
+        raise Ends(0, "", re.compile(b"(.+\n)+", re.DOTALL))
+    verb, *words = words
+    options = {}
+    while words:
+        word = words.pop(0)
+        name, mark, value = word.partition("=")
+        if word == "--help":
+            raise Ends(0, "", re.compile(b"(.+\n)+", re.DOTALL))
+        if name not in OPTIONS[verb] or mark and name in ("--utf8", "--binary", "--quiet"):
+            raise Ends(3, re.escape(word) + ": .+")
+        if name in ("--utf8", "--binary", "--quiet"):
+            options[name] = True
+            continue
+        if not mark:
+            if not words:
+                raise Ends(3, f"{name}: .+")
+            value = word = words.pop(0)
+        if name == "--null":
+            options[name] = value.encode()
+            continue
+        options[name] = number_of(value)
+        if options[name] is None:
+            raise Ends(3, re.escape(word) + ": .+")
+        if name == "--workers" and not 1 <= options[name] <= 64:
+            raise Ends(3, "--workers: .+")
+    return verb, options
+
+
+class Dictionary:
+    """Distinct lines in the order in which they first come, under a limit."""
+
+    def __init__(self, limit):
+        self.account = Account(limit)
+        self.codes = {}
+
+    def add(self, line, where):
+        """The code of a line, which is appended if it is absent."""
+        if line not in self.codes:
+            is_own_text = is_utf8(line) and not line.startswith("\U0010ffff".encode())
+            if not self.account.store(len(line) if is_own_text else 2 * len(line) + 4):
+                raise Ends(1, f"{where}: .*memory limit.*")
+            self.codes[line] = len(self.codes)
+        return self.codes[line]
+
+
+def dictionary_of(data, options):
+    """The dictionary of the lines, and the code of each, None for a null. An Ends has the distinct lines before it."""
+    dictionary, codes = Dictionary(options.get("--limit", 2**64 - 1)), []
+    for number, line in enumerate(lines_of(data), 1):
+        try:
+            if "--utf8" in options and not is_utf8(line):
+                raise Ends(2, f"line {number}: not UTF-8")
+            codes.append(None if line == options.get("--null") else dictionary.add(line, f"line {number}"))
+        except Ends as end:
+            end.output = fed(dictionary.codes)
+            raise
+    return dictionary.codes, codes
+
+
+def fed(lines):
+    """The lines, each with its line feed."""
+    return b"".join(line + b"\n" for line in lines)
+
+
+def column(lines, codes, options):
+    """A column of these distinct lines and codes."""
+    if "--binary" in options:
+        kind, entries = b"binary", b"".join((NO_CODE if code is None else code).to_bytes(4, "little") for code in codes)
+    else:
+        kind, entries = b"text", b"".join(b"-\n" if code is None else b"%d\n" % code for code in codes)
+    return b"lasso-codes 1 %s %d %d\n" % (kind, len(lines), len(codes)) + fed(lines) + entries
+
+
+def columns_of(data, options):
+    """The columns of an input, one after another: the number, the distinct lines, and an iterator of the entries."""
+    place, number = 0, 0
+
+    def line_at(fault):
+        nonlocal place
+        end = data.find(b"\n", place)
+        if end < 0:
+            raise Ends(2, fault)
+        line, place = data[place:end], end + 1
+        return line
+
+    def entry(what, binary, count):
+        nonlocal place
+        if binary:
+            if place + 4 > len(data):
+                raise Ends(2, f"{what} is missing")
+            code, place = int.from_bytes(data[place : place + 4], "little"), place + 4
+            code = None if code == NO_CODE else code
+        else:
+            word = line_at(f"{what} is missing")
+            if not re.fullmatch(b"-|[0-9]{1,20}", word):
+                raise Ends(2, f"{what} is not a code")
+            code = None if word == b"-" else int(word)
+        if code is not None and code >= count:
+            raise Ends(2, f"{what} is past the texts")
+        return code
+
+    while place < len(data):
+        number += 1
+        where = f"column {number}"
+        head = re.fullmatch(rb"lasso-codes 1 (text|binary) ([0-9]{1,20}) ([0-9]{1,20})", line_at(f"{where}: no header"))
+        if not head or int(head[2]) >= 2**64 or int(head[3]) >= 2**64:
+            raise Ends(2, f"{where}: no header")
+        dictionary = Dictionary(options.get("--limit", 2**64 - 1))
+        for text in range(1, int(head[2]) + 1):
+            line = line_at(f"{where}: text {text} is missing")
+            if "--utf8" in options and not is_utf8(line):
+                raise Ends(2, f"{where}: text {text} is not UTF-8")
+            if line in dictionary.codes:
+                raise Ends(2, f"{where}: text {text} comes twice")
+            dictionary.add(line, f"{where}: text {text}")
+        entries = (entry(f"{where}: entry {at}", head[1] == b"binary", len(dictionary.codes)) for at in range(1, int(head[3]) + 1))
+        yield where, list(dictionary.codes), entries
+
+
+def distinct(data, options):
+    """What `distinct` writes."""
+    return fed(dictionary_of(data, options)[0])
+
+
+def counts(data, options):
+    """What `counts` writes."""
+    lines, codes = dictionary_of(data, options)
+    count = collections.Counter(codes)
+    ranked = sorted(lines, key=lambda line: (-count[lines[line]], line))
+    return b"".join(b"%d %s\n" % (count[lines[line]], line) for line in ranked[: options.get("--top")])
+
+
+def encode(data, options):
+    """What `encode` writes."""
+    return column(*dictionary_of(data, options), options)
+
+
+def decode(data, options):
+    """What `decode` writes."""
+    written = []
+    try:
+        for where, lines, entries in columns_of(data, options):
+            for at, code in enumerate(entries, 1):
+                if code is None and "--null" not in options:
+                    raise Ends(2, f"{where}: entry {at} is a null, and --null is missing")
+                written.append(options["--null"] if code is None else lines[code])
+    except Ends as end:
+        end.output = fed(written)
+        raise
+    return fed(written)
+
+
+def merge(data, options):
+    """What `merge` writes."""
+    merged, codes = Dictionary(options.get("--limit", 2**64 - 1)), []
+    for where, lines, entries in columns_of(data, options):
+        places = [merged.add(line, where) for line in lines]
+        codes.extend(None if code is None else places[code] for code in entries)
+    return column(merged.codes, codes, options)
+
+
+def lasso_codes(words, data):
+    """The status, the output (or a pattern of it) and a pattern of the message."""
+    try:
+        verb, options = options_of(words)
+        verbs = {"counts": counts, "decode": decode, "distinct": distinct, "encode": encode, "merge": merge}
+        return 0, verbs[verb](data, options), ""
+    except Ends as end:
+        is_silent = end.status in (1, 2) and verb not in ("distinct", "decode")
+        return end.status, b"" if is_silent else end.output, end.message

@@ -1,0 +1,58 @@
+"""lasso_lines anew: what it writes, says and returns, from its README and its manual page."""
+import re
+
+from account import Account
+
+USAGE = r"usage: lasso_lines \[--limit N\] \[--workers N\]"
+
+
+def is_utf8(line):
+    """Whether the bytes are UTF-8."""
+    try:
+        line.decode()
+    except UnicodeDecodeError:
+        return False
+    return True
+
+
+def lines_of(data):
+    """The lines of an input: each ends at a line feed, the last one maybe without."""
+    lines = data.split(b"\n")
+    return lines[:-1] if lines[-1] == b"" else lines
+
+
+def options_of(words):
+    """The limit and the workers that the words ask for, or None if they are wrong."""
+    found = {}
+    for name, value in zip(words[::2], words[1::2]):
+        if name not in ("--limit", "--workers") or name in found or not re.fullmatch("[0-9]{1,20}", value):
+            return None
+        found[name] = int(value)
+    limit, workers = found.get("--limit", 2**64 - 1), found.get("--workers")
+    is_wrong = len(words) % 2 or limit >= 2**64 or workers is not None and not 1 <= workers <= 64
+    return None if is_wrong else (limit, workers)
+
+
+def lasso_lines(words, data):
+    """The status, the output and a pattern of the message."""
+    options = options_of(words)
+    if options is None:
+        return 3, b"", USAGE
+    limit, workers = options
+    account, codes, report = Account(limit), {}, []
+    status, message = 0, ""
+    for number, line in enumerate(lines_of(data), 1):
+        if not is_utf8(line):
+            status, message = 2, f"line {number}: not UTF-8"
+            break
+        if line not in codes:
+            if not account.store(len(line)):
+                status, message = 1, f"line {number}: .*memory limit.*"
+                break
+            codes[line] = len(codes)
+        report.append(b"%d %s\n" % (codes[line], line))
+    if workers is not None:
+        return status, b"".join(line + b"\n" for line in sorted(codes)) if status == 0 else b"", message
+    if status == 0:
+        report.append(b"%d texts, %d bytes\n" % (len(codes), account.usage))
+    return status, b"".join(report), message

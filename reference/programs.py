@@ -1,0 +1,175 @@
+"""Runs of the built programs over random and damaged inputs, compared with the reference's."""
+import dataclasses
+import os
+import re
+import subprocess
+import tempfile
+
+import codes
+import lines
+import shrinking
+
+TOP = os.path.dirname(os.path.dirname(os.path.abspath(__file__)))
+REFERENCES = {"lines": lines.lasso_lines, "codes": codes.lasso_codes}
+SECONDS = 60
+WORDS = ["", "0", "1", "5", "64", "65", "4096", "4100", "9000", "18446744073709551615", "18446744073709551616", "007", "1K", "1k", "-1", "NA", "é", "\udcff", "--", "-", "x"]
+CHARACTERS = [b"\0", b"\r", b" ", b"-", b"0", b"a", b"\x80", b"\xc3\xa9", b"\xff", b"\xed\xa0\x80", b"\xf4\x8f\xbf\xbf", b"\xf0\x9f\x98\x80", b"\xe6\xbc\xa2"]
+LENGTHS = [13, 14, 15, 2046, 2047, 4095, 4096, 4097, 8191, 8192, 8193, 16384]
+
+
+@dataclasses.dataclass
+class Case:
+    """A run of a program: its words, its input, how the input comes, and where the output goes."""
+
+    program: str
+    words: list
+    data: bytes
+    source: str = "pipe"  # pipe, file, or folder, which can't be read
+    output: str = "pipe"  # pipe, or full, which can't be written
+
+
+def line(random):
+    """A line, short as a rule."""
+    if random.random() < 0.1:
+        return random.choice([b"a", b"\xff", b"b", b"\xc3\xa9"]) * random.choice(LENGTHS)
+    return b"".join(random.choices(CHARACTERS, k=random.randrange(5)))
+
+
+def some_lines(random, are_short):
+    """Lines, most of which come again; the last one maybe without a line feed. A few have workers start threads, unless they have to be short."""
+    known = [line(random) for _ in range(random.choice([1, 2, 5, 20]))]
+    if random.random() < 0.5:
+        known = [text for text in known if lines.is_utf8(text)] or [b"b"]
+    data = b"".join(random.choice(known) + b"\n" for _ in range(random.choice([0, 1, 2, 5, 20, 60])))
+    if data and random.random() < 0.01 and not are_short:
+        data *= 600000 // len(data)
+    return data[:-1] if random.random() < 0.3 else data
+
+
+def some_column(random):
+    """A column, as a rule a good one, of texts that entries need not name."""
+    texts = list(dict.fromkeys(line(random) for _ in range(random.choice([0, 1, 2, 5, 20]))))
+    numbers = [random.choice([None, *range(len(texts))]) if random.random() < 0.1 or not texts else random.randrange(len(texts)) for _ in range(random.choice([0, 1, 3, 9, 30]))]
+    options = ["--binary"] if random.random() < 0.4 else []
+    data = codes.column(texts, numbers, options)
+    if not options and random.random() < 0.1:
+        data = re.sub(rb"\n([0-9]+\n)", lambda found: b"\n" + b"0" * random.randrange(20) + found[1], data)
+    return data
+
+
+def damaged(random, data):
+    """The bytes with a few of them changed, gone, doubled or new, or cut."""
+    for _ in range(random.choice([1, 1, 2, 5])):
+        at, size = random.randrange(len(data) + 1), random.choice([1, 1, 2, 4, 9, 40])
+        new = random.choice([b"", b"\n", b"-", b"0", b"9", b" ", b"\xff", data[at : at + size], b"%d" % random.randrange(10**random.randrange(1, 22))])
+        data = random.choice([data[:at] + new + data[at:], data[:at] + new + data[at + size :], data[:at] + new + data[at + len(new) :], data[:at]])
+    return data
+
+
+def some_words(random, program, are_short):
+    """Arguments, as a rule good ones. Few workers go with short inputs."""
+    verb = random.choice(list(codes.OPTIONS))
+    names = ["--limit", "--workers"] if program == "lines" else list(codes.OPTIONS[verb])
+    words = [verb] if program == "codes" else []
+    for name in random.sample(names, random.randrange(len(names) + 1)):
+        value = str({"--limit": random.choice([0, 4096, 4100, 9000, 30000, 2**64 - 1]), "--top": random.choice([0, 1, 3]), "--workers": random.choice([1, 2] if are_short else [1, 2, 4, 64]), "--null": random.choice(["NA", "", "-", "é", "0", "a"])}.get(name))
+        if name in ("--utf8", "--binary", "--quiet"):
+            words.append(name)
+        elif program == "codes" and random.random() < 0.3:
+            words.append(f"{name}={value}")
+        else:
+            words += [name, value]
+    while random.random() < 0.15:
+        at = random.randrange(len(words) + 1)
+        more = random.choice([random.choice(WORDS), "--help", "--version", random.choice(names), random.choice(names) + "=" + random.choice(WORDS), "distinct", "--limit"])
+        words = random.choice([words[:at] + [more] + words[at:], words[:at] + words[at + 1 :], words[:at] + [more] + words[at + 1 :]])
+    return words
+
+
+def some_case(random, program, are_short):
+    """A run of the program."""
+    words = some_words(random, program, are_short)
+    if words[:1] in (["decode"], ["merge"]):
+        data = b"".join(some_column(random) for _ in range(random.choice([0, 1, 1, 2, 3])))
+    else:
+        data = some_lines(random, are_short)
+    if random.random() < (0.5 if words[:1] in (["decode"], ["merge"]) else 0.1):
+        data = damaged(random, data)
+    source = random.choice(["pipe"] * 10 + ["file"] * 9 + ["folder"])
+    return Case(program, words, data, source, "full" if random.random() < 0.05 else "pipe")
+
+
+def wanted_of(case):
+    """The status, the output (or a pattern of it) and a pattern of the message."""
+    if case.source == "folder":
+        status, output, message = REFERENCES[case.program](case.words, b"")
+        if message == "" and not isinstance(output, re.Pattern):
+            return 4, b"", "read failed(: .+)?"
+        return status, output, message
+    status, output, message = REFERENCES[case.program](case.words, case.data)
+    if case.output == "full" and output:
+        return 4, b"", "write failed(: .+)?"
+    return status, b"" if case.output == "full" else output, message
+
+
+def run(case, path):
+    """What the program did: its status, its output and its message."""
+    words = [path, *(word.encode("utf-8", "surrogateescape") for word in case.words)]
+    with tempfile.TemporaryFile() as file, open("/dev/full", "wb") as full:
+        source = {"stdin": file}
+        if case.source == "file":
+            file.write(case.data)
+            file.seek(0)
+        elif case.source == "folder":
+            source = {"stdin": os.open("/", os.O_RDONLY)}
+        else:
+            source = {"input": case.data}
+        output = full if case.output == "full" else subprocess.PIPE
+        try:
+            ran = subprocess.run(words, **source, stdout=output, stderr=subprocess.PIPE, timeout=SECONDS, check=False)
+        except subprocess.TimeoutExpired:
+            return None, b"", "it did not end"
+        finally:
+            if case.source == "folder":
+                os.close(source["stdin"])
+    return ran.returncode, ran.stdout or b"", ran.stderr.decode("utf-8", "replace")
+
+
+def fits(found, wanted):
+    """Whether bytes or a text are those that are wanted, or fit their pattern."""
+    if isinstance(wanted, re.Pattern):
+        return bool(wanted.fullmatch(found))
+    return found == wanted
+
+
+def difference(case, path):
+    """What differs between the program and the reference, or None."""
+    status, output, message = wanted_of(case)
+    found_status, found_output, found_message = run(case, path)
+    pattern = re.compile(message + "\n" if message else "", re.DOTALL)
+    if found_status == status and fits(found_output, output) and fits(found_message, pattern):
+        return None
+    if is_other_refusal(case, found_status, found_output, found_message):
+        return None
+    return f"status {found_status}, wanted {status}\noutput {found_output[:500]!r}, wanted {output if isinstance(output, re.Pattern) else output[:500]!r}\nmessage {found_message[:500]!r}, wanted {message!r}"
+
+
+def is_other_refusal(case, status, output, message):
+    """Whether workers of lasso_lines refused a line that may be refused: which one under a limit, if several don't fit, depends on their order."""
+    options = lines.options_of(case.words) if case.program == "lines" else None
+    if not options or options[1] in (None, 1) or status != 1 or output:
+        return False
+    lengths = {text: len(text) for text in lines.lines_of(case.data)}
+    refused = re.fullmatch("line ([0-9]+): .*memory limit.*\n", message)
+    return bool(refused) and 1 <= int(refused[1]) <= len(lines.lines_of(case.data)) and sum(lengths.values()) > 4096
+
+
+def smallest(case, path):
+    """The case made small, as long as there is a difference."""
+    wrong = lambda **changed: difference(dataclasses.replace(case, **changed), path) is not None
+    for name, plain in (("source", "pipe"), ("output", "pipe")):
+        if wrong(**{name: plain}):
+            case = dataclasses.replace(case, **{name: plain})
+    case = dataclasses.replace(case, words=shrinking.shorter(case.words, lambda words: wrong(words=words)))
+    case = dataclasses.replace(case, data=shrinking.shorter(case.data, lambda data: wrong(data=data)))
+    return dataclasses.replace(case, data=shrinking.plainer(case.data, lambda data: wrong(data=data)))
