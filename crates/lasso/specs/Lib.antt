@@ -24,6 +24,7 @@ pub use Rattle.lasso_parts.specs.Placements
 pub use Rattle.lasso_parts.specs.Scan
 pub use Rattle.lasso_parts.specs.Sizes
 pub use Rattle.lasso_parts.specs.Spurs
+pub use Rattle.lasso_parts.specs.TextHash
 pub use Rattle.lasso_parts.specs.Texts
 pub use Rattle.lasso_parts.specs.declared.arena.Span
 pub use Rattle.lasso_parts.specs.declared.json.error.JsonError
