@@ -1,6 +1,7 @@
 /* Reads schemas and arrays of the Arrow C data interface, and checks whatever they tell before it is used. */
 #include "column.h"
 
+#include <stdlib.h>
 #include <string.h>
 
 /* Names of types that hold no texts, for messages. */
@@ -116,6 +117,14 @@ int read_schema(const struct ArrowSchema *schema, const char *name, struct type 
     return check_schema(schema->children[type->child]) < 0 ? -1 : read_type(schema->children[type->child], type);
 }
 
+/* Whether there is memory for the codes of these rows. A length that no memory has room for is not believed, and nothing is read by it. */
+static bool is_credible(int64_t rows)
+{
+    void *volatile room = malloc(4 * (size_t)rows + 1);
+    free(room);
+    return room != NULL;
+}
+
 /* Checks what each array has: that it wasn't released, its numbers, its buffers, and its bitmap. `buffers` is how many it has to have, or
  * at least. */
 static int check_array(const struct ArrowArray *array, int64_t buffers, bool more)
@@ -126,6 +135,8 @@ static int check_array(const struct ArrowArray *array, int64_t buffers, bool mor
         return raise_layout(-1, "an Arrow array that was released already");
     if (array->length < 0 || array->offset < 0 || array->length > most || array->offset > most)
         return raise_layout(-1, "an Arrow array of %lld rows from row %lld on", (long long)array->length, (long long)array->offset);
+    if (!is_credible(array->length) || !is_credible(array->offset))
+        return raise_status(LASSO_NO_MEMORY, -1), -1;
     if (more ? array->n_buffers < buffers || array->n_buffers > INT32_MAX : array->n_buffers != buffers)
         return raise_layout(-1, "an Arrow array with %lld buffers, where %s%lld belong", (long long)array->n_buffers, more ? "at least " : "",
                             (long long)buffers);

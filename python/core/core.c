@@ -187,6 +187,10 @@ static PyObject *core_texts(Core *core, PyObject *words)
         for (size_t at = 0; at < 256; at++)
             lent[at] = (struct lasso_text)LASSO_NO_TEXT;
         size_t got = lasso_texts(&core->lasso, (size_t)(start + done), lent, 256);
+        if (got == 0) {
+            Py_DECREF(list);
+            return raise_status(LASSO_NO_SUCH_CODE, -1);
+        }
         for (size_t at = 0; at < got && done < count; at++, done++) {
             PyObject *text = PyUnicode_FromStringAndSize((const char *)lent[at].bytes, (Py_ssize_t)lent[at].length);
             if (text == NULL || PyList_SetItem(list, done, text) < 0) {

@@ -11,7 +11,7 @@ from typing import Any
 
 import pytest
 
-from lasso import NULL, Codes, Interner, InternerClosed, NotUtf8, WrongLayout
+from lasso import NULL, Codes, Interner, InternerClosed, NotUtf8, OutOfMemory, WrongLayout
 
 from producers import Chunks, Column, bitmap, dictionary, new_capsule, read_dictionary, strings, table, views
 
@@ -140,6 +140,16 @@ def test_refuses_faulty_arrays(interner: Interner, call: Any, made: Callable[[],
     with pytest.raises(WrongLayout, match=said):
         call(interner, column, *(["b"] if column.below else []))
     assert given_back(column)
+
+
+def test_believes_no_length_for_which_there_is_no_memory(interner: Interner) -> None:
+    def huge(length: int, offset: int = 0) -> Column:
+        return Column("u", [None, bytes(8), b""], length, offset)
+
+    for column in (huge(2**50), huge(1, 2**50), dictionary([0], huge(2**50)), table(1, b=huge(2**50))):
+        with pytest.raises(OutOfMemory):
+            interner.encode(column, *(["b"] if column.below else []))
+        assert given_back(column)
 
 
 def test_counts_nulls_by_the_bitmap_whatever_their_count(interner: Interner) -> None:
