@@ -19,6 +19,8 @@ mod gaps;
 #[cfg(test)]
 mod lengths;
 #[cfg(test)]
+mod lent_items;
+#[cfg(test)]
 mod limits;
 #[cfg(test)]
 mod setters;

@@ -12,6 +12,8 @@ mod interners;
 #[cfg(test)]
 mod json;
 #[cfg(test)]
+mod lent_items;
+#[cfg(test)]
 mod reader;
 #[cfg(test)]
 mod refusals;

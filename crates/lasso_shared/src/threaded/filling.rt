@@ -1,12 +1,13 @@
 //! Filling an interner that threads share from the items of an iterator.
-ghost use Rattle.std.specs.Prelude.{◌≡◌, ◌-◌, ◌^◌, ◌⊎◌, [], List, map, MatchResult, IfOk, IfErr};
-ghost use Rattle.std.specs.Iterator.{IsFinite, Drains, Yields};
+ghost use Rattle.std.specs.Prelude.{◌≡◌, ◌-◌, ◌^◌, ◌⊎◌, [], List, None, map, MatchResult, IfOk, IfErr};
+ghost use Rattle.std.specs.Iterator.{IsFinite, Drains, Yields, YieldsThen};
 ghost use Rattle.lasso_parts.specs.declared.util.LassoErrorKind.TheVariants.{FailedAllocation};
-ghost use Rattle.lasso_shared.specs.Filling.{IsPlainFilling};
-ghost use Rattle.lasso_log.specs.History.{IsOpening, opened};
-ghost use Rattle.lasso_log.specs.Views.{InternerId};
+ghost use Rattle.lasso_shared.specs.Filling.{InternsEach, FillingEndsRefused, IsPlainFilling};
+ghost use Rattle.lasso_log.specs.History.{IsLegal, IsOpening, opened};
+ghost use Rattle.lasso_log.specs.Views.{InternerId, PassView, IsSamePass, seen};
 
 use crate::threaded::ThreadedRodeo;
+use lasso_log::log::Pass;
 use lasso_parts::keys::Key;
 use lasso_parts::util::LassoResult;
 use std::alloc::Global;
@@ -18,6 +19,7 @@ impl<K: Key, S: BuildHasher + Drop> ThreadedRodeo<K, S> {
     /// Interns the items in order by one new pass, each of them a `&str` or another type that lends a text.
     /// It stops at the first error and returns it: the items before it stay, and no item after it is taken.
     /// Other threads may intern texts between them. If the items end and no call waits for ever, it returns.
+    /// To go on with a lent iterator after an error, use `extend_as`, whose contract says where it stands.
     ///
     /// ```rust
     /// let rodeo: SpurThreadedRodeo = ThreadedRodeo::default(rt.alloc())?;
@@ -37,9 +39,43 @@ impl<K: Key, S: BuildHasher + Drop> ThreadedRodeo<K, S> {
         ensures opening { IsOpening K.key_at self.now.opening }
     {
         let mut pass = self.pass();
+        let mut items = items.into_iter();
+        self.extend_as(rt, &mut pass, &mut items)
+    }
+
+    /// Interns the items of a lent iterator in order, as `try_get_or_intern_as` does. It stops at the first
+    /// error and returns it. The items before the refused one stay, and the iterator stands right after the
+    /// refused one: the next call of `next` gives the item after it. Other threads may intern texts between
+    /// them.
+    ///
+    /// ```rust
+    /// let rodeo: SpurThreadedRodeo = ThreadedRodeo::default(rt.alloc())?;
+    /// let mut pass = rodeo.pass();
+    /// let colours = ["red", "green", "red"];
+    /// let mut items = colours.iter();
+    /// rodeo.extend_as(&rt, &mut pass, &mut items)?;
+    /// assert!(rt; rodeo.len_as(&mut pass) == 2);
+    /// assert!(rt; items.next().is_none());
+    /// ```
+    pub fn extend_as<R: Wait, T: AsStr + Drop, I: Iterator<Item = T>>(
+        &self,
+        rt: &R,
+        pass: &mut Pass<K>,
+        items: &mut I,
+    ) -> LassoResult<()>
+        requires of { pass.old.of ≡ self.now }
+        requires can { I.can_next items.old }
+        requires ends { IsFinite (I.remaining items.old) }
+        ensures same { IsSamePass pass.new pass.old }
+        ensures filled { (xs : List T) × MatchResult result
+            (λ _. YieldsThen I.next_gives items.old xs None items.new × InternsEach K.key_at self.now.opening (seen pass.old) (seen pass.new) pass.old.number (map T.text xs))
+            (λ error. Yields I.next_gives items.old xs items.new × FillingEndsRefused K.key_at self.now.opening (seen pass.old) (seen pass.new) pass.old.number (map T.text xs) error) }
+        ensures opening { IsOpening K.key_at self.now.opening }
+        ensures legal { IsLegal K.key_at self.now.opening (seen pass.new) }
+    {
         pass.prove_legal();
-        for text in items {
-            self.try_get_or_intern_as(rt, &mut pass, text.as_str())?;
+        while let Some(text) = items.next() {
+            self.try_get_or_intern_as(rt, pass, text.as_str())?;
         }
         Ok(())
     }

@@ -1,7 +1,7 @@
 //! Filling a `Rodeo`: from the items of an iterator, and from a list of texts, with their keys.
 ghost use Rattle.std.specs.Prelude.{◌≡◌, ◌+◌, ◌-◌, ◌^◌, ◌<◌, ◌⊎◌, ℕ, List, Ok, map};
-ghost use Rattle.std.specs.Prelude.{MatchResult, IfOk, IfErr, OnOk, length, vec_len};
-ghost use Rattle.std.specs.Iterator.{IsFinite, Drains, Yields};
+ghost use Rattle.std.specs.Prelude.{None, MatchResult, IfOk, IfErr, OnOk, length, vec_len};
+ghost use Rattle.std.specs.Iterator.{IsFinite, Drains, Yields, YieldsThen};
 ghost use Rattle.std.specs.Vec.{vec_capacity};
 ghost use Rattle.lasso_parts.specs.declared.util.LassoErrorKind.TheVariants.{FailedAllocation};
 ghost use Rattle.lasso_single.specs.Filling.{extend, StopsAtRefusal};
@@ -19,7 +19,8 @@ use std::hash::BuildHasher;
 impl<K: Key, S: BuildHasher, A: Allocator + Clone> Rodeo<K, S, A> {
     /// Interns the items in order, each of them a `&str` or another that lends a text. Stops at the first
     /// error and returns it: the items before the refused one stay, that one changes nothing, and no item
-    /// after it is taken. It returns if the items end.
+    /// after it is taken. It returns if the items end. To go on with a lent iterator after an error, use
+    /// `extend_from`, whose contract says where it stands.
     ///
     /// ```rust
     /// let mut rodeo = Rodeo::default(rt.alloc())?;
@@ -37,10 +38,34 @@ impl<K: Key, S: BuildHasher, A: Allocator + Clone> Rodeo<K, S, A> {
             × MatchResult result (λ _. Drains I.IntoIter.next_gives it xs × extend K.key_at self.old (map T.text xs) (Ok tt) self.new)
             (λ error. ((rest : I.IntoIter) × Yields I.IntoIter.next_gives it xs rest) × StopsAtRefusal K.key_at self.old (map T.text xs) error self.new) }
     {
-        let items = items.into_iter();
+        let mut items = items.into_iter();
+        self.extend_from(&mut items)
+    }
+
+    /// Interns the items of a lent iterator in order, as `extend` does. After an error the iterator stands
+    /// right after the refused item: that one was taken, and the next call of `next` gives the item after it.
+    ///
+    /// ```rust
+    /// let mut rodeo = Rodeo::default(rt.alloc())?;
+    /// let colours = ["red", "green", "red"];
+    /// let mut items = colours.iter();
+    /// rodeo.extend_from(&mut items)?;
+    /// assert!(rt; rodeo.len() == 2);
+    /// assert!(rt; items.next().is_none());
+    /// ```
+    pub fn extend_from<T: AsStr + Drop, I: Iterator<Item = T>>(
+        &mut self,
+        items: &mut I,
+    ) -> LassoResult<()>
+        requires can { I.can_next items.old }
+        requires ends { IsFinite (I.remaining items.old) }
+        ensures { (xs : List T) × MatchResult result
+            (λ _. YieldsThen I.next_gives items.old xs None items.new × extend K.key_at self.old (map T.text xs) (Ok tt) self.new)
+            (λ error. Yields I.next_gives items.old xs items.new × StopsAtRefusal K.key_at self.old (map T.text xs) error self.new) }
+    {
         // Where there is no memory for the items that the hint tells of, each asks for its own.
         let _ = self.list.reserve(items.size_hint().0);
-        for text in items {
+        while let Some(text) = items.next() {
             self.try_get_or_intern(text.as_str())?;
         }
         Ok(())
