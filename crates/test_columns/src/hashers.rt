@@ -69,7 +69,7 @@ fn encodes_with<R: AllocGlobal + Threads + Wait + Sync>(
     count: usize,
 ) -> Result<bool, Fail> {
     let ended = match hashing {
-        Hashing::Keyed(keys) => encodes_by(rt, keyed_by(keys)?, texts, codes, workers, count),
+        Hashing::Keyed(keys) => encodes_by(rt, keyed_by(keys), texts, codes, workers, count),
         Hashing::Fixed => encodes_by(rt, FixedState::new(), texts, codes, workers, count),
         Hashing::Same => encodes_by(rt, SameState::new(), texts, codes, workers, count),
     };

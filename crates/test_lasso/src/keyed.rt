@@ -1,10 +1,10 @@
 //! Texts that collide under the fixed seed, in an interner with keys of its own.
 use crate::answers::is_so;
 use lasso::index::hash_text;
-use lasso::keyed::keyed_by;
+use lasso::keyed::{KeyedState, keyed_by};
 use lasso::{FixedState, Key, LassoResult, Rodeo, Spur, ThreadedRodeo};
 use std::alloc::{AllocError, Global};
-use std::hash::{BuildHasher, RandomState};
+use std::hash::BuildHasher;
 use std::sync::Wait;
 use std::test::*;
 use test_common::collisions::colliding;
@@ -44,7 +44,7 @@ fn fixed_hashes(alloc: Global, texts: &[String]) -> Result<usize, AllocError> {
 
 // The same under these keys.
 fn keyed_hashes(alloc: Global, texts: &[String], keys: [u8; 16]) -> Result<usize, Fail> {
-    let hasher = keyed_by(keys)?;
+    let hasher = keyed_by(keys);
     Ok(distinct(&hashes(alloc, &hasher, texts)?))
 }
 
@@ -63,7 +63,7 @@ fn texts_collide_under_the_fixed_seed_alone(rt: HostRuntime) -> Result<(), Fail>
     Ok(())
 }
 
-type Keyed = Rodeo<Spur, RandomState, Global>;
+type Keyed = Rodeo<Spur, KeyedState, Global>;
 
 // Interns the texts, and returns whether each got the next position.
 fn interns(rodeo: &mut Keyed, texts: &[String]) -> bool {
@@ -101,7 +101,7 @@ fn a_keyed_interner_has_texts_that_collide_under_the_fixed_seed(
     rt: HostRuntime,
 ) -> Result<(), Fail> {
     let texts = colliding(rt.alloc(), TEXTS)?;
-    let made = Rodeo::with_hasher(rt.alloc(), keyed_by(*b"sixteen of bytes")?);
+    let made = Rodeo::with_hasher(rt.alloc(), keyed_by(*b"sixteen of bytes"));
     is_so(&rt, interns_and_finds(made, &texts)?, "the positions");
     Ok(())
 }
@@ -109,7 +109,7 @@ fn a_keyed_interner_has_texts_that_collide_under_the_fixed_seed(
 // Interns the first hundred texts. Returns how many got the next position, and how many texts there are.
 fn interns_hundred<R: Wait>(
     rt: &R,
-    shared: &ThreadedRodeo<Spur, RandomState>,
+    shared: &ThreadedRodeo<Spur, KeyedState>,
     texts: &[String],
 ) -> LassoResult<(usize, usize)> {
     let mut right: usize = 0;
@@ -125,7 +125,7 @@ fn interns_hundred<R: Wait>(
 #[test]
 fn a_shared_interner_may_be_keyed(rt: HostRuntime) -> Result<(), Fail> {
     let texts = colliding(rt.alloc(), TEXTS)?;
-    let shared = ThreadedRodeo::with_hasher(rt.alloc(), keyed_by(*b"sixteen of bytes")?)?;
+    let shared = ThreadedRodeo::with_hasher(rt.alloc(), keyed_by(*b"sixteen of bytes"))?;
     let counts = interns_hundred(&rt, &shared, &texts)?;
     is_so(&rt, counts == (100, 100), "the positions");
     Ok(())

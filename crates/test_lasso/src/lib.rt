@@ -36,4 +36,6 @@ mod shared_plain;
 #[cfg(test)]
 mod shared_threads;
 #[cfg(test)]
+mod sip_vectors;
+#[cfg(test)]
 mod steps;

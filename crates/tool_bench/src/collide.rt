@@ -13,14 +13,14 @@ use test_common::collisions::colliding;
 const ROUNDS: u32 = 4;
 
 /// Times filling interners with `count` texts that collide under the fixed seed: the least of several rounds, by a text. It fails if
-/// there is no memory for the texts, or no keyed hasher.
+/// there is no memory for the texts.
 pub fn time_collisions<R: AllocGlobal + Clock + Print>(
     rt: &R,
     table: &mut Table,
     count: u32,
 ) -> Result<()> {
     let texts = colliding(rt.alloc(), count)?;
-    let hasher = keyed_by(*b"sixteen of bytes")?;
+    let hasher = keyed_by(*b"sixteen of bytes");
     let mut fixed = Ok(u64::MAX);
     let mut keyed = Ok(u64::MAX);
     for _ in 0..ROUNDS {
