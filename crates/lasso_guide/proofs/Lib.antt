@@ -3,3 +3,4 @@ pub mod Naming
 pub mod Compiled
 pub mod Pieces
 pub mod Keywords
+pub mod TextSets

@@ -3,3 +3,4 @@ pub mod Scopes
 pub mod Compiling
 pub mod Lexing
 pub mod Pairs
+pub mod TextSets

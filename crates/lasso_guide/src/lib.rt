@@ -14,4 +14,5 @@ pub mod saving;
 pub mod scopes;
 pub mod spurs;
 pub mod symbols;
+pub mod text_set;
 pub mod word_counts;

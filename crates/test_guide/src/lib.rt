@@ -31,4 +31,6 @@ mod spurs;
 #[cfg(test)]
 mod symbols;
 #[cfg(test)]
+mod text_set;
+#[cfg(test)]
 mod word_counts;
