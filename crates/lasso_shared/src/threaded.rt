@@ -84,9 +84,14 @@ impl<K: Key, S: BuildHasher + Drop> ThreadedRodeo<K, S> {
         self.shards.log.pass()
     }
 
-    /// A pass that has seen nothing yet, and that keeps hints: it remembers where in the list it met texts, and
-    /// finds them there again without a lock. So it is for a thread that meets the same texts often. Its calls
-    /// return what those of any pass do.
+    /// A pass that has seen nothing yet, and that keeps hints: it remembers where in the list it found texts,
+    /// and mostly finds them there again without a lock. So it is for a thread that meets the same texts often.
+    /// Its calls return what those of any pass do.
+    ///
+    /// A call that finds a text under its shard's lock keeps a hint of it. One that adds a text keeps none, so
+    /// the second call with that text takes the lock too. There is room for 32,768 hints; new ones take the
+    /// places of those that are seldom followed. If hints found less than one in eight of 65,536 texts, they
+    /// rest: they are neither asked nor kept for the next 983,040 texts.
     ///
     /// The hints take 131,072 bytes, which no limit counts, and which are freed with the pass. Out of memory
     /// the pass keeps none; `Pass::has_hints` says so. It does not wait.
