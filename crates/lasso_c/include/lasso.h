@@ -55,8 +55,9 @@
  *
  * What a call writes, returns and leaves in its interner is proved. Not proved: that LASSO_NO_MEMORY comes only if
  * malloc or realloc returned none; more of lasso_capacity than that it is at least lasso_len; how long a lent text
- * lasts past the next call; that an interner hashes by the seed or keys that it was made with; what the caller has to
- * keep to; and what is said here of threads and of memory.
+ * lasts past the next call; that an interner hashes by the seed or keys that it was made with; that a handle of a
+ * shared interner gets past LASSO_BUSY, and that it sees what other handles did before; what the caller has to keep to;
+ * and what is said here of threads and of memory.
  */
 #ifndef LASSO_H
 #define LASSO_H
