@@ -94,6 +94,7 @@ int main(void)
     void (*release)(struct lasso *) = lasso_free;
     lasso_free(NULL);
     release(NULL);
+    lasso_shared_free(NULL);
 
     /* The same in an interner that threads share. */
     struct lasso_shared shared = LASSO_SHARED_NONE;

@@ -17,8 +17,9 @@
  *   array.
  * - The caller owns all memory. No pointer is kept after a call returns.
  * - A pointer is aligned for its elements. It may be NULL if its length is 0. A handle, a report and each other
- *   pointer without a length is never NULL, except that lasso_free(NULL) does nothing. (Inline functions of this
- *   header take NULL. A caller without the header, as ctypes, never passes NULL to any call.)
+ *   pointer without a length is never NULL, except that lasso_free(NULL) and lasso_shared_free(NULL) do nothing.
+ *   (Inline functions of this header take NULL. A caller without the header, as ctypes, never passes NULL to any
+ *   call.)
  * - An array has at least as many elements as its length says, and at most 2^63 - 1 bytes.
  * - Outputs, *report included, must not overlap other arguments.
  * - A refused call, whose status is not LASSO_DONE, writes only *report and leaves its interner as it was. Only the
@@ -610,8 +611,8 @@ size_t lasso_status_text(uint32_t status, uint8_t *text, size_t text_length);
 uint32_t lasso_version(void);
 
 /*
- * The same calls, with NULL allowed for an array of no elements, and for the handle of lasso_free. The library itself
- * never gets NULL.
+ * The same calls, with NULL allowed for an array of no elements, and for the handle of lasso_free and of
+ * lasso_shared_free. The library itself never gets NULL.
  */
 static inline const void *lasso_read_from(const void *array, size_t length)
 {
@@ -861,6 +862,13 @@ static inline uint32_t lasso_shared_resolve_inline(struct lasso_shared *shared, 
     return lasso_shared_resolve(shared, code, (uint8_t *)lasso_write_to(text, text_length), text_length, whole);
 }
 #define lasso_shared_resolve lasso_shared_resolve_inline
+
+static inline void lasso_shared_free_inline(struct lasso_shared *shared)
+{
+    if (shared != NULL)
+        lasso_shared_free(shared);
+}
+#define lasso_shared_free lasso_shared_free_inline
 
 /* lasso_shared_intern, again and again until it is not LASSO_BUSY. In between the thread lets others run. */
 static inline uint32_t lasso_shared_intern_wait(struct lasso_shared *shared, const uint8_t *text, size_t text_length, uint32_t *code)
