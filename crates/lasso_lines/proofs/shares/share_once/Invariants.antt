@@ -7,7 +7,7 @@ use Rattle.lasso_log.specs.Views.{list_of, seen, IsSamePass}
 use Rattle.lasso_lines.specs.Shares.{IsRefusedIn}
 use Rattle.lasso_lines.proofs.Lowest.{AreReached}
 use Rattle.lasso_lines.proofs.ShareLines.{Gathered}
-use Rattle.lasso_lines.proofs.shares.share_out.Given as goal
+use Rattle.lasso_lines.proofs.shares.share_once.Given as goal
 
 -- if no line of the earlier workers was refused, their lines have their codes in the list that the pass has
 -- seen. If one was, the history that the pass has seen explains the lowest one, and their lines before it

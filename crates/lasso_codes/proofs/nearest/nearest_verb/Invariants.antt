@@ -1,0 +1,10 @@
+use Rattle.std.proofs.Common.{◌≡◌, ◌≤◌, ℕ, take}
+use Rattle.std.specs.Prelude.{All, IfSome}
+use Rattle.lasso_codes.specs.Nearest.{edits, verbs}
+use Rattle.lasso_codes.proofs.nearest.nearest_verb.Given as goal
+
+-- no verb so far has fewer edits than the least number, and the nearest has as many, at most two
+abbrev pub invariant-loop-verb : goal.invariant-loop-verb
+invariant-loop-verb l =
+    All (λ other. l.least ≤ edits l.word.now other) (take l.verb-index verbs)
+    × IfSome l.nearest (λ verb. (edits l.word.now verb ≡ l.least) × (l.least ≤ 2))
