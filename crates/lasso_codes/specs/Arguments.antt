@@ -45,7 +45,7 @@ not_verb word = shown_text word ++ codes ": no such verb"
 
 abbrev pub begins_with_dash : Text → Bool
 begins_with_dash [] = false
-begins_with_dash (b ∷ bytes) = nat_eq b 45
+begins_with_dash (b ∷ bytes) = b == 45
 
 -- a word that doesn't look like an option may be a file's name
 abbrev pub not_option : Text → List ℕ

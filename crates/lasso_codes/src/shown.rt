@@ -1,7 +1,7 @@
 //! A word of the command line, as a message shows it.
-ghost use Rattle.std.specs.Prelude.{◌≡◌, ◌<◌, Some};
+ghost use Rattle.std.specs.Prelude.{Some};
 ghost use Rattle.std.specs.Fmt.{WritesOnOk};
-ghost use Rattle.lasso_codes.specs.Shown.{hex_letter, shown_letter, shown_text};
+ghost use Rattle.lasso_codes.specs.Shown.{shown_letter, shown_text};
 
 use std::fmt;
 
@@ -28,20 +28,5 @@ fn write_letter<W: fmt::Write>(f: &mut fmt::Formatter<W>, letter: char) -> fmt::
         return f.write_char(letter);
     }
     let code = u32::from(letter);
-    let high = hex_letter(code / 16);
-    let low = hex_letter(code % 16);
-    write!(f, "\\u{{{high}{low}}}")
-}
-
-// The hexadecimal digit of a number below 16.
-fn hex_letter(number: u32) -> char
-    requires { number < 16 }
-    ensures { result ≡ hex_letter number }
-{
-    let number = number as u8;
-    if number < 10 {
-        char::from(b'0' + number)
-    } else {
-        char::from(b'a' + (number - 10))
-    }
+    write!(f, "\\u{{{code:x}}}")
 }
