@@ -29,3 +29,4 @@ pub mod MergedLines
 pub mod Failing
 pub mod Lacking
 pub mod Verbs
+pub mod NearestVerbs

@@ -3,10 +3,11 @@ use Rattle.std.specs.Prelude.{flat_map}
 use Rattle.std.proofs.Output.{has_written_append, has_written_of_eq}
 use Rattle.std.proofs.StrCases.{chars_of_empty}
 use Rattle.std.proofs.lemmas.Str.{IsUtf8-past_char, chars_past_char}
-use Rattle.lasso_codes.specs.Shown.{shown_letter}
+use Rattle.lasso_codes.specs.Shown.{shown_letter, shown_text}
 use Rattle.lasso_codes.proofs.shown.ShownDisplay.fmt.Goals as goal
 
 pub loop-letter-init : goal.loop-letter-init
+unfolding shown_text
 loop-letter-init g c = (search rules, λ plain. ([], search rules, search rules))
 
 pub loop-letter-preserved : goal.loop-letter-preserved
