@@ -30,3 +30,4 @@ pub mod Failing
 pub mod Lacking
 pub mod Verbs
 pub mod NearestVerbs
+pub mod AtEnd

@@ -1,7 +1,7 @@
 //! A reader that is not read again after its end.
-ghost use Rattle.std.specs.Prelude.{◌≡◌, ◌<◌, length, IsTrue, Ok, false};
+ghost use Rattle.std.specs.Prelude.{◌≡◌, ◌<◌, [], length, ForSome, IsTrue, Ok, false};
 ghost use Rattle.std.specs.Io.{ReadsAtMost};
-ghost use Rattle.std.specs.Io.KnownBytes.{IsAtEnd, ReadConsumes};
+ghost use Rattle.std.specs.Io.KnownBytes.{ReadConsumes};
 
 use std::io;
 use std::io::Read;
@@ -15,7 +15,7 @@ use std::io::Read;
 pub struct Fused<R: Read + Drop> {
     inner: R,
     has_ended: bool,
-    ghost at_end: { IsTrue has_ended → IsAtEnd (R.remaining inner) },
+    ghost at_end: { IsTrue has_ended → ForSome (R.remaining inner) (λ bytes. bytes ≡ []) },
 }
 
 impl<R: Read + Drop> Fused<R> {
@@ -49,6 +49,7 @@ impl<R: Read + Drop> Read for Fused<R> {
     ///
     /// # Errors
     /// Those of the inner reader. The end is not found then.
+    #[tactic(auto, using(crate::proofs::AtEnd::end_by_cases, crate::proofs::AtEnd::end_by_equation))]
     fn read(&mut self, buf: &mut [u8]) -> io::Result<usize>
         ensures bound { ReadsAtMost result buf.new }
         ensures bytes { ReadConsumes (R.remaining self.old.inner) (R.remaining self.new.inner) result buf.new }
