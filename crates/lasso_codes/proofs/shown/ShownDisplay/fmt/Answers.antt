@@ -1,4 +1,4 @@
-use Rattle.std.proofs.Common.{◌≡◌, ℕ, List, ◌++◌, [], sym, ap, ◌∙◌, rules, append_assoc, append-nil}
+use Rattle.std.proofs.Common.{ℕ, List, ◌++◌, [], sym, ap, ◌∙◌, rules, append_assoc, append-nil}
 use Rattle.std.specs.Prelude.{flat_map}
 use Rattle.std.proofs.Output.{has_written_append, has_written_of_eq}
 use Rattle.std.proofs.StrCases.{chars_of_empty}
