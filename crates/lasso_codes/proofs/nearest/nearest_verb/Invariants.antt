@@ -1,4 +1,4 @@
-use Rattle.std.proofs.Common.{◌≡◌, ◌≤◌, ℕ, take}
+use Rattle.std.proofs.Common.{◌≡◌, ◌≤◌, take}
 use Rattle.std.specs.Prelude.{All, IfSome}
 use Rattle.lasso_codes.specs.Nearest.{edits, verbs}
 use Rattle.lasso_codes.proofs.nearest.nearest_verb.Given as goal
