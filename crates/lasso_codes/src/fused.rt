@@ -1,5 +1,6 @@
 //! A reader that is not read again after its end.
-ghost use Rattle.std.specs.Prelude.{◌≡◌, ◌<◌, [], length, ForSome, IsTrue, Ok, false};
+ghost use Rattle.std.specs.Prelude.{◌≡◌, ◌<◌, [], length, IsTrue, Ok, false};
+ghost use Rattle.std.specs.Option.{ForSome};
 ghost use Rattle.std.specs.Io.{ReadsAtMost};
 ghost use Rattle.std.specs.Io.KnownBytes.{ReadConsumes};
 
