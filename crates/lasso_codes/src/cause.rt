@@ -47,6 +47,7 @@ fn fmt_code<W: fmt::Write>(code: u32, f: &mut fmt::Formatter<W>) -> fmt::Result
 }
 
 // The kind in words, or no words for a kind that no read or write has.
+#[tactic(auto, unfolding(crate::specs::Causes::kind_text))]
 fn kind_text(kind: ErrorKind) -> &'static str
     ensures { result.now ≡ kind_text kind }
 {
