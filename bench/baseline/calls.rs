@@ -1,13 +1,13 @@
 //! How long single calls take in one round, as a Rust programmer writes an interner over std, and an index of a
-//! `Vec<Box<str>>` at random positions, over the texts of `tool_bench round`. Prints for each count of texts the nanoseconds
-//! of a call.
+//! `Vec<Box<str>>` at random positions, over the texts of `tool_bench round`, or with the word `sizes` the interner alone over those
+//! of `tool_bench sizes`. Prints for each count of texts, and each size, the nanoseconds of a call.
 mod opaque;
 mod positions;
 mod rounds;
 
 use opaque::black_box;
 use positions::random_positions;
-use rounds::{numbered, round, Texts, COUNTS};
+use rounds::{numbered, round, round_of_sizes, Texts, ALL_SIZES, COUNTS};
 use std::collections::HashMap;
 use std::time::Instant;
 
@@ -20,6 +20,8 @@ struct Standard {
 }
 
 impl Texts for Standard {
+    type Key = u32;
+
     fn new() -> Self {
         Standard { keys: HashMap::new(), texts: Vec::new() }
     }
@@ -43,6 +45,11 @@ impl Texts for Standard {
     #[inline]
     fn last_byte(&self, key: u32) -> Option<u8> {
         self.texts.get(key as usize)?.as_bytes().last().copied()
+    }
+
+    #[inline]
+    fn position(key: u32) -> usize {
+        key as usize
     }
 }
 
@@ -78,6 +85,9 @@ fn round_of_index(count: u32) {
 }
 
 fn main() {
+    if std::env::args().nth(1).as_deref() == Some("sizes") {
+        return round_of_sizes::<Standard>(&ALL_SIZES);
+    }
     for count in COUNTS {
         round::<Standard>(count);
         round_of_index(count);

@@ -8,36 +8,44 @@ use std::time::Instant;
 /// How many texts there are.
 pub const COUNTS: [u32; 4] = [10_000, 90_000, 100_000, 1_000_000];
 
-/// How many texts there are, and the bytes of each, where `lasso_proved` is measured.
+/// How many texts there are, and the bytes of each, when `lasso_proved` is measured.
 pub const SIZES: [(u32, usize); 3] = [(100_000, 7), (100_000, 35), (10_000, 7)];
 
-/// The same of `tool_bench sizes`.
-pub const ALL_SIZES: [(u32, usize); 9] = [
+/// How many texts there are in `tool_bench sizes`, and the bytes of each.
+pub const ALL_SIZES: [(u32, usize); 12] = [
     (10_000, 7),
+    (10_000, 11),
     (10_000, 35),
     (10_000, 200),
     (100_000, 7),
+    (100_000, 11),
     (100_000, 35),
     (100_000, 200),
     (1_000_000, 7),
+    (1_000_000, 11),
     (1_000_000, 35),
     (1_000_000, 200),
 ];
 
 const STRIDE: u32 = 7919;
 
-/// A pool of distinct texts. A text's key is its position.
+/// A pool of distinct texts, with a key for each.
 pub trait Texts {
+    type Key: Copy;
+
     fn new() -> Self;
 
     /// The key of the text, which joins the pool if it is absent.
-    fn intern(&mut self, text: &str) -> u32;
+    fn intern(&mut self, text: &str) -> Self::Key;
 
-    /// The key of the text, or `None` where it is absent.
-    fn get(&self, text: &str) -> Option<u32>;
+    /// The key of the text, or `None` if it is absent.
+    fn get(&self, text: &str) -> Option<Self::Key>;
 
-    /// The last byte of the key's text, or `None` where there is none.
-    fn last_byte(&self, key: u32) -> Option<u8>;
+    /// The last byte of the key's text, or `None` if there is none.
+    fn last_byte(&self, key: Self::Key) -> Option<u8>;
+
+    /// The position of the key's text, from 0.
+    fn position(key: Self::Key) -> usize;
 }
 
 /// The text of this number.
@@ -59,7 +67,7 @@ fn jumped(position: u32, count: u32) -> u32 {
 fn intern_all<T: Texts>(pool: &mut T, texts: &[String]) -> usize {
     let mut sum = 0usize;
     for text in texts {
-        sum = sum.wrapping_add(pool.intern(text) as usize);
+        sum = sum.wrapping_add(T::position(pool.intern(text)));
     }
     sum
 }
@@ -70,7 +78,7 @@ fn count_absent<T: Texts>(pool: &T, texts: &[String]) -> usize {
 }
 
 #[inline(never)]
-fn resolve_all<T: Texts>(pool: &T, keys: &[u32]) -> usize {
+fn resolve_all<T: Texts>(pool: &T, keys: &[T::Key]) -> usize {
     let mut sum = 0usize;
     for key in keys {
         if let Some(last) = pool.last_byte(*key) {
@@ -100,13 +108,13 @@ pub fn round<T: Texts>(count: u32) {
     time(count, "new", positions, || intern_all(black_box(&mut pool), black_box(&texts)));
     time(count, "present", positions, || intern_all(black_box(&mut pool), black_box(&again)));
     time(count, "absent", absent.len(), || count_absent(black_box(&pool), black_box(&absent)));
-    let keys: Vec<u32> = again.iter().filter_map(|text| pool.get(text)).collect();
+    let keys: Vec<T::Key> = again.iter().filter_map(|text| pool.get(text)).collect();
     time(count, "try_resolve", last_bytes, || resolve_all(black_box(&pool), black_box(&keys)));
 }
 
 #[inline(never)]
 fn get_all<T: Texts>(pool: &T, texts: &[String]) -> usize {
-    texts.iter().filter_map(|text| pool.get(text)).map(|key| key as usize).fold(0, usize::wrapping_add)
+    texts.iter().filter_map(|text| pool.get(text)).map(T::position).fold(0, usize::wrapping_add)
 }
 
 /// Prints for each of these counts and sizes of texts, and for each call, the count, the bytes of a text, the call, and the
@@ -124,7 +132,7 @@ pub fn round_of_sizes<T: Texts>(sizes: &[(u32, usize)]) {
         time("present", positions, &mut || intern_all(black_box(&mut pool), black_box(&again)));
         time("absent", absent.len(), &mut || count_absent(black_box(&pool), black_box(&absent)));
         time("get", positions, &mut || get_all(black_box(&pool), black_box(&again)));
-        let keys: Vec<u32> = again.iter().filter_map(|text| pool.get(text)).collect();
+        let keys: Vec<T::Key> = again.iter().filter_map(|text| pool.get(text)).collect();
         time("resolve", last_bytes, &mut || resolve_all(black_box(&pool), black_box(&keys)));
     }
 }

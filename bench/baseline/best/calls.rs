@@ -11,6 +11,8 @@ use pool::{Fold, Fx, Pool, TextHash, A};
 use rounds::{round, round_of_sizes, Texts, ALL_SIZES, COUNTS};
 
 impl<H: TextHash> Texts for Pool<H> {
+    type Key = u32;
+
     fn new() -> Self {
         Pool::new()
     }
@@ -28,6 +30,11 @@ impl<H: TextHash> Texts for Pool<H> {
     #[inline]
     fn last_byte(&self, key: u32) -> Option<u8> {
         self.resolve(key)?.last().copied()
+    }
+
+    #[inline]
+    fn position(key: u32) -> usize {
+        key as usize
     }
 }
 

@@ -1,102 +1,37 @@
 //! The same job as `lasso_lines` without options, as fast as it is written in Rust over these crates. The word says
 //! which hash: `fx`, `ahash` or `fold`.
 mod pool;
+#[path = "../report.rs"]
+mod report;
 
-use memchr::{memchr_iter, memrchr};
 use pool::{Fold, Fx, Pool, TextHash, A};
-use std::io::{self, Read, Write};
+use report::{run, Numbers};
+use std::io;
 
-const BUFFER: usize = 1 << 16;
-
-/// Bytes for the standard output, in one buffer.
-struct Output {
-    buffer: Vec<u8>,
-}
-
-impl Output {
-    #[inline]
-    fn number(&mut self, number: usize) {
-        let mut digits = [0u8; 20];
-        let mut at = digits.len();
-        let mut left = number;
-        loop {
-            at -= 1;
-            digits[at] = b'0' + (left % 10) as u8;
-            left /= 10;
-            if left == 0 {
-                break;
-            }
-        }
-        self.buffer.extend_from_slice(&digits[at..]);
+impl<H: TextHash> Numbers for Pool<H> {
+    fn new() -> Self {
+        Pool::new()
     }
 
     #[inline]
-    fn answer(&mut self, position: u32, line: &[u8]) -> io::Result<()> {
-        if self.buffer.len() + line.len() + 22 > BUFFER {
-            self.flush()?;
-        }
-        self.number(position as usize);
-        self.buffer.push(b' ');
-        self.buffer.extend_from_slice(line);
-        self.buffer.push(b'\n');
-        Ok(())
+    fn intern(&mut self, text: &str) -> usize {
+        self.intern(text.as_bytes()) as usize
     }
 
-    #[cold]
-    fn flush(&mut self) -> io::Result<()> {
-        io::stdout().lock().write_all(&self.buffer)?;
-        self.buffer.clear();
-        Ok(())
+    fn len(&self) -> usize {
+        self.len()
     }
-}
 
-fn run<H: TextHash>() -> io::Result<()> {
-    let mut input = io::stdin().lock();
-    let mut output = Output { buffer: Vec::with_capacity(BUFFER) };
-    let mut pool = Pool::<H>::new();
-    let mut buffer = vec![0u8; BUFFER];
-    let mut filled = 0;
-    loop {
-        if filled == buffer.len() {
-            buffer.resize(2 * filled, 0);
-        }
-        let count = input.read(&mut buffer[filled..])?;
-        if count == 0 {
-            break;
-        }
-        let before = filled;
-        filled += count;
-        let last = match memrchr(b'\n', &buffer[before..filled]) {
-            Some(last) => last,
-            None => continue,
-        };
-        let end = before + last + 1;
-        let lines = std::str::from_utf8(&buffer[..end]).map_err(|error| io::Error::new(io::ErrorKind::Other, error))?.as_bytes();
-        let mut start = 0;
-        for at in memchr_iter(b'\n', lines) {
-            let line = &lines[start..at];
-            output.answer(pool.intern(line), line)?;
-            start = at + 1;
-        }
-        buffer.copy_within(end..filled, 0);
-        filled -= end;
+    fn bytes(&self) -> usize {
+        self.bytes()
     }
-    if filled > 0 {
-        let line = std::str::from_utf8(&buffer[..filled]).map_err(|error| io::Error::new(io::ErrorKind::Other, error))?.as_bytes();
-        output.answer(pool.intern(line), line)?;
-    }
-    output.number(pool.len());
-    output.buffer.extend_from_slice(b" texts, ");
-    output.number(pool.bytes());
-    output.buffer.extend_from_slice(b" bytes\n");
-    output.flush()
 }
 
 fn main() -> io::Result<()> {
     match std::env::args().nth(1).as_deref() {
-        Some("fx") => run::<Fx>(),
-        Some("ahash") => run::<A>(),
-        Some("fold") => run::<Fold>(),
+        Some("fx") => run::<Pool<Fx>>(),
+        Some("ahash") => run::<Pool<A>>(),
+        Some("fold") => run::<Pool<Fold>>(),
         _ => Err(io::Error::new(io::ErrorKind::Other, "usage: best fx|ahash|fold")),
     }
 }

@@ -12,6 +12,8 @@ use pool::{Fold, Fx, Pool, TextHash, A};
 use rounds::{round_of_sizes, Texts, SIZES};
 
 impl<H: TextHash> Texts for Pool<H> {
+    type Key = u32;
+
     fn new() -> Self {
         Pool::new()
     }
@@ -30,9 +32,16 @@ impl<H: TextHash> Texts for Pool<H> {
     fn last_byte(&self, key: u32) -> Option<u8> {
         self.resolve(key)?.last().copied()
     }
+
+    #[inline]
+    fn position(key: u32) -> usize {
+        key as usize
+    }
 }
 
 impl<H: TextHash> Texts for Kept<H> {
+    type Key = u32;
+
     fn new() -> Self {
         Kept::new()
     }
@@ -50,6 +59,11 @@ impl<H: TextHash> Texts for Kept<H> {
     #[inline]
     fn last_byte(&self, key: u32) -> Option<u8> {
         self.resolve(key)?.as_bytes().last().copied()
+    }
+
+    #[inline]
+    fn position(key: u32) -> usize {
+        key as usize
     }
 }
 

@@ -2,11 +2,13 @@
 //! them by a `ThreadedRodeo`. Prints the nanoseconds of a text in one round.
 #[cfg(feature = "maps")]
 mod arena;
+mod interner;
 #[cfg(feature = "maps")]
 mod maps;
 #[path = "../opaque.rs"]
 mod opaque;
 
+use interner::Interner;
 use opaque::black_box;
 use std::io::{self, Read};
 use std::thread;
@@ -14,23 +16,9 @@ use std::time::Instant;
 
 const THREADS: [usize; 4] = [1, 2, 3, 4];
 
-/// An interner that threads share.
-pub trait Interner: Sync {
-    fn new() -> Self;
-
-    /// The key of the text, which joins the others if it is not there.
-    fn intern(&self, text: &str) -> u32;
-
-    /// What `look` makes of the key's text, or `None` where the key stands for no text.
-    fn with_text<T>(&self, key: u32, look: impl FnOnce(&str) -> T) -> Option<T>;
-
-    /// How many texts there are.
-    fn count(&self) -> usize;
-}
-
 // The codes of the texts, each part of them by a thread.
 #[inline(never)]
-fn encode<I: Interner>(interner: &I, texts: &[&str], threads: usize) -> Vec<u32> {
+fn encode<I: Interner<Key = u32>>(interner: &I, texts: &[&str], threads: usize) -> Vec<u32> {
     let mut codes = vec![0; texts.len()];
     let length = ((texts.len() + threads - 1) / threads).max(1);
     thread::scope(|scope| {
@@ -45,7 +33,7 @@ fn encode<I: Interner>(interner: &I, texts: &[&str], threads: usize) -> Vec<u32>
     codes
 }
 
-fn round<I: Interner>(bytes: &[u8]) {
+fn round<I: Interner<Key = u32>>(bytes: &[u8]) {
     let lines: Vec<&str> = std::str::from_utf8(bytes).unwrap().lines().collect();
     for threads in THREADS {
         let interner = I::new();

@@ -53,6 +53,8 @@ impl<const LOCKED: bool> Listed<LOCKED> {
 }
 
 impl<const LOCKED: bool> Interner for Listed<LOCKED> {
+    type Key = u32;
+
     fn new() -> Self {
         Listed { shards: Default::default(), list: Dense::new(), arena: Arena::new() }
     }
@@ -75,5 +77,10 @@ impl<const LOCKED: bool> Interner for Listed<LOCKED> {
 
     fn count(&self) -> usize {
         self.list.count()
+    }
+
+    #[inline]
+    fn position(key: u32) -> usize {
+        key as usize
     }
 }

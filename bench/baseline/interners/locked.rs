@@ -27,6 +27,8 @@ impl Locked {
 }
 
 impl Interner for Locked {
+    type Key = u32;
+
     fn new() -> Self {
         Locked { texts: RwLock::new(Texts { keys: HashMap::new(), texts: Vec::new() }) }
     }
@@ -46,5 +48,10 @@ impl Interner for Locked {
 
     fn count(&self) -> usize {
         self.texts.read().unwrap().texts.len()
+    }
+
+    #[inline]
+    fn position(key: u32) -> usize {
+        key as usize
     }
 }

@@ -36,6 +36,8 @@ impl Maps {
 }
 
 impl Interner for Maps {
+    type Key = u32;
+
     fn new() -> Self {
         Maps {
             keys: DashMap::default(),
@@ -60,5 +62,10 @@ impl Interner for Maps {
 
     fn count(&self) -> usize {
         self.texts.len()
+    }
+
+    #[inline]
+    fn position(key: u32) -> usize {
+        key as usize
     }
 }

@@ -8,23 +8,30 @@ use lasso_proved::{Key, Rodeo, Spur};
 use rounds::{round_of_sizes, Texts, SIZES};
 
 impl Texts for Rodeo {
+    type Key = Spur;
+
     fn new() -> Self {
         Rodeo::new()
     }
 
     #[inline]
-    fn intern(&mut self, text: &str) -> u32 {
-        self.get_or_intern(text).into_usize() as u32
+    fn intern(&mut self, text: &str) -> Spur {
+        self.get_or_intern(text)
     }
 
     #[inline]
-    fn get(&self, text: &str) -> Option<u32> {
-        Some(Rodeo::get(self, text)?.into_usize() as u32)
+    fn get(&self, text: &str) -> Option<Spur> {
+        Rodeo::get(self, text)
     }
 
     #[inline]
-    fn last_byte(&self, key: u32) -> Option<u8> {
-        self.resolve(&Spur::try_from_usize(key as usize)?).as_bytes().last().copied()
+    fn last_byte(&self, key: Spur) -> Option<u8> {
+        self.resolve(&key).as_bytes().last().copied()
+    }
+
+    #[inline]
+    fn position(key: Spur) -> usize {
+        key.into_usize()
     }
 }
 

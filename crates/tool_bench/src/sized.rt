@@ -11,14 +11,17 @@ use std::alloc::{AllocError, Global};
 use std::rt::Clock;
 
 // How many texts there are, and the bytes of each.
-static SIZES: [(u32, usize); 9] = [
+static SIZES: [(u32, usize); 12] = [
     (10_000, 7),
+    (10_000, 11),
     (10_000, 35),
     (10_000, 200),
     (100_000, 7),
+    (100_000, 11),
     (100_000, 35),
     (100_000, 200),
     (1_000_000, 7),
+    (1_000_000, 11),
     (1_000_000, 35),
     (1_000_000, 200),
 ];
@@ -30,7 +33,7 @@ pub fn time_sizes<R: AllocGlobal + Clock + Print>(rt: &R, table: &mut Table) {
     }
 }
 
-/// The same over `count` texts of `bytes` bytes each.
+/// Times one round of these calls over `count` texts of `bytes` bytes each.
 pub fn time_size<R: AllocGlobal + Clock + Print>(
     rt: &R,
     table: &mut Table,

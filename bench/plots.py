@@ -1,0 +1,117 @@
+"""Draws the pictures of the last `bench/run lasso`: `plots.py FIGURES PICTURES`, two folders. Colours and letters are legible on white
+and on dark pages, and a picture has no background."""
+
+import os
+import sys
+
+import matplotlib
+
+matplotlib.use("svg")
+import matplotlib.pyplot as pyplot  # noqa: E402
+
+from lasso_figures import CALLS, COUNTS, RIVALS, SIZES, THREADS, Figures  # noqa: E402
+
+GREY = "#7d7d7d"
+COLOURS = {"lasso": "#c2571a", "lasso, fastest hasher": "#2f7fd0", "std": "#8a63d2"}
+MARKS = {"lasso": "o", "lasso, fastest hasher": "s", "std": "^"}
+OURS = "ours"
+# The bytes of a text in the picture of single calls.
+SIZE = 11
+
+STYLE = {
+    "svg.fonttype": "none",
+    "svg.hashsalt": "lasso",
+    "font.family": "sans-serif",
+    "font.size": 11,
+    "text.color": GREY,
+    "axes.edgecolor": GREY,
+    "axes.labelcolor": GREY,
+    "axes.titlecolor": GREY,
+    "axes.titlesize": 11,
+    "xtick.color": GREY,
+    "ytick.color": GREY,
+    "axes.spines.top": False,
+    "axes.spines.right": False,
+    "legend.frameon": False,
+    "figure.facecolor": "none",
+    "axes.facecolor": "none",
+    "savefig.facecolor": "none",
+}
+
+
+def save(figure, folder, name, title):
+    """Writes the picture, with one legend at its top, and the title as its description."""
+    handles, labels = figure.axes[0].get_legend_handles_labels()
+    figure.legend(handles, labels, loc="upper center", ncol=len(labels))
+    figure.tight_layout(rect=(0, 0, 1, 0.92))
+    figure.savefig(os.path.join(folder, name), metadata={"Date": None, "Creator": None, "Title": title})
+    pyplot.close(figure)
+
+
+def draw_ours(axes):
+    axes.axhline(1, color=GREY, linewidth=2, label=OURS)
+
+
+def finish(axes, title, places, words, label):
+    """The title and the axes of one panel, whose times are to ours."""
+    axes.set_title(title)
+    axes.set_xticks(places, words)
+    axes.set_xlabel(label)
+    axes.set_ylim(bottom=0)
+
+
+def draw_calls(figures, folder):
+    figure, panels = pyplot.subplots(1, 4, figsize=(11, 3.4), sharey=True)
+    places = range(len(COUNTS))
+    for axes, (call, words) in zip(panels, CALLS.items()):
+        draw_ours(axes)
+        for rival in RIVALS:
+            axes.plot(places, [1 / figures.call(count, SIZE, call, rival) for count in COUNTS], color=COLOURS[rival], marker=MARKS[rival], label=rival)
+        finish(axes, words, places, ["10,000", "100,000", "1,000,000"], "texts")
+    panels[0].set_ylabel("time of a call, ours = 1")
+    save(figure, folder, "calls.svg", f"Time of single calls over texts of {SIZE} bytes, ours = 1; less is faster")
+
+
+def draw_threads(figures, folder):
+    names = figures.inputs()[1]
+    calls = {"intern": ("hinted_intern", "intern all lines"), "present": ("hinted_present", "intern present texts"), "resolve": ("resolve", "resolve keys")}
+    figure, panels = pyplot.subplots(len(names), len(calls), figsize=(11, 3 * len(names) + 0.6), squeeze=False)
+    for name, line in zip(names, panels):
+        for axes, (call, (ours, words)) in zip(line, calls.items()):
+            draw_ours(axes)
+            for rival in RIVALS:
+                ratios = [1 / figures.thread(name, ours, call, threads, rival) for threads in THREADS]
+                axes.plot(range(len(THREADS)), ratios, color=COLOURS[rival], marker=MARKS[rival], label=rival)
+            axes.set_yscale("log")
+            axes.set_title(f"{words}, {name}")
+            axes.set_xticks(range(len(THREADS)), list(map(str, THREADS)))
+            axes.set_xlabel("threads")
+        line[0].set_ylabel("time of a call, ours = 1")
+    save(figure, folder, "threads.svg", "Time of calls by threads that share an interner, ours = 1; less is faster; scales are logarithmic")
+
+
+def draw_lines(figures, folder):
+    names = figures.inputs()[0]
+    figure, panels = pyplot.subplots(1, 2, figsize=(11, 3.8))
+    width = 0.26
+    for axes, (what, words) in zip(panels, {"seconds": "processor time", "peak": "peak memory"}.items()):
+        draw_ours(axes)
+        for at, rival in enumerate(RIVALS):
+            places = [place + (at - 1) * width for place in range(len(names))]
+            axes.bar(places, [1 / figures.line(name, what, rival) for name in names], width, color=COLOURS[rival], label=rival)
+        finish(axes, words, range(len(names)), names, "input")
+        axes.tick_params(axis="x", rotation=30)
+    panels[0].set_ylabel("ours = 1")
+    save(figure, folder, "lines.svg", "Numbering the lines of an input: processor time and peak memory, ours = 1; less is better")
+
+
+def main():
+    figures = Figures(sys.argv[1])
+    os.makedirs(sys.argv[2], exist_ok=True)
+    assert SIZE in SIZES
+    with pyplot.rc_context(STYLE):
+        for draw in (draw_calls, draw_threads, draw_lines):
+            draw(figures, sys.argv[2])
+
+
+main()
