@@ -42,7 +42,7 @@ functions = load("wrong-bodies/functions.py", "functions")
 
 
 class Function:
-    """A function of a crate's code: where it is, its line of the index, its clauses' texts, and its body or None."""
+    """A function of a crate's code: where it is, its title, its clauses' texts, and its body or None."""
 
     def __init__(self, crate, path, text, match, item, hidden):
         self.crate, self.path, self.start = crate, path, match.start()
