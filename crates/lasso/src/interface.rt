@@ -109,8 +109,8 @@ pub trait IntoReader<K: Key>: Interner<K> + Sized {
     /// The frozen form.
     type Reader: Reader<K>;
 
-    /// The same texts under the same keys, frozen. A value with its own list is never refused. For
-    /// another the only error is `FailedAllocation`, and it is gone then.
+    /// Freezes it: returns a reader with the same texts under the same keys. A value with its own list is
+    /// never refused. For another the only error is `FailedAllocation`, and it is gone then.
     fn into_reader<R: Wait>(self, rt: &R) -> LassoResult<Self::Reader>
         ensures frozen { FreezesTo (Self.meaning self) ⟦<Self::Reader as Resolver<K>>⟧.meaning result }
         ensures refused { IfErr result (λ error. error ≡ FailedAllocation) };
@@ -126,8 +126,9 @@ pub trait IntoResolver<K: Key>: Reader<K> + Sized {
     /// The frozen form.
     type Resolver: Resolver<K>;
 
-    /// The same texts under the same keys, frozen, and no keys are found any more. A value with a list of its
-    /// own is never refused. For another the only error is `FailedAllocation`, and it is gone then.
+    /// Freezes it: returns a resolver with the same texts under the same keys, which finds no keys of texts. A
+    /// value with its own list is never refused. For another the only error is `FailedAllocation`, and it is
+    /// gone then.
     fn into_resolver<R: Wait>(self, rt: &R) -> LassoResult<Self::Resolver>
         ensures frozen { FreezesTo (Self.meaning self) ⟦<Self::Resolver as Resolver<K>>⟧.meaning result }
         ensures refused { IfErr result (λ error. error ≡ FailedAllocation) };

@@ -46,7 +46,7 @@ pub(crate) fn decode(
     Ok(sizes)
 }
 
-// The same, and writes a bitmap in which a code of nulls has 0.
+// Writes the texts that the codes name, and a bitmap in which a code of nulls has 0; or nothing.
 pub(crate) fn decode_nulls(
     dictionary_bytes: &[u8],
     dictionary_offsets: &[u32],

@@ -90,8 +90,8 @@ pub extern "C" fn lasso_intern_batch(
     widths::intern_batch(lasso, bytes, offsets, codes, report)
 }
 
-/// The same for a column with nulls: bit i of byte i / 8 of `present`, counted from the least, is 1 if row i is present; if `present`
-/// is empty, each row is present. A null has the code `null`, and no text is interned for it. It returns `BITMAP_TOO_SHORT` and
+/// Interns a layout as `lasso_intern_batch` does, with nulls: bit i of byte i / 8 of `present`, counted from the least, is 1 if row i is
+/// present; if `present` is empty, each row is present. A null has the code `null`, and no text is interned for it. It returns `BITMAP_TOO_SHORT` and
 /// interns none if `present` has too few bits.
 #[unsafe(no_mangle)]
 pub extern "C" fn lasso_intern_batch_nulls(

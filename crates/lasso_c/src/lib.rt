@@ -101,8 +101,8 @@ pub extern "C" fn lasso_encode(
     error::tell(&outcome, report)
 }
 
-/// The same for a column with nulls: bit i of byte i / 8 of `present`, counted from the least, is 1 if row i is present; if `present`
-/// is empty, each row is present. A null has the code `null`, and its bytes are in no dictionary.
+/// Encodes a layout as `lasso_encode` does, with nulls: bit i of byte i / 8 of `present`, counted from the least, is 1 if row i is
+/// present; if `present` is empty, each row is present. A null has the code `null`, and its bytes are in no dictionary.
 #[unsafe(no_mangle)]
 pub extern "C" fn lasso_encode_nulls(
     alloc: Global,
@@ -172,8 +172,8 @@ pub extern "C" fn lasso_decode(
     error::tell(&outcome, report)
 }
 
-/// The same for a column with nulls: the code `null` gives an empty row, whose bit in `present` is 0; each other row has 1, and the
-/// bits of the last byte after the rows are 0. It returns `BITMAP_TOO_SHORT` if `present` has too few bits.
+/// Decodes codes as `lasso_decode` does, with nulls: the code `null` gives an empty row, whose bit in `present` is 0; each other row has
+/// 1, and the bits of the last byte after the rows are 0. It returns `BITMAP_TOO_SHORT` if `present` has too few bits.
 #[unsafe(no_mangle)]
 pub extern "C" fn lasso_decode_nulls(
     dictionary_bytes: &[u8],

@@ -386,7 +386,7 @@ static CLONED_EMPTY: [Step; 3] = [
 
 static KEPT: [Step; 1] = [Step::Finds(b"red", (0, 0))];
 
-// The clone's own interner is let go for the clone of one without texts, and kept where there is none to clone.
+// Cloning an empty interner replaces the one that the handle had; cloning no interner leaves it.
 #[test]
 fn clones_an_interner_without_texts_and_none(rt: HostRuntime) -> Result<(), Fail> {
     let (mut lasso, mut clone) = (Lasso::none(rt.alloc()), Lasso::none(rt.alloc()));

@@ -235,7 +235,7 @@ fn a_null_may_have_the_code_of_a_text(rt: HostRuntime) -> Result<(), Fail> {
     encode_all(&rt, &CODE_OF_A_TEXT)
 }
 
-// The same of each call that interns a slice with nulls.
+// Each call that interns a slice of eight letters with nulls.
 static INTERNED_SLICES: [Step; 6] = [
     Step::Makes(usize::MAX),
     Step::Nulls(

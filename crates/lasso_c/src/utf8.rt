@@ -17,7 +17,7 @@ pub(crate) fn text_of(bytes: &[u8]) -> Option<&str>
     text_of_any(bytes)
 }
 
-// The same for bytes that are mostly not ASCII.
+// The text of bytes that are mostly not ASCII, or `None` if they are not UTF-8.
 #[inline(never)]
 fn text_of_any(bytes: &[u8]) -> Option<&str>
     ensures utf8 { is_some result ≡ is_utf8 bytes.now }
@@ -41,7 +41,7 @@ fn is_ascii(bytes: &[u8]) -> bool
     }
 }
 
-// The same for fewer than eight bytes: their first and their last ones are all of them.
+// Whether fewer than eight bytes are ASCII: their first and their last ones are all of them.
 #[inline(always)]
 fn is_short_ascii(bytes: &[u8]) -> bool
     requires { length bytes.now < 8 }

@@ -214,7 +214,7 @@ fn count_line(
     }
 }
 
-// The same for any line.
+// Counts a line that may not be its own text.
 #[inline(never)]
 fn count_any(
     rule: TextRule,

@@ -260,7 +260,7 @@ fn entry_of(
     }
 }
 
-// The same for any line.
+// The entry of a line that may not be its own text.
 #[inline(never)]
 fn any_entry_of(
     rule: TextRule,

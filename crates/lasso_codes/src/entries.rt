@@ -87,7 +87,7 @@ pub fn first_entry(stretch: &[u8], binary: bool) -> Option<(Entry, usize)>
     }
 }
 
-// The same for an entry of four bytes.
+// The first entry of four bytes, and its length. `None` if the stretch ends before the entry does.
 #[inline]
 fn first_number(stretch: &[u8]) -> Option<(Entry, usize)>
     ensures cut { IfSome result (λ first. (later : List ℕ) → cut_number (stretch.now ++ later) ≡ (first.0, drop first.1 stretch.now ++ later)) }

@@ -174,7 +174,7 @@ fn make_room(bytes: &mut Vec<u8>, entries: usize) -> Result<(), AllocError>
     bytes.resize(len, 0)
 }
 
-// Puts the entries of the numbers at the begin of the bytes. Returns how many bytes they take.
+// Writes the entries of the numbers to the front of the bytes. Returns how many bytes they take.
 fn put_entries(bytes: &mut [u8], binary: bool, numbers: &[u32]) -> usize
     requires { length numbers.now * 11 ≤ length bytes.old }
     ensures { HoldsEntries binary numbers.now bytes.new (Some result) }

@@ -47,7 +47,8 @@ impl Walk {
 /// The text of any line with this number. It is the line, or is made in `buffer`.
 ///
 /// # Errors
-/// Only UTF-8 is let in, and the line is not; or out of memory, for a line that is not its own text.
+/// The line is not UTF-8, and only UTF-8 is let in; or memory ran out for the text of a line that is not its own
+/// text.
 #[inline(always)]
 pub fn text_in<'a>(
     rule: TextRule,
@@ -81,7 +82,7 @@ pub fn plain_text_in<'a>(rule: TextRule, line: &Line<'a>) -> Option<&'a str>
     }
 }
 
-// The same for a line that is not its own text.
+// The text of a line that is not its own text, if the rule lets it in.
 #[inline(always)]
 fn made_text<'a>(
     rule: TextRule,
@@ -142,7 +143,7 @@ pub fn intern_line<S: BuildHasher, A: Allocator + Clone>(
     }
 }
 
-// The same for any line. Out of line, so that the text of a plain one stays in registers.
+// Interns the text of any line. Out of line, so that the text of a plain one stays in registers.
 #[inline(never)]
 fn intern_any<S: BuildHasher, A: Allocator + Clone>(
     rule: TextRule,

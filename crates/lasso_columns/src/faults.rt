@@ -19,7 +19,7 @@ pub enum LineError {
 }
 
 impl LineError {
-    /// The same error of the line with this number.
+    /// This error, of the line with this number.
     pub fn at_line(self, number: usize) -> Self
         ensures { result ≡ numbered self number }
     {

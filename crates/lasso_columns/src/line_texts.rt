@@ -21,7 +21,7 @@ pub enum LineTexts {
     OfBytes(bool),
 }
 
-// The same blocks with the texts of their lines. If memory runs out, the blocks from there on are lost.
+// Puts the texts of their lines into the blocks. If memory runs out, the blocks from there on are lost.
 pub(crate) fn with_texts(alloc: Global, read: Blocks, by: LineTexts) -> Blocks
     ensures { BecomeTexts by read.blocks.items read.more result.blocks.items result.more }
 {
@@ -76,7 +76,8 @@ fn text_block(alloc: Global, bytes: &[u8], only_utf8: bool) -> Result<Vec<u8>, A
     Ok(texts)
 }
 
-// Appends the text of the line. Only UTF-8: the line itself, if it is not UTF-8.
+// Appends the text of the line. If only UTF-8 is let in, a line that is not UTF-8 is appended as it is, and refused
+// later.
 fn append_text(texts: &mut Vec<u8>, line: &Line<'_>, only_utf8: bool) -> Result<(), AllocError>
     ensures { OnOk result (texts.new.items ≡ texts.old.items ++ text_by only_utf8 line.now) }
 {

@@ -56,8 +56,8 @@ where
     encode_shared_as(rt, rodeo, &mut pass, texts, codes, workers)
 }
 
-/// The same with a pass. Afterwards the pass has seen what the workers did, and the codes are the
-/// positions of the texts in the list that it has seen. The pass itself adds no event. After a refusal it
+/// Encodes by workers as `encode_shared` does, with a pass. Afterwards the pass has seen what the workers did,
+/// and the codes are the positions of the texts in the list that it has seen. The pass itself adds no event. After a refusal it
 /// has seen what the workers up to the refused one did, and so what explains the refusal. When out of
 /// memory, it may have seen no more than before.
 pub fn encode_shared_as<

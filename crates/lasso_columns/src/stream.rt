@@ -66,7 +66,7 @@ pub enum StreamError {
 }
 
 impl StreamError {
-    /// The same error, and if it is that of a line, of the line with this number.
+    /// This error; if it is that of a line, of the line with this number.
     pub fn at_line(self, number: usize) -> Self
         ensures { result ≡ stream_error_at self number }
     {
@@ -189,7 +189,7 @@ impl StreamEncoder {
 /// whose worker ran out of memory.
 ///
 /// After success nothing is left in the input. It stops at the first line that is refused or is not UTF-8
-/// (`StreamError::Line`, with the line's number from the begin of the call, counted from 1), or at a read that
+/// (`StreamError::Line`, with the line's number in this call, counted from 1), or at a read that
 /// failed or had no memory (`StreamError::Read`). The lines before it are interned and have their entries: at
 /// `Read`, all lines that were read as a whole. A bad line is reported even if a read after it failed. What was
 /// read after the last encoded line is lost.

@@ -20,7 +20,7 @@ use std::hash::BuildHasher;
 use std::marker::Model;
 use std::str::from_utf8;
 
-/// The bytes of a stretch that are left, from the begin of a line on. Contracts see these bytes.
+/// The rest of a stretch, which starts at a line. Contracts see these bytes.
 #[derive(Drop)]
 pub struct Stretch<'a> {
     rest: &'a [u8],
@@ -130,7 +130,7 @@ impl<'a> Stretch<'a> {
         self.untested == 0
     }
 
-    /// The same bytes once more. They are not tested again.
+    /// Copies the reference to the bytes. They are not tested again.
     #[inline(always)]
     pub fn copy(&self) -> Stretch<'a>
         ensures { result ≡ self.now }

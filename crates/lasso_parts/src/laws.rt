@@ -36,19 +36,19 @@ pub fn spur_number(_key: Spur)
     ensures keys { (n : ℕ) → spur_at n ≡ ⟦<Spur as Key>⟧.key_at n }
 {}
 
-/// The same of a `MiniSpur`.
+/// `mini_spur_number` is the position that a `MiniSpur` stands for, and `mini_spur_at` the key of a position.
 pub fn mini_spur_number(_key: MiniSpur)
     ensures number { mini_spur_number _key ≡ ⟦<MiniSpur as Key>⟧.number _key }
     ensures keys { (n : ℕ) → mini_spur_at n ≡ ⟦<MiniSpur as Key>⟧.key_at n }
 {}
 
-/// The same of a `MicroSpur`.
+/// `micro_spur_number` is the position that a `MicroSpur` stands for, and `micro_spur_at` the key of a position.
 pub fn micro_spur_number(_key: MicroSpur)
     ensures number { micro_spur_number _key ≡ ⟦<MicroSpur as Key>⟧.number _key }
     ensures keys { (n : ℕ) → micro_spur_at n ≡ ⟦<MicroSpur as Key>⟧.key_at n }
 {}
 
-/// The same of a `LargeSpur`.
+/// `large_spur_number` is the position that a `LargeSpur` stands for, and `large_spur_at` the key of a position.
 pub fn large_spur_number(_key: LargeSpur)
     ensures number { large_spur_number _key ≡ ⟦<LargeSpur as Key>⟧.number _key }
     ensures keys { (n : ℕ) → large_spur_at n ≡ ⟦<LargeSpur as Key>⟧.key_at n }
@@ -65,7 +65,7 @@ pub fn spurs_compare_by_position(one: Spur, other: Spur)
     other.show_value();
 }
 
-/// The same of keys of 16 bits.
+/// Keys of 16 bits are equal, ordered and hashed by their positions.
 pub fn mini_spurs_compare_by_position(one: MiniSpur, other: MiniSpur)
     ensures equal { ⟦<MiniSpur as PartialEq>⟧.eq one other ≡ (mini_spur_number one == mini_spur_number other) }
     ensures order { ⟦<MiniSpur as Ord>⟧.cmp one other ≡ nat_cmp (mini_spur_number one) (mini_spur_number other) }
@@ -76,7 +76,7 @@ pub fn mini_spurs_compare_by_position(one: MiniSpur, other: MiniSpur)
     other.show_value();
 }
 
-/// The same of keys of 8 bits.
+/// Keys of 8 bits are equal, ordered and hashed by their positions.
 pub fn micro_spurs_compare_by_position(one: MicroSpur, other: MicroSpur)
     ensures equal { ⟦<MicroSpur as PartialEq>⟧.eq one other ≡ (micro_spur_number one == micro_spur_number other) }
     ensures order { ⟦<MicroSpur as Ord>⟧.cmp one other ≡ nat_cmp (micro_spur_number one) (micro_spur_number other) }
@@ -87,7 +87,7 @@ pub fn micro_spurs_compare_by_position(one: MicroSpur, other: MicroSpur)
     other.show_value();
 }
 
-/// The same of keys of 64 bits.
+/// Keys of 64 bits are equal, ordered and hashed by their positions.
 pub fn large_spurs_compare_by_position(one: LargeSpur, other: LargeSpur)
     ensures equal { ⟦<LargeSpur as PartialEq>⟧.eq one other ≡ (large_spur_number one == large_spur_number other) }
     ensures order { ⟦<LargeSpur as Ord>⟧.cmp one other ≡ nat_cmp (large_spur_number one) (large_spur_number other) }

@@ -15,7 +15,7 @@ pub fn all_runs()
     ensures { (key_at : ℕ → Option ℕ) → EachRunHolds key_at }
 {}
 
-/// The same for each type of keys.
+/// `all_runs` for each type of keys.
 pub fn all_runs_of<K: Key>()
     ensures { EachRunHolds K.key_at }
 {}

@@ -30,8 +30,8 @@ const NEAR_BYTES: usize = 1_048_576;
 // How many bytes an interner has for a text besides its bytes: 16 in the list, and about 8 in the index.
 const LONG_BYTES: usize = 24;
 
-// The same for a short text, which lies in the list. It counts a third: its look-up waits once less, and
-// the processor overlaps more of them on its own.
+// The bytes that an interner is taken to have for a short text, which is in the list itself. It counts a third:
+// its look-up waits once less, and the processor overlaps more of them on its own.
 const SHORT_BYTES: usize = 8;
 
 // Looking ahead pays if at least one of this number of texts is far.

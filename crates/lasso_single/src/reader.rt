@@ -251,8 +251,8 @@ impl<K: Key, S: BuildHasher, A: Allocator> RodeoReader<K, S, A> {
         self.rodeo.allocated_bytes()
     }
 
-    /// The same texts under the same keys, without the index. It takes no memory, copies nothing and can't
-    /// fail; the index is dropped.
+    /// Returns a resolver with the same texts under the same keys, which finds no keys of texts. It takes no
+    /// memory, copies nothing and can't fail; the index is dropped.
     ///
     /// ```rust
     /// let reader = SpurRodeo::from_iter(rt.alloc(), ["red", "green"])?.into_reader();

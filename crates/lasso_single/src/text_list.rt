@@ -134,7 +134,7 @@ impl<A: Allocator + Clone> TextList<A> {
         self.push_growing(text)
     }
 
-    /// The same, out of line, if the list or a bucket may have to grow for the text.
+    /// Copies a text to the end of the list, out of line, if the list or a bucket may have to grow for it.
     #[inline(never)]
     pub(crate) fn push_growing(&mut self, text: &str) -> LassoResult<()>
         requires { IsSome (store self.old.first self.old.account (length text.now)) }
@@ -210,7 +210,8 @@ impl<A: Allocator> TextList<A> {
         true
     }
 
-    // The same of a text that is not short, where the list does not grow for it.
+    // Copies a text that is not short to the end of the list if neither the list nor a bucket grows for it, and
+    // returns whether it did.
     #[inline(always)]
     fn push_long_in_room(&mut self, text: &str) -> bool
         ensures texts { IsTrue result → self.new.texts ≡ self.old.texts ++ text.now ∷ [] }

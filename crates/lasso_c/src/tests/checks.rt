@@ -28,7 +28,7 @@ pub fn is_so(rt: &impl Abort, holds: bool, what: &str) {
     assert!(rt; holds, "{what}");
 }
 
-// The same for a row of a table.
+// Asserts that this holds of a row of a table.
 pub fn is_so_at(rt: &impl Abort, holds: bool, row: usize) {
     assert!(rt; holds, "row {row}");
 }
@@ -52,7 +52,7 @@ pub fn has_bytes(output: &[u8], bytes: &[u8]) -> bool {
     output.starts_with(bytes)
 }
 
-// The same for numbers.
+// Whether the numbers were written to the front of the output, and nothing after them.
 pub fn has_numbers(output: &[u32], numbers: &[u32]) -> bool {
     for at in numbers.len()..output.len() {
         if output[at] != 9 {

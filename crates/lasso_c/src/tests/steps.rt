@@ -368,7 +368,7 @@ pub fn walk_on<R: Abort + AllocGlobal>(
     Ok(())
 }
 
-// The same on a handle that holds no interner at first.
+// Takes the steps in turn on a handle that holds no interner at first, and checks each.
 pub fn walk<R: Abort + AllocGlobal>(rt: &R, steps: &[Step]) -> Result<(), Fail> {
     let mut lasso = Lasso::none(rt.alloc());
     walk_on(rt, &mut lasso, steps)

@@ -15,7 +15,7 @@ pub struct CountError {
 }
 
 impl CountError {
-    // The same error, `count` texts later.
+    // This error with its position moved by `count` texts.
     pub(crate) fn after(self, count: usize) -> CountError
         requires { count + self.position < 2 ^ 64 }
         ensures position { result.position ≡ count + self.position }

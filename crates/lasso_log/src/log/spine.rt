@@ -196,7 +196,7 @@ impl<K: Key> Log<K> {
         unreachable!()
     }
 
-    /// The same for a static text, which lasts as long as any era. It is kept where it is.
+    /// Puts a static text last, as `append` does a copied one. It lasts as long as any era, and is kept where it is.
     pub fn append_static<R: Wait>(
         &self,
         rt: &R,
@@ -219,8 +219,8 @@ impl<K: Key> Log<K> {
         self.append(rt, spine, pass, cell, Piece::from_static(text));
     }
 
-    /// The same without waiting. Where `append` would wait it returns false, and nothing is appended; the cell is
-    /// given back.
+    /// Puts the text last as `append` does, without waiting. If `append` would wait, it returns false, nothing is
+    /// appended, and the cell is given back.
     pub fn append_now(
         &self,
         spine: &mut Spine<K>,

@@ -111,7 +111,7 @@ impl Free {
     }
 }
 
-// The same places, with these bytes.
+// Fills the places with these bytes.
 fn filled(slots: Slots<u8>, bytes: &[u8]) -> Slots<u8>
     requires { length bytes.now ≡ slots_len slots }
     ensures places { SamePlaces slots result }

@@ -50,8 +50,8 @@ pub fn fingerprint_of(hash: u64) -> u8
     ((hash >> FINGERPRINT_SHIFT) % FINGERPRINT_COUNT) as u8 + 1
 }
 
-// Looks for the text in the slots from the first index up to the last, which is not among them. A slot with
-// another fingerprint than the text's is passed over: neither its key nor that key's text is read. In the first slot
+// Looks for the text in the slots `from..to`. A slot with another fingerprint than the text's is skipped: neither
+// its key nor that key's text is read. In the first slot
 // only the text is looked for, since a present text is mostly there. Empty slots are looked for in groups of
 // sixteen, the first slot included, so that no branch of a search for an absent text depends on how full the
 // table is. It is inlined, as `locate` is: a search mostly ends after a few slots, and a call would cost
@@ -198,7 +198,7 @@ pub fn first_fitting<K: Key, A: Allocator>(slots: &KeySlots<K, A>, hash: u64) ->
     None
 }
 
-// The first empty slot from the first index up to the last, which is not among them.
+// The first empty slot in `from..to`.
 #[inline]
 fn first_empty<K: Key, A: Allocator>(
     slots: &KeySlots<K, A>,

@@ -131,7 +131,7 @@ fn refill_in_order<K: Key, A: Allocator, T: Texts, S: BuildHasher>(
     }
 }
 
-// The same keys in a new table of `count` slots.
+// Enters the keys of a table into a new one of `count` slots.
 pub fn rebuilt<K: Key, A: Allocator + Clone, T: Texts, S: BuildHasher>(
     alloc: A,
     count: usize,

@@ -41,7 +41,7 @@ pub fn read_array<K: Key, A: Allocator + Clone>(
     read_items(texts, index, &FixedState::new(), items.as_slice(), distinct)
 }
 
-// The same over the items, with a list and an index that are empty.
+// Reads the items into a list and an index that are empty.
 fn read_items<'a, K: Key, S: BuildHasher, A: Allocator + Clone>(
     texts: Vec<&'a str, A>,
     index: Index<K, A>,

@@ -38,7 +38,7 @@ pub fn read_map<K: Key, A: Allocator + Clone>(
     read_members::<K, A>(texts, taken, members)
 }
 
-// The same over the members, with a list and marks that are empty.
+// Reads the members into a list and marks that are empty.
 fn read_members<'a, K: Key, A: Allocator>(
     texts: Vec<&'a str, A>,
     taken: Vec<bool, A>,

@@ -16,7 +16,8 @@ use std::hash::BuildHasher;
 use std::sync::Wait;
 
 impl<K: Key, S: BuildHasher + Drop> Shards<K, S> {
-    // Whether the pass has then seen a list that the spine has seen too, with no more texts of the shard than the shard has.
+    // Whether the shard's index is current: the pass then has seen the spine's list, and the shard has as many texts as the
+    // spine counts for it.
     pub(super) fn is_current(
         &self,
         tally: &Tally<K, S>,

@@ -67,7 +67,7 @@ pub(super) struct Guesses {
     pub(super) each: [Guess; TOGETHER],
     size: usize,
     taken: usize,
-    // Whether the texts are taken without guesses.
+    // Whether prefetching is skipped for this batch.
     are_left_out: bool,
 }
 
@@ -89,7 +89,7 @@ impl Guesses {
         self.taken >= self.size
     }
 
-    /// Has the next texts taken without guesses, `TOGETHER` of them.
+    /// Skips prefetching for the next batch, which has `TOGETHER` texts.
     #[inline(always)]
     pub(super) fn leave_out(&mut self) {
         self.size = TOGETHER;
@@ -97,7 +97,7 @@ impl Guesses {
         self.are_left_out = true;
     }
 
-    /// Whether the next text is taken without a guess. If so, it counts as taken.
+    /// Whether prefetching is skipped for the next text. If so, it counts as taken.
     #[inline(always)]
     pub(super) fn leaves_out_next(&mut self) -> bool {
         if self.are_left_out {

@@ -91,8 +91,8 @@ impl<K: Key, S: BuildHasher + Drop> Shards<K, S> {
         self.intern_new(rt, pass, hash, NewText::Static(text))
     }
 
-    /// The same without a pass. A present text is found in the history that its shard has seen; for an absent
-    /// one a pass is made.
+    /// Interns a static text without a pass. A present one is found in the history that its shard has seen; for
+    /// an absent one a pass is made.
     pub fn intern_static_once<R: Wait>(&self, rt: &R, text: &'static str) -> LassoResult<K>
         ensures call { IsPlainCall K.key_at self.now.log.opening (Intern Static text.now) (Interned result) }
     {
@@ -122,7 +122,7 @@ impl<K: Key, S: BuildHasher + Drop> Shards<K, S> {
         self.intern_new(rt, pass, hash, NewText::Copied(text))
     }
 
-    /// The same without a pass, as `intern_static_once` is.
+    /// Interns a copied text without a pass, as `intern_static_once` does a static one.
     pub fn intern_copied_once<R: Wait>(&self, rt: &R, text: &str) -> LassoResult<K>
         ensures call { IsPlainCall K.key_at self.now.log.opening (Intern Copied text.now) (Interned result) }
     {

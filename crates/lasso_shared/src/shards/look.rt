@@ -199,8 +199,8 @@ impl<K: Key, S: BuildHasher + Drop> Shards<K, S> {
         found
     }
 
-    /// The same without a pass. A present text is found in the history that its shard has seen; for an absent
-    /// one a pass is made.
+    /// The text's key, or `None` if it is absent, without a pass. A present text is found in the history that its
+    /// shard has seen; for an absent one a pass is made.
     pub fn get_once<R: Wait>(&self, rt: &R, text: &str) -> Option<K>
         ensures call { IsPlainCall K.key_at self.now.log.opening (Get text.now) (Found result) }
     {

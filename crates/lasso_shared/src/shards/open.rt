@@ -40,8 +40,8 @@ impl<K: Key, S: BuildHasher + Drop> Shards<K, S> {
         Shards::open_for(alloc, hasher, first, 0)
     }
 
-    /// The same, where the index of each shard has room for its share of `count` texts. If these are
-    /// fewer than 1024, it has none, and grows.
+    /// What an interner that holds nothing is made of, with room in the index of each shard for its share of
+    /// `count` texts. If these are fewer than 1024, the index has none, and grows.
     pub fn open_for(
         alloc: Global,
         hasher: S,
@@ -57,7 +57,7 @@ impl<K: Key, S: BuildHasher + Drop> Shards<K, S> {
         Shards::open_with(alloc, hasher, texts, first.limit, share_of(count))
     }
 
-    /// The same of an interner that opens with the texts of a distinct list that fits the keys, in order, all
+    /// What an interner is made of that opens with the texts of a distinct list that fits the keys, in order, all
     /// copied into one bucket of just their bytes (4096 if they have none), with no limit below the
     /// greatest number. It fails only out of memory (`FailedAllocation`), also if the texts have more
     /// bytes than a `usize` counts.

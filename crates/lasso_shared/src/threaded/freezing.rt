@@ -25,9 +25,9 @@ use std::hash::BuildHasher;
 use std::sync::Wait;
 
 impl<K: Key, S: BuildHasher + Drop> ThreadedRodeo<K, S> {
-    /// The same texts under the same keys, frozen: keys of texts are still found, by the same hasher. All
-    /// texts are copied, static ones too, into one bucket of just their bytes (4096 if they have none),
-    /// and no limit refuses it. It fails only out of memory (`FailedAllocation`), also if the texts have
+    /// Freezes it: returns a reader with the same texts under the same keys, and the same hasher. All texts
+    /// are copied, static ones too, into one bucket of just their bytes (4096 if they have none), and no
+    /// limit refuses it. It fails only out of memory (`FailedAllocation`), also if the texts have
     /// more bytes than a `usize` counts; the interner is gone then too. Nobody else has the interner any
     /// more, so it waits for nobody. The pass has afterwards seen just the list of the reader.
     ///
@@ -61,9 +61,9 @@ impl<K: Key, S: BuildHasher + Drop> ThreadedRodeo<K, S> {
         }
     }
 
-    /// The same texts under the same keys, frozen: keys of texts are still found, by the same hasher. All
-    /// texts are copied, static ones too, into one bucket of just their bytes (4096 if they have none),
-    /// and no limit refuses it. It fails only out of memory (`FailedAllocation`), also if the texts have
+    /// Freezes it: returns a reader with the same texts under the same keys, and the same hasher. All texts
+    /// are copied, static ones too, into one bucket of just their bytes (4096 if they have none), and no
+    /// limit refuses it. It fails only out of memory (`FailedAllocation`), also if the texts have
     /// more bytes than a `usize` counts; the interner is gone then too. It waits for nobody.
     ///
     /// ```rust
@@ -81,8 +81,8 @@ impl<K: Key, S: BuildHasher + Drop> ThreadedRodeo<K, S> {
         self.into_reader_as(rt, &mut pass)
     }
 
-    /// The same texts under the same keys, frozen, without an index: the reader of `into_reader`, made a
-    /// resolver. It fails in the same cases.
+    /// Freezes it: returns a resolver with the same texts under the same keys, which finds no keys of texts. It
+    /// is the reader of `into_reader`, made a resolver, and fails in the same cases.
     ///
     /// ```rust
     /// let rodeo: SpurThreadedRodeo = ThreadedRodeo::default(rt.alloc())?;

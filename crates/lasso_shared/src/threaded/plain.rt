@@ -43,7 +43,7 @@ impl<K: Key, S: BuildHasher + Drop> ThreadedRodeo<K, S> {
         self.shards.intern_copied_once(rt, text)
     }
 
-    /// The same call as `try_get_or_intern`.
+    /// Returns the text's key, and appends a copy of an absent text first: `try_get_or_intern` by another name.
     ///
     /// ```rust
     /// let rodeo: SpurThreadedRodeo = ThreadedRodeo::default(rt.alloc())?;
@@ -79,7 +79,8 @@ impl<K: Key, S: BuildHasher + Drop> ThreadedRodeo<K, S> {
         self.shards.intern_static_once(rt, text)
     }
 
-    /// The same call as `try_get_or_intern_static`.
+    /// Returns the text's key, and appends an absent text first, without a copy: `try_get_or_intern_static` by
+    /// another name.
     ///
     /// ```rust
     /// let rodeo: SpurThreadedRodeo = ThreadedRodeo::default(rt.alloc())?;
@@ -169,7 +170,7 @@ impl<K: Key, S: BuildHasher + Drop> ThreadedRodeo<K, S> {
         found
     }
 
-    /// The same call as `try_resolve`.
+    /// The key's text, or `None` if the key has no text yet: `try_resolve` by another name.
     ///
     /// ```rust
     /// let rodeo: SpurThreadedRodeo = ThreadedRodeo::default(rt.alloc())?;

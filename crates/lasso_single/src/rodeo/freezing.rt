@@ -9,8 +9,8 @@ use std::alloc::Allocator;
 use std::hash::BuildHasher;
 
 impl<K: Key, S: BuildHasher, A: Allocator> Rodeo<K, S, A> {
-    /// The same texts under the same keys, frozen: keys of texts are still found. It takes no memory, copies
-    /// nothing and can't fail.
+    /// Freezes it: returns a reader with the same texts under the same keys. It takes no memory, copies nothing
+    /// and can't fail.
     ///
     /// ```rust
     /// let mut rodeo = Rodeo::default(rt.alloc())?;
@@ -25,8 +25,8 @@ impl<K: Key, S: BuildHasher, A: Allocator> Rodeo<K, S, A> {
         RodeoReader::new(self)
     }
 
-    /// The same texts under the same keys, frozen, without the index. It takes no memory, copies nothing and
-    /// can't fail; the index and the hasher are dropped.
+    /// Freezes it: returns a resolver with the same texts under the same keys, which finds no keys of texts. It
+    /// takes no memory, copies nothing and can't fail; the index and the hasher are dropped.
     ///
     /// ```rust
     /// let mut rodeo = Rodeo::default(rt.alloc())?;

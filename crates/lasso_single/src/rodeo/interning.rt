@@ -48,7 +48,7 @@ impl<K: Key, S: BuildHasher, A: Allocator + Clone> Rodeo<K, S, A> {
         }
     }
 
-    // The same call for a loop over many texts: all of it in line, and by the search that gains where few texts come often.
+    // Interns a text in a loop over many: all of it in line, and by the search that gains if few texts come often.
     #[inline(always)]
     pub(crate) fn intern_in_line(&mut self, text: &str) -> LassoResult<K>
         ensures { InternsIn K.key_at self.old text.now result self.new }
@@ -165,7 +165,7 @@ fn append<K: Key, S: BuildHasher, A: Allocator + Clone>(
     Ok(key)
 }
 
-// The same out of line, so that a call which finds its text is short.
+// Appends an absent text out of line, so that a call which finds its text is short.
 #[inline(never)]
 fn append_apart<K: Key, S: BuildHasher, A: Allocator + Clone>(
     list: &mut TextList<A>,
