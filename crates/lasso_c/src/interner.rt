@@ -91,8 +91,8 @@ pub extern "C" fn lasso_intern_batch(
 }
 
 /// Interns a layout as `lasso_intern_batch` does, with nulls: bit i of byte i / 8 of `present`, counted from the least, is 1 if row i is
-/// present; if `present` is empty, each row is present. A null has the code `null`, and no text is interned for it. It returns `BITMAP_TOO_SHORT` and
-/// interns none if `present` has too few bits.
+/// present; if `present` is empty, each row is present. A null has the code `null`, and no text is interned for it. It returns
+/// `BITMAP_TOO_SHORT` and interns none if `present` has too few bits.
 #[unsafe(no_mangle)]
 pub extern "C" fn lasso_intern_batch_nulls(
     lasso: &mut Lasso,
