@@ -8,6 +8,7 @@ import matplotlib
 
 matplotlib.use("svg")
 import matplotlib.pyplot as pyplot  # noqa: E402
+from matplotlib.ticker import FixedLocator, NullLocator, StrMethodFormatter  # noqa: E402
 
 from lasso_figures import CALLS, COUNTS, RIVALS, SIZES, THREADS, Figures  # noqa: E402
 
@@ -53,11 +54,10 @@ def draw_ours(axes):
 
 
 def finish(axes, title, places, words, label):
-    """The title and the axes of one panel, whose times are to ours."""
+    """The title of a panel, and what is along its lower edge."""
     axes.set_title(title)
     axes.set_xticks(places, words)
     axes.set_xlabel(label)
-    axes.set_ylim(bottom=0)
 
 
 def draw_calls(figures, folder):
@@ -67,7 +67,8 @@ def draw_calls(figures, folder):
         draw_ours(axes)
         for rival in RIVALS:
             axes.plot(places, [1 / figures.call(count, SIZE, call, rival) for count in COUNTS], color=COLOURS[rival], marker=MARKS[rival], label=rival)
-        finish(axes, words, places, ["10,000", "100,000", "1,000,000"], "texts")
+        finish(axes, words, places, ["10 k", "100 k", "1 M"], "texts")
+    panels[0].set_ylim(bottom=0)
     panels[0].set_ylabel("time of a call, ours = 1")
     save(figure, folder, "calls.svg", f"Time of single calls over texts of {SIZE} bytes, ours = 1; less is faster")
 
@@ -83,9 +84,10 @@ def draw_threads(figures, folder):
                 ratios = [1 / figures.thread(name, ours, call, threads, rival) for threads in THREADS]
                 axes.plot(range(len(THREADS)), ratios, color=COLOURS[rival], marker=MARKS[rival], label=rival)
             axes.set_yscale("log")
-            axes.set_title(f"{words}, {name}")
-            axes.set_xticks(range(len(THREADS)), list(map(str, THREADS)))
-            axes.set_xlabel("threads")
+            axes.yaxis.set_major_locator(FixedLocator([2.0**power for power in range(-4, 10)]))
+            axes.yaxis.set_minor_locator(NullLocator())
+            axes.yaxis.set_major_formatter(StrMethodFormatter("{x:g}"))
+            finish(axes, f"{words}, {name}", range(len(THREADS)), list(map(str, THREADS)), "threads")
         line[0].set_ylabel("time of a call, ours = 1")
     save(figure, folder, "threads.svg", "Time of calls by threads that share an interner, ours = 1; less is faster; scales are logarithmic")
 
@@ -101,6 +103,7 @@ def draw_lines(figures, folder):
             axes.bar(places, [1 / figures.line(name, what, rival) for name in names], width, color=COLOURS[rival], label=rival)
         finish(axes, words, range(len(names)), names, "input")
         axes.tick_params(axis="x", rotation=30)
+        axes.set_ylim(bottom=0)
     panels[0].set_ylabel("ours = 1")
     save(figure, folder, "lines.svg", "Numbering the lines of an input: processor time and peak memory, ours = 1; less is better")
 
