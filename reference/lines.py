@@ -34,7 +34,11 @@ def options_of(words):
 
 
 def lasso_lines(words, data):
-    """The status, the output and a pattern of the message."""
+    """The status, the output (or a pattern of it) and a pattern of the message."""
+    if words == ["--help"]:
+        return 0, re.compile(USAGE.encode() + rb".+\n", re.DOTALL), ""
+    if words == ["--version"]:
+        return 0, re.compile(rb"lasso_lines [0-9]+\.[0-9]+\.[0-9]+\n"), ""
     options = options_of(words)
     if options is None:
         return 3, b"", USAGE
