@@ -45,9 +45,10 @@ def lasso_lines(words, data):
     limit, workers = options
     account, codes, report = Account(limit), {}, []
     status, message = 0, ""
+    wrong = next((number for number, line in enumerate(lines_of(data), 1) if not is_utf8(line)), None)
     for number, line in enumerate(lines_of(data), 1):
-        if not is_utf8(line):
-            status, message = 2, f"line {number}: not UTF-8"
+        if number == wrong or workers is not None and wrong:
+            status, message = 2, f"line {wrong}: not UTF-8"
             break
         if line not in codes:
             if not account.store(len(line)):
