@@ -2,14 +2,16 @@
 FILE ?= sample/words.txt
 PREFIX ?= /usr/local
 # Words of the caller reach recipes by the environment, letter by letter: neither make nor a shell expands them.
-WORDS = FILE PREFIX DESTDIR BINDIR INCLUDEDIR LIBDIR MANDIR BASHDIR ZSHDIR FISHDIR CRATE PART
+WORDS = FILE ARGS PREFIX DESTDIR BINDIR INCLUDEDIR LIBDIR MANDIR BASHDIR ZSHDIR FISHDIR CRATE PART
 $(foreach word,$(WORDS),$(eval override $(word) := $$(value $(word))))
 export $(WORDS)
 PROGRAM = crates/lasso_lines/out/lasso_lines
 CODES = crates/lasso_codes/out/lasso_codes
 LIBRARY = crates/lasso_c/out/liblasso_c.a
 JOINED = out/liblasso.a
-SOURCES = crates.txt $(shell find crates -type f \( -path '*/src/*' -o -path '*/specs/*' -o -path '*/proofs/*' \) -not -path '*/out/*')
+# A name with other letters would reach make, and the shell, as more than a name; no source has one.
+SOURCES = crates.txt $(shell LC_ALL=C find crates -type f \( -path '*/src/*' -o -path '*/specs/*' -o -path '*/proofs/*' \) \
+	-not -path '*/out/*' -not -path '*[!A-Za-z0-9_./+-]*')
 
 # Of what rt says, which crate is proved and how far it is (sed reads and writes line by line; awk need not). Where rt
 # is told how many jobs to run, it does not name the crate.
@@ -45,7 +47,7 @@ help:
 #:                                   (rt try: at most 1 MiB of output and 60 seconds; 20 million steps if it interprets)
 try: input toolchain
 	@printf '%s\n' "make try proves nothing. make run FILE='$$FILE' proves lasso_lines first: once, 18 minutes on four cores." >&2
-	@said=$$(mktemp) && trap 'rm -f "$$said"' EXIT && (cd crates/lasso_lines && rt try -- $(ARGS)) < "$$FILE" 2> "$$said"; status=$$?; \
+	@said=$$(mktemp) && trap 'rm -f "$$said"' EXIT && (cd crates/lasso_lines && set -f && rt try -- $$ARGS) < "$$FILE" 2> "$$said"; status=$$?; \
 	if grep -q '^checked: no-answer: .* wrote more than' "$$said"; then \
 		echo "make try: the output is more than 1 MiB (1048576 bytes), the most that rt try hands on." >&2; \
 		printf '%s\n' "Give fewer lines, as by head -n 1000 '$$FILE' > part && make try FILE=part, or use make run: it has no such limit." >&2; \
@@ -56,7 +58,7 @@ try: input toolchain
 
 #: make run FILE=path [ARGS=..]      proves lasso_lines if the sources changed, builds it, and runs it on the file
 run: input $(PROGRAM)
-	@$(PROGRAM) $(ARGS) < "$$FILE"
+	@set -f; $(PROGRAM) $$ARGS < "$$FILE"
 
 $(PROGRAM): $(SOURCES) | input
 	@$(MAKE) -s toolchain

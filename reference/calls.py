@@ -70,11 +70,12 @@ def some_step(random):
     code = random.choice([0, 1, 2, 5, 20, 2**32 - 1])
     room = random.choice([0, 1, 5, 100, 10000])
     limit = random.choice([0, 1, 4096, 5000, 9000, 20000, ENDLESS, ENDLESS])
-    keys = random.choice([None, (0, 0), (random.randrange(2**64), 1)])
+    keys = random.choice([None, *((kind, *pair) for kind in ("keyed", "seeded") for pair in ((0, 0), (random.randrange(2**64), 1)))])
+    other = (handle + random.randrange(1, HANDLES)) % HANDLES
     steps = [
         (3, ("new", handle, limit, None, keys)),
         (1, ("new", handle, limit, (random.choice([0, 1, 60, 1000, 2**60, ENDLESS]), random.choice([0, 1, 5, 100, 8192, 2**62, ENDLESS])), keys)),
-        (2, ("clone", handle, (handle + random.randrange(1, HANDLES)) % HANDLES)),
+        (2, ("clone", handle, other)),
         (1, ("free", handle)),
         (1, ("clear", handle)),
         (2, ("set_limit", handle, limit)),
@@ -88,7 +89,15 @@ def some_step(random):
         (6, ("dictionary", handle, random.choice([0, 0, 1, 5, 2**32, ENDLESS]), random.choice([0, 10, 300, 50000]), random.choice([0, 1, 2, 10, 100]), is_large)),
         (8, ("encode", small_data, small_offsets, some_bitmap(random, texts) if random.random() < 0.5 else None, some_null(random), about(random, texts), about(random, len(small_data)), about(random, texts + 1))),
         (8, ("decode", small_data, small_offsets, some_codes(random, texts), some_null(random), random.choice([0, room, 50000]), None, None)),
-        (1, ("status_text", random.choice([*range(17), 2**32 - 1]), random.choice([0, 1, 5, 100]))),
+        (1, ("status_text", random.choice([*range(18), 2**32 - 1]), random.choice([0, 1, 5, 100]))),
+        (2, ("shared_new", handle)),
+        (3, ("shared_join", handle, other)),
+        (1, ("shared_free", handle)),
+        (2, ("shared_see", handle)),
+        (9, ("shared_intern", handle, some_text(random))),
+        (3, ("shared_get", handle, some_text(random))),
+        (3, ("shared_resolve", handle, code, random.choice([0, 1, 3, 20, 9000]))),
+        (4, ("shared_text", handle, code)),
     ]
     step = random.choices([step for _, step in steps], [weight for weight, _ in steps])[0]
     if step[0] == "decode":
@@ -132,12 +141,17 @@ class Run:
         self.library = guarded.Library(path, memory)
         self.handles = [memory(bytes(16)) for _ in range(HANDLES)]
         self.held = [None] * HANDLES
-        self.lent = {}  # what a handle lends: the code, the address and the text
+        self.lent = {}  # what a handle lends: the address and the text
+        self.shared = [memory(bytes(16)) for _ in range(HANDLES)]
+        self.shares = [None] * HANDLES
+        self.shared_lent = []  # what shared interners lend: the interner, the address and the text
 
     def step(self, step):
         """Makes the call."""
         getattr(self, step[0])(*step[1:])
-        if step[0] not in ("encode", "decode", "status_text"):
+        if step[0].startswith("shared_"):
+            self.look_shared()
+        elif step[0] not in ("encode", "decode", "status_text"):
             self.look(step[1], is_reading=step[0] in ("get", "get_batch", "resolve", "text", "texts", "dictionary", "clone"))
 
     def number(self, name, handle):
@@ -181,8 +195,8 @@ class Run:
     # Calls that make and end interners.
 
     def new(self, handle, limit, sizes, keys):
-        arguments = [self.handles[handle].at, *(sizes or ()), limit, *(keys or ())]
-        name = "lasso_new" + ("_sized" if sizes else "") + ("_keyed" if keys else "")
+        arguments = [self.handles[handle].at, *(sizes or ()), limit, *(keys[1:] if keys else ())]
+        name = "lasso_new" + ("_sized" if sizes else "") + ("_" + keys[0] if keys else "")
         status = self.library.call(name, STATUS, *arguments)
         is_too_much = bool(sizes) and max(sizes) >= 2**60
         expect(f"{name}: the status", status, reference.NO_MEMORY if is_too_much else reference.DONE)
@@ -288,6 +302,76 @@ class Run:
         expect("a lent text", ctypes.string_at(address, length), text)
         self.lent.setdefault(handle, []).append((address, text))
 
+    # Handles of interners that threads share. One thread makes the calls, so none is told that another is at work.
+
+    def look_shared(self):
+        """Compares what each handle holds and counts, and the texts that are lent."""
+        for memory, share in zip(self.shared, self.shares):
+            at, live = struct.unpack("QB", memory.content()[:9])
+            expect("the handle holds a shared interner", (at != 0, live), (share is not None, int(share is not None)))
+            expect("lasso_shared_len", self.library.call("lasso_shared_len", SIZE, memory.at), len(share.codes) if share else 0)
+        live = [share.interner for share in self.shares if share]
+        self.shared_lent = [lent for lent in self.shared_lent if lent[0] in live]
+        for _, address, text in self.shared_lent:
+            expect("a text that a shared interner lent", ctypes.string_at(address, len(text)), text)
+
+    def of_shared(self, handle, work):
+        """What the reference returns for a handle, as a tuple of one, or how it refuses."""
+        try:
+            return (work(self.shares[handle]),)
+        except Refused as refused:
+            return refused
+
+    def shared_new(self, handle):
+        expect("lasso_shared_new: the status", self.library.call("lasso_shared_new", STATUS, self.shared[handle].at), reference.DONE)
+        self.shares[handle] = reference.SharedHandle(reference.Shared())
+
+    def shared_join(self, handle, other):
+        joined = self.of_shared(handle, lambda share: reference.SharedHandle(reference.holding(share).interner))
+        status = joined.status if isinstance(joined, Refused) else reference.DONE
+        expect("lasso_shared_join: the status", self.library.call("lasso_shared_join", STATUS, self.shared[handle].at, self.shared[other].at), status)
+        if status == reference.DONE:
+            self.shares[other] = joined[0]
+
+    def shared_free(self, handle):
+        self.library.call("lasso_shared_free", None, self.shared[handle].at)
+        self.shares[handle] = None
+
+    def shared_see(self, handle):
+        status = reference.NO_INTERNER if self.shares[handle] is None else reference.DONE
+        expect("lasso_shared_see: the status", self.library.call("lasso_shared_see", STATUS, self.shared[handle].at), status)
+        if self.shares[handle]:
+            self.shares[handle].see()
+
+    def shared_intern(self, handle, text):
+        code = Output(1, "I", False)
+        wanted = self.of_shared(handle, lambda share: [reference.intern(share, text)])
+        self.compared("lasso_shared_intern", wanted, False, [code], self.shared[handle].at, Input(text), code)
+
+    def shared_get(self, handle, text):
+        code = Output(1, "I", False)
+        wanted = self.of_shared(handle, lambda share: [reference.get(share, text)])
+        self.compared("lasso_shared_get", wanted, False, [code], self.shared[handle].at, Input(text), code)
+
+    def shared_resolve(self, handle, code, room):
+        text, whole = Output(room), Output(1, "Q", False)
+        wanted = self.of_shared(handle, lambda share: reference.text_at(share, code))
+        wanted = wanted if isinstance(wanted, Refused) else (wanted[0][:room], [len(wanted[0])])
+        self.compared("lasso_shared_resolve", wanted, False, [text, whole], self.shared[handle].at, code, text, whole)
+
+    def shared_text(self, handle, code):
+        wanted = self.of_shared(handle, lambda share: reference.shared_text(share, code))
+        status = wanted.status if isinstance(wanted, Refused) else reference.DONE
+        lent = room_for_texts(1)
+        expect("lasso_shared_text: the status", self.library.call("lasso_shared_text", STATUS, self.shared[handle].at, code, lent), status)
+        if status != reference.DONE:
+            expect("lasso_shared_text: the struct", lent.after, lent.before)
+            return
+        address, length = struct.unpack("2Q", lent.after)
+        expect("a lent text's length", length, len(wanted[0]))
+        expect("a lent text", ctypes.string_at(address, length), wanted[0])
+        self.shared_lent.append((self.shares[handle].interner, address, wanted[0]))
+
     # Columns by one call.
 
     def encode(self, data, offsets, present, null, codes_room, bytes_room, offsets_room):
@@ -307,7 +391,7 @@ class Run:
         size = self.library.call("lasso_status_text", SIZE, status, whole)
         expect("lasso_status_text: the size", (self.library.call("lasso_status_text", SIZE, status, text), 0 < size < 1000), (size, True))
         said = whole.after[:size]
-        expect("lasso_status_text: the text", (said.isascii(), said == b"not a status"), (True, status > 14))
+        expect("lasso_status_text: the text", (said.isascii(), said == b"not a status"), (True, status > reference.BUSY))
         expect("lasso_status_text: what is written", (whole.after, text.after), (whole.after_writing(list(said)), text.after_writing(list(said[:room]))))
 
 
@@ -321,9 +405,10 @@ def difference(steps, path, memory):
             except (Differs, guarded.Broken) as found:
                 return f"call {number + 1}: {found}"
     finally:
-        for handle in run.handles:
-            run.library.call("lasso_free", None, handle.at)
-            handle.end()
+        for call, handles in (("lasso_free", run.handles), ("lasso_shared_free", run.shared)):
+            for handle in handles:
+                run.library.call(call, None, handle.at)
+                handle.end()
     return None
 
 

@@ -1,6 +1,7 @@
 """lasso_codes anew: what it writes, says and returns, from its README and its manual page."""
 import collections
 import re
+import unicodedata
 
 from account import Account
 from lines import is_utf8, lines_of
@@ -9,10 +10,16 @@ NO_CODE = 4294967295
 OPTIONS = {
     "counts": ("--limit", "--top", "--utf8", "--workers", "--quiet"),
     "decode": ("--limit", "--null", "--utf8", "--quiet"),
+    "dictionary": ("--limit", "--binary", "--utf8", "--quiet"),
     "distinct": ("--limit", "--utf8", "--quiet"),
     "encode": ("--limit", "--null", "--binary", "--utf8", "--workers", "--quiet"),
+    "join": ("--limit", "--binary", "--utf8", "--quiet"),
     "merge": ("--limit", "--binary", "--utf8", "--quiet"),
+    "recode": ("--limit", "--binary", "--utf8", "--quiet"),
 }
+# The verbs that read columns, and those of them whose first column is a dictionary.
+COLUMN_VERBS = ("decode", "dictionary", "join", "merge", "recode")
+RECODING_VERBS = ("join", "recode")
 UNITS = {"": 1, "K": 2**10, "M": 2**20, "G": 2**30}
 
 
@@ -31,23 +38,49 @@ def number_of(word):
     return number if number < 2**64 else None
 
 
+def edits(one, other):
+    """How many letters have to be put in, left out or changed to make one word the other."""
+    row = list(range(len(other) + 1))
+    for at, letter in enumerate(one, 1):
+        before, row[0] = row[0], at
+        for place, wanted in enumerate(other, 1):
+            before, row[place] = row[place], min(row[place] + 1, row[place - 1] + 1, before + (letter != wanted))
+    return row[-1]
+
+
+def shown(word):
+    """A pattern of a wrong argument, whose control characters are escaped."""
+    return re.escape("".join(f"\\u{{{ord(letter):x}}}" if unicodedata.category(letter) == "Cc" else letter for letter in word))
+
+
+def no_verb(word):
+    """A pattern of the message for a word that is no verb: it names one of the nearest, at most two edits away."""
+    nearest = min(edits(word, verb) for verb in OPTIONS)
+    verbs = "|".join(verb for verb in OPTIONS if edits(word, verb) == nearest)
+    return shown(word) + ": no such verb" + (rf"; did you mean ({verbs})\?" if nearest <= 2 else "")
+
+
 def options_of(words):
     """The verb and its options; Ends for a wrong argument, a help text or the version."""
     if any("\udc80" <= letter <= "\udcff" for word in words for letter in word):
         raise Ends(3, ".+")
-    if not words or words[0] not in (*OPTIONS, "--help", "--version"):
-        raise Ends(3, re.escape(words[0]) + ": .+" if words else ".+")
-    if words[0].startswith("--"):
-        raise Ends(0, "", re.compile(b"(.+\n)+", re.DOTALL))
+    if not words:
+        raise Ends(3, ".+")
+    if words[0] == "--version":
+        raise Ends(0, "", re.compile(rb"lasso_codes [0-9]+\.[0-9]+\.[0-9]+\n"))
+    if words[0] == "--help":
+        raise Ends(0, "", re.compile(rb"usage: lasso_codes VERB .+\n", re.DOTALL))
+    if words[0] not in OPTIONS:
+        raise Ends(3, no_verb(words[0]))
     verb, *words = words
     options = {}
     while words:
         word = words.pop(0)
         name, mark, value = word.partition("=")
         if word == "--help":
-            raise Ends(0, "", re.compile(b"(.+\n)+", re.DOTALL))
+            raise Ends(0, "", re.compile(rb"usage: lasso_codes %s .+\n" % verb.encode(), re.DOTALL))
         if name not in OPTIONS[verb] or mark and name in ("--utf8", "--binary", "--quiet"):
-            raise Ends(3, re.escape(word) + ": .+")
+            raise Ends(3, shown(word) + ": .+")
         if name in ("--utf8", "--binary", "--quiet"):
             options[name] = True
             continue
@@ -56,11 +89,13 @@ def options_of(words):
                 raise Ends(3, f"{name}: .+")
             value = word = words.pop(0)
         if name == "--null":
+            if "\n" in value:
+                raise Ends(3, "--null: .+")
             options[name] = value.encode()
             continue
         options[name] = number_of(value)
         if options[name] is None:
-            raise Ends(3, re.escape(word) + ": .+")
+            raise Ends(3, shown(word) + ": .+")
         if name == "--workers" and not 1 <= options[name] <= 64:
             raise Ends(3, "--workers: .+")
     return verb, options
@@ -111,8 +146,9 @@ def column(lines, codes, options):
     return b"lasso-codes 1 %s %d %d\n" % (kind, len(lines), len(codes)) + fed(lines) + entries
 
 
-def columns_of(data, options):
-    """The columns of an input, one after another: the number, the distinct lines, and an iterator of the entries."""
+def columns_of(data, options, dictionaries=0):
+    """The columns of an input, one after another: the number, the distinct lines, and a function from a number of texts to an iterator of the
+    entries, which are below it. The first columns, that many, are dictionaries."""
     place, number = 0, 0
 
     def line_at(fault):
@@ -145,6 +181,8 @@ def columns_of(data, options):
         head = re.fullmatch(rb"lasso-codes 1 (text|binary) ([0-9]{1,20}) ([0-9]{1,20})", line_at(f"{where}: no header"))
         if not head or int(head[2]) >= 2**64 or int(head[3]) >= 2**64:
             raise Ends(2, f"{where}: no header")
+        if number <= dictionaries and int(head[3]):
+            raise Ends(2, f"{where}: a dictionary has no entries")
         dictionary = Dictionary(options.get("--limit", 2**64 - 1))
         for text in range(1, int(head[2]) + 1):
             line = line_at(f"{where}: text {text} is missing")
@@ -153,7 +191,7 @@ def columns_of(data, options):
             if line in dictionary.codes:
                 raise Ends(2, f"{where}: text {text} comes twice")
             dictionary.add(line, f"{where}: text {text}")
-        entries = (entry(f"{where}: entry {at}", head[1] == b"binary", len(dictionary.codes)) for at in range(1, int(head[3]) + 1))
+        entries = lambda count: (entry(f"{where}: entry {at}", head[1] == b"binary", count) for at in range(1, int(head[3]) + 1))
         yield where, list(dictionary.codes), entries
 
 
@@ -180,7 +218,7 @@ def decode(data, options):
     written = []
     try:
         for where, lines, entries in columns_of(data, options):
-            for at, code in enumerate(entries, 1):
+            for at, code in enumerate(entries(len(lines)), 1):
                 if code is None and "--null" not in options:
                     raise Ends(2, f"{where}: entry {at} is a null, and --null is missing")
                 written.append(options["--null"] if code is None else lines[code])
@@ -190,21 +228,62 @@ def decode(data, options):
     return fed(written)
 
 
+def merged(data, options):
+    """The dictionary of the lines of columns, and the code of each."""
+    dictionary, codes = Dictionary(options.get("--limit", 2**64 - 1)), []
+    for where, lines, entries in columns_of(data, options):
+        places = [dictionary.add(line, where) for line in lines]
+        codes.extend(None if code is None else places[code] for code in entries(len(lines)))
+    return dictionary.codes, codes
+
+
 def merge(data, options):
     """What `merge` writes."""
-    merged, codes = Dictionary(options.get("--limit", 2**64 - 1)), []
-    for where, lines, entries in columns_of(data, options):
-        places = [merged.add(line, where) for line in lines]
-        codes.extend(None if code is None else places[code] for code in entries)
-    return column(merged.codes, codes, options)
+    return column(*merged(data, options), options)
+
+
+def dictionary(data, options):
+    """What `dictionary` writes."""
+    return column(merged(data, options)[0], [], options)
+
+
+def recoded(data, options):
+    """The texts of a dictionary, and the codes of the columns after it by that dictionary."""
+    columns = columns_of(data, options, dictionaries=1)
+    first = next(columns, None)
+    if first is None:
+        raise Ends(2, "column 1: no header")
+    texts = {text: code for code, text in enumerate(first[1])}
+    codes, number = [], 1
+    for number, (where, lines, entries) in enumerate(columns, 2):
+        absent = next((at for at, line in enumerate(lines, 1) if line not in texts), None)
+        if absent is not None:
+            raise Ends(2, f"{where}: text {absent} is not in the dictionary")
+        places = [texts[line] for line in lines] or range(len(texts))
+        codes.extend(None if code is None else places[code] for code in entries(len(places)))
+    if number == 1:
+        raise Ends(2, "column 2: no header")
+    return texts, codes
+
+
+def recode(data, options):
+    """What `recode` writes."""
+    return column({}, recoded(data, options)[1], options)
+
+
+def join(data, options):
+    """What `join` writes."""
+    return column(*recoded(data, options), options)
+
+
+VERBS = {work.__name__: work for work in (counts, decode, dictionary, distinct, encode, join, merge, recode)}
 
 
 def lasso_codes(words, data):
     """The status, the output (or a pattern of it) and a pattern of the message."""
     try:
         verb, options = options_of(words)
-        verbs = {"counts": counts, "decode": decode, "distinct": distinct, "encode": encode, "merge": merge}
-        return 0, verbs[verb](data, options), ""
+        return 0, VERBS[verb](data, options), ""
     except Ends as end:
         is_silent = end.status in (1, 2) and verb not in ("distinct", "decode")
         return end.status, b"" if is_silent else end.output, end.message

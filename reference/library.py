@@ -21,7 +21,8 @@ from lines import is_utf8
     NO_INTERNER,
     NO_SUCH_TEXT,
     BITMAP_TOO_SHORT,
-) = range(15)
+    BUSY,
+) = range(16)
 NULL = ABSENT = 2**32 - 1
 NO_REPORT = (0, 0, 0)
 
@@ -205,3 +206,38 @@ def text_at(interner, code):
 def dictionary(interner, start, bytes_room, offsets_room, greatest):
     """lasso_dictionary: the report, the bytes and the offsets."""
     return layout(list(holding(interner).codes)[start:], bytes_room, offsets_room, greatest)
+
+
+class Shared:
+    """What handles of an interner that threads share have in common: the list of its texts."""
+
+    def __init__(self):
+        self.codes = {}
+
+    def intern(self, text):
+        """The code of a text, which is appended if it is absent."""
+        return self.codes.setdefault(text, len(self.codes))
+
+
+class SharedHandle:
+    """A handle of a shared interner, with how many texts it has seen."""
+
+    def __init__(self, interner):
+        self.interner = interner
+        self.codes = interner.codes
+        self.see()
+
+    def see(self):
+        """lasso_shared_see."""
+        self.seen = len(self.codes)
+
+    def intern(self, text):
+        """lasso_shared_intern: the code."""
+        return self.interner.intern(text)
+
+
+def shared_text(handle, code):
+    """lasso_shared_text: the text, if the handle has seen it."""
+    if code >= holding(handle).seen:
+        raise Refused(NO_SUCH_CODE)
+    return text_at(handle, code)

@@ -34,16 +34,21 @@ def options_of(words):
 
 
 def lasso_lines(words, data):
-    """The status, the output and a pattern of the message."""
+    """The status, the output (or a pattern of it) and a pattern of the message."""
+    if words == ["--help"]:
+        return 0, re.compile(USAGE.encode() + rb".+\n", re.DOTALL), ""
+    if words == ["--version"]:
+        return 0, re.compile(rb"lasso_lines [0-9]+\.[0-9]+\.[0-9]+\n"), ""
     options = options_of(words)
     if options is None:
         return 3, b"", USAGE
     limit, workers = options
     account, codes, report = Account(limit), {}, []
     status, message = 0, ""
+    wrong = next((number for number, line in enumerate(lines_of(data), 1) if not is_utf8(line)), None)
     for number, line in enumerate(lines_of(data), 1):
-        if not is_utf8(line):
-            status, message = 2, f"line {number}: not UTF-8"
+        if number == wrong or workers is not None and wrong:
+            status, message = 2, f"line {wrong}: not UTF-8"
             break
         if line not in codes:
             if not account.store(len(line)):

@@ -12,7 +12,7 @@ import shrinking
 TOP = os.path.dirname(os.path.dirname(os.path.abspath(__file__)))
 REFERENCES = {"lines": lines.lasso_lines, "codes": codes.lasso_codes}
 SECONDS = 60
-WORDS = ["", "0", "1", "5", "64", "65", "4096", "4100", "9000", "18446744073709551615", "18446744073709551616", "007", "1K", "1k", "-1", "NA", "é", "\udcff", "--", "-", "x"]
+WORDS = ["", "0", "1", "5", "64", "65", "4096", "4100", "9000", "18446744073709551615", "18446744073709551616", "007", "1K", "1k", "-1", "NA", "é", "\udcff", "--", "-", "x", "a\nb", "\x1b[2J", "\x9b2J", "count", "decod", "recoded"]
 CHARACTERS = [b"\0", b"\r", b" ", b"-", b"0", b"a", b"\x80", b"\xc3\xa9", b"\xff", b"\xed\xa0\x80", b"\xf4\x8f\xbf\xbf", b"\xf0\x9f\x98\x80", b"\xe6\xbc\xa2"]
 LENGTHS = [13, 14, 15, 2046, 2047, 4095, 4096, 4097, 8191, 8192, 8193, 16384]
 
@@ -57,6 +57,28 @@ def some_column(random):
     return data
 
 
+def some_recoding(random):
+    """A dictionary and columns of its texts, with their texts or without: as a rule good ones."""
+    texts = list(dict.fromkeys(line(random) for _ in range(random.choice([0, 1, 2, 5, 20]))))
+    options = lambda: ["--binary"] if random.random() < 0.4 else []
+    parts = [codes.column(texts, [0] if texts and random.random() < 0.03 else [], options())]
+    for _ in range(random.choice([0, 1, 1, 1, 2, 3])):
+        own = random.sample(texts, random.randrange(len(texts) + 1)) if random.random() < 0.6 else []
+        if random.random() < 0.05:
+            own.insert(random.randrange(len(own) + 1), b"another")
+        count = len(own) or len(texts)
+        numbers = [None if not count or random.random() < 0.1 else random.randrange(count + (random.random() < 0.01)) for _ in range(random.choice([0, 1, 3, 9, 30]))]
+        parts.append(codes.column(own, numbers, options()))
+    return b"".join(parts)
+
+
+def some_columns(random, verb):
+    """The input of a verb that reads columns."""
+    if verb in codes.RECODING_VERBS and random.random() < 0.9:
+        return some_recoding(random)
+    return b"".join(some_column(random) for _ in range(random.choice([0, 1, 1, 2, 3])))
+
+
 def damaged(random, data):
     """The bytes with a few of them changed, gone, doubled or new, or cut."""
     for _ in range(random.choice([1, 1, 2, 5])):
@@ -72,7 +94,7 @@ def some_words(random, program, are_short):
     names = ["--limit", "--workers"] if program == "lines" else list(codes.OPTIONS[verb])
     words = [verb] if program == "codes" else []
     for name in random.sample(names, random.randrange(len(names) + 1)):
-        value = str({"--limit": random.choice([0, 4096, 4100, 9000, 30000, 2**64 - 1]), "--top": random.choice([0, 1, 3]), "--workers": random.choice([1, 2] if are_short else [1, 2, 4, 64]), "--null": random.choice(["NA", "", "-", "é", "0", "a"])}.get(name))
+        value = str({"--limit": random.choice([0, 4096, 4100, 9000, 30000, 2**64 - 1]), "--top": random.choice([0, 1, 3]), "--workers": random.choice([1, 2] if are_short else [1, 2, 4, 64]), "--null": random.choice([*["NA", "", "-", "é", "0", "a"] * 3, "a\nb"])}.get(name))
         if name in ("--utf8", "--binary", "--quiet"):
             words.append(name)
         elif program == "codes" and random.random() < 0.3:
@@ -89,26 +111,27 @@ def some_words(random, program, are_short):
 def some_case(random, program, are_short):
     """A run of the program."""
     words = some_words(random, program, are_short)
-    if words[:1] in (["decode"], ["merge"]):
-        data = b"".join(some_column(random) for _ in range(random.choice([0, 1, 1, 2, 3])))
-    else:
-        data = some_lines(random, are_short)
-    if random.random() < (0.5 if words[:1] in (["decode"], ["merge"]) else 0.1):
+    has_columns = bool(words) and words[0] in codes.COLUMN_VERBS
+    data = some_columns(random, words[0]) if has_columns else some_lines(random, are_short)
+    if random.random() < (0.4 if has_columns else 0.1):
         data = damaged(random, data)
     source = random.choice(["pipe"] * 10 + ["file"] * 9 + ["folder"])
     return Case(program, words, data, source, "full" if random.random() < 0.05 else "pipe")
 
 
+# The causes of failed reads and writes. lasso_lines names none.
+CAUSES = {"lines": ("", ""), "codes": (": Is a directory", ": No storage space")}
+
+
 def wanted_of(case):
     """The status, the output (or a pattern of it) and a pattern of the message."""
-    if case.source == "folder":
-        status, output, message = REFERENCES[case.program](case.words, b"")
-        if message == "" and not isinstance(output, re.Pattern):
-            return 4, b"", "read failed(: .+)?"
-        return status, output, message
-    status, output, message = REFERENCES[case.program](case.words, case.data)
+    is_folder = case.source == "folder"
+    status, output, message = REFERENCES[case.program](case.words, b"" if is_folder else case.data)
+    no_read, no_write = CAUSES[case.program]
+    if is_folder and status != 3 and not isinstance(output, re.Pattern):
+        return 4, b"", "read failed" + no_read
     if case.output == "full" and output:
-        return 4, b"", "write failed(: .+)?"
+        return 4, b"", "write failed" + no_write
     return status, b"" if case.output == "full" else output, message
 
 

@@ -12,6 +12,7 @@ FUNCTION = re.compile(r"\bfn (\w+)")
 CLOSURE = re.compile(r"(.*::|)fn::(.*)::(\w+)")
 TYPE_OR_CRATE = re.compile(r"(?<![\w:])(?:([A-Z]\w*)(?=::|\(| \{)|(lasso\w*)::)")
 KNOWN_EVERYWHERE = ("Some", "Ok", "Err", "Vec", "String", "Box", "Option")
+EDITED = re.compile(r"(src|specs|proofs)/[\w/+-]+\.(rt|antt)")
 PAGE_FILE = re.compile(r"`(src/[\w/]+\.rt)`")
 EXAMPLES = "lasso_shared"
 KIND = "wrong-bodies"
@@ -51,6 +52,8 @@ def read_edit(path, crate):
                 raise Unfit(f"{crate}/{name}: this is no line of an edit: {line}")
     if len(lines["file"]) != 1 or len(lines["function"]) > 1 or not lines["old"] or len(lines["old"]) != len(lines["new"]):
         raise Unfit(f"{crate}/{name} is not an edit")
+    if not EDITED.fullmatch(lines["file"][0]):
+        raise Unfit(f"{crate}/{name}: this is no file of a crate: {lines['file'][0]}")
     function = f"{crate}::{lines['function'][0]}" if lines["function"] else ""
     tests, cases, examples = ([tuple(words.split(" ")) for words in lines[kind]] for kind in ("test", "case", "example"))
     if any(len(words) != 2 for words in tests + cases + examples):

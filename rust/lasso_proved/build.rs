@@ -34,15 +34,16 @@ fn main() {
 /// Links `liblasso.a` of a folder, which has all that it needs.
 fn link_archive(folder: &Path) -> Result<(), String> {
     let shown = folder.display();
-    if shown.to_string().contains('\n') {
-        return Err(format!("The folder {shown:?} has a line feed in its name"));
-    }
     let folder = folder
         .canonicalize()
-        .map_err(|error| format!("The folder {shown} can't be read: {error}"))?;
+        .map_err(|error| format!("The folder {shown:?} can't be read: {error}"))?;
+    // cargo takes each line that is printed for an order.
+    if folder.to_string_lossy().contains('\n') {
+        return Err(format!("The folder {folder:?} has a line feed in its name"));
+    }
     let file = folder.join("liblasso.a");
     if !file.is_file() {
-        return Err(format!("The folder {shown} has no liblasso.a"));
+        return Err(format!("The folder {shown:?} has no liblasso.a"));
     }
     println!("cargo:rerun-if-changed={}", file.display());
     println!("cargo:rustc-link-search=native={}", folder.display());
