@@ -94,6 +94,40 @@ def test_makes_categoricals_of_integers_by_value() -> None:
             interner.to_categorical(past)
 
 
+def test_a_categorical_is_as_pandas_makes_it() -> None:
+    numpy, pandas = pytest.importorskip("numpy"), pytest.importorskip("pandas")
+    interner = Interner()
+    codes = interner.encode(["nan", None, "", "a\0", "a", "None", "gr\u00fcn", "gru\u0308n", "a"])
+    made, texts = interner.to_categorical(codes), interner.texts()
+    right = pandas.Categorical.from_codes(numpy.array([0, -1, 1, 2, 3, 4, 5, 6, 3]), categories=texts)
+    pandas.testing.assert_extension_array_equal(made, right)
+    pandas.testing.assert_index_equal(made.categories, pandas.Index(texts), exact=True)
+    assert made.equals(pickle.loads(pickle.dumps(made))) and hash(made.dtype) == hash(right.dtype)
+    assert [made.categories.get_loc(text) for text in texts] == list(range(len(texts)))
+    assert made.categories.get_indexer(["a", "pink"]).tolist() == [3, -1] and "nan" in made.categories
+    assert (made == "a").tolist() == (right == "a").tolist()
+    assert made.value_counts().to_dict() == right.value_counts().to_dict()
+    assert made.add_categories("pink").codes.tolist() == right.codes.tolist()
+    assert made.set_categories(["a", "pink"]).codes.tolist() == right.set_categories(["a", "pink"]).codes.tolist()
+    with pytest.raises(ValueError):
+        made.add_categories("a")
+    with pytest.raises(ValueError):
+        made.rename_categories(["a"] * len(texts))
+    assert pandas.concat([pandas.Series(made), pandas.Series(right)]).cat.categories.tolist() == texts
+
+
+@pytest.mark.parametrize("texts", [2, 200, 40000])
+def test_a_categorical_has_codes_of_its_own(texts: int) -> None:
+    pytest.importorskip("pandas")
+    interner = Interner()
+    codes = interner.encode(map(str, range(texts)))
+    made = interner.to_categorical(codes)
+    codes[0] = 1
+    codes.append(0)
+    made[1] = "0"
+    assert (made.tolist()[:2], codes[0], codes[1], len(codes), len(made)) == (["0", "0"], 1, 1, texts + 1, texts)
+
+
 def test_takes_a_list_for_what_it_gives() -> None:
     class Short(list[str]):
         def __len__(self) -> int:
