@@ -4,6 +4,7 @@ from __future__ import annotations
 
 import copy
 import gc
+import importlib.util
 import pickle
 import sys
 import threading
@@ -57,7 +58,11 @@ def test_codes_grow_while_the_collector_is_off() -> None:
 def test_results_and_interners_give_their_memory_back() -> None:
     texts = [f"text {row % 1000}" for row in range(20000)]
     with Interner() as interner:
-        for call in (interner.encode, interner.get_many, lambda rows: Interner().encode(rows), lambda rows: interner.encode(rows).__arrow_c_array__()):
+        calls: list[Any] = [interner.encode, interner.get_many, lambda rows: Interner().encode(rows)]
+        calls += [lambda rows: interner.encode(rows).__arrow_c_array__(), lambda rows: interner.encode(interner.encode(rows)), lambda rows: interner.texts()]
+        if importlib.util.find_spec("pandas") is not None:
+            calls += [lambda rows: interner.to_categorical(interner.encode(rows))]
+        for call in calls:
             call(texts)
             before = resident()
             for _ in range(200):
