@@ -8,11 +8,13 @@ A hundredth of the rows have no text. The result is compared with pandas's own, 
 
 from __future__ import annotations
 
+import os
 import random
 import sys
 import time
 from array import array
 from collections.abc import Callable, Iterable, Iterator
+from statistics import median
 from typing import Any
 
 import numpy
@@ -119,10 +121,11 @@ def main() -> None:
             sys.exit("categorical.py: the codes or the texts are not those of pandas")
         for name, (took, _) in rounds.items():
             times.setdefault(name, []).append(took)
-    print(f"{rows} rows of {len(uniques)} texts, batches of {batch}: the codes and texts of pandas; the least of {ROUNDS} rounds")
-    best = min(times["pandas.factorize, in one call"])
+    print(f"{rows} rows of {len(uniques)} texts, batches of {batch}: the codes and texts of pandas; least and middle of {ROUNDS} rounds, load {os.getloadavg()[0]:.0f}")
+    pandas_times = times["pandas.factorize, in one call"]
     for name, took in times.items():
-        print(f"{name:<40}{min(took):>8.3f} seconds{min(took) * 1e9 / rows:>8.1f} ns a row{min(took) / best:>6.2f} of factorize")
+        ratios = min(took) / min(pandas_times), median(took) / median(pandas_times)
+        print(f"{name:<40}{min(took):>8.3f} seconds{min(took) * 1e9 / rows:>8.1f} ns a row{ratios[0]:>6.2f}{ratios[1]:>6.2f} of factorize")
 
 
 main()
