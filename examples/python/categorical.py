@@ -1,4 +1,4 @@
-"""Encodes a pandas column to a Categorical batch by batch, and prints its time beside those of pandas.factorize and a loop over a dict.
+"""Encodes a pandas column to a Categorical batch by batch, and prints its time beside those of pandas.factorize and a dict.
 
 usage: categorical.py [ROWS [TEXTS [BATCH [BYTES]]]], 2,000,000 rows of 200,000 texts of 8 to 14 bytes in batches of 65,536 unless given; with
 BYTES each text is that long
@@ -13,7 +13,9 @@ import random
 import sys
 import time
 from array import array
+from collections import defaultdict
 from collections.abc import Callable, Iterable, Iterator
+from itertools import count
 from statistics import median
 from typing import Any
 
@@ -81,9 +83,9 @@ def encode(column: pandas.Series | list[str | None] | Arrow) -> array[int]:
 
 
 def loop(texts: list[str | None]) -> array[int]:
-    """The codes of a list by a dict, NULL for None."""
-    codes: dict[str | None, int] = {None: NULL}
-    return array("I", [codes.setdefault(text, len(codes) - 1) for text in texts])
+    """The codes of a list by a dict, NULL for None, as fast as Python has them: no line of Python runs for a row."""
+    codes: defaultdict[str | None, int] = defaultdict(count().__next__, {None: NULL})
+    return array("I", map(codes.__getitem__, texts))
 
 
 def timed(call: Callable[..., Any], *words: Any) -> tuple[float, Any]:
