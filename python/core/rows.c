@@ -150,11 +150,15 @@ static bool is_text(PyObject *item)
     return item != NULL && (Py_IS_TYPE(item, &PyUnicode_Type) || PyUnicode_Check(item));
 }
 
-/* Begins to read an item that is needed soon. */
-static void read_ahead(const struct items *items, Py_ssize_t at)
+/* Begins to read an item that is needed soon: what says of which type it is, and where a short text of it ends. */
+static void read_ahead(const struct items *items, Py_ssize_t at, bool with_text)
 {
-    if (at < items->count)
-        __builtin_prefetch(item_at(items, at));
+    const char *item = at < items->count ? (const char *)item_at(items, at) : NULL;
+    if (item == NULL)
+        return;
+    __builtin_prefetch(item);
+    if (with_text)
+        __builtin_prefetch(item + 64);
 }
 
 static void raise_item(PyObject *item, Py_ssize_t row)
@@ -173,7 +177,7 @@ PyObject *core_check_rows(Core *core, PyObject *words)
     if (!PyArg_ParseTuple(words, "OO!", &object, &PyTuple_Type, &nulls) || items_of(object, &items) < 0)
         return NULL;
     for (Py_ssize_t row = 0; row < items.count; row++) {
-        read_ahead(&items, row + AHEAD);
+        read_ahead(&items, row + AHEAD, false);
         PyObject *item = item_at(&items, row);
         if (!is_text(item) && !is_null(item, nulls)) {
             raise_item(item, row);
@@ -194,7 +198,7 @@ static int pass(const struct items *items, Py_ssize_t start, Py_ssize_t stop, Py
         size_t length;
         PyObject *item = item_at(items, at);
         uint32_t status, refused;
-        read_ahead(items, at + AHEAD);
+        read_ahead(items, at + AHEAD, true);
         if (is_text(item)) {
             refused = text_of(item, &text, &length);
             status = refused == LASSO_DONE ? batch_text(batch, text, length) : batch_end(batch);

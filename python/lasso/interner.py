@@ -79,13 +79,13 @@ class Interner(Core):
         if isinstance(codes, (bytes, bytearray)) or numbers.ndim != 1 or (numbers.size > 0 and numbers.dtype.kind not in "iu"):
             raise TypeError(f"codes are integers in one dimension, and these are a {type(codes).__name__} of {numbers.dtype}")
         if numbers.dtype == numpy.uint32:
-            signed = numbers.view(numpy.int32)
+            signed = numbers.view(numpy.int32).copy()
         else:
             if numbers.size > 0 and int(numbers.max()) > NULL:
                 raise ValueError(f"no text has the code {numbers.max()}")
             signed = numbers.astype(numpy.int64)
             signed[signed == NULL] = -1
-        return pandas.Categorical.from_codes(signed, categories=pandas.Index(self.texts(), dtype=object))
+        return pandas.Categorical.from_codes(signed, categories=_distinct(pandas.Index(self.texts(), dtype=object)))
 
     def copy(self: _Kind) -> _Kind:
         """Another interner of the same class with the same texts, codes, limit and attributes. The limit is greater if the texts' bytes are."""
@@ -99,6 +99,15 @@ class Interner(Core):
     def __reduce__(self) -> tuple[Any, ...]:
         """What pickle keeps: the class, the texts, the limit and attributes. It raises InternerClosed once the interner is closed."""
         return _loaded, (type(self), self.texts(), self.limit), self.__dict__ or None
+
+
+def _distinct(texts: Any) -> Any:
+    """A pandas Index of an interner's texts, once pandas knows that they are distinct and no nulls. Else pandas hashes each for a Categorical, which
+    takes half of the Categorical's time. An Index keeps such answers in its cache; one without this cache finds them itself."""
+    known = getattr(texts, "_cache", None)
+    if isinstance(known, dict):
+        known.update(is_unique=True, hasnans=False)
+    return texts
 
 
 def _halves(seed: int | None) -> tuple[int, int]:

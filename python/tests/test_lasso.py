@@ -6,7 +6,9 @@ import copy
 import ctypes
 import pickle
 import struct
-from collections.abc import Iterator
+import sys
+from collections.abc import Iterator, Sequence
+from pathlib import Path
 from typing import Any
 
 import pytest
@@ -18,7 +20,7 @@ from lasso import NULL, Interner, InternerClosed, LassoError, LimitReached, NotU
 class Column:
     """An array of strings as pyarrow has it: three buffers, an offset and a length."""
 
-    def __init__(self, data: Any, offsets: list[int], start: int = 0, validity: bytes | None = None, kind: str = "string") -> None:
+    def __init__(self, data: Any, offsets: Sequence[int], start: int = 0, validity: bytes | None = None, kind: str = "string") -> None:
         width = "q" if kind.startswith("large") else "i"
         self.data, self.starts, self.validity = data, struct.pack(f"<{len(offsets)}{width}", *offsets), validity
         self.offset, self.length, self.type = start, len(offsets) - 1 - start, kind
@@ -106,6 +108,23 @@ def test_takes_buffers_of_each_kind(interner: Interner, kind: Any) -> None:
     assert list(interner.encode(column)) == [1, 0]
     column.length = 3
     with pytest.raises(ValueError):
+        interner.encode(column)
+
+
+@pytest.mark.parametrize("offset, length, validity", [(0, 1, b""), (0, 9, b"\xff"), (8, 1, b"\xff"), (3, 14, b"\xff\xff")])
+def test_refuses_buffers_that_are_too_short(interner: Interner, offset: int, length: int, validity: bytes) -> None:
+    rows = offset + length
+    column = Column(b"a" * rows, range(rows + 1), validity=validity)
+    column.offset, column.length = offset, length
+    with pytest.raises(WrongLayout, match=f"a buffer of validity with {len(validity)} bytes, where {len(validity) + 1} are needed"):
+        interner.encode(column)
+    column.validity = None
+    assert list(interner.encode(column)) == [0] * length
+    column.starts = column.starts[:-1]
+    with pytest.raises(WrongLayout, match=f"a buffer of offsets with {4 * rows + 3} bytes, where {4 * rows + 4} are needed"):
+        interner.encode(column)
+    column.starts = None  # type: ignore[assignment]
+    with pytest.raises(WrongLayout, match="without its offsets"):
         interner.encode(column)
 
 
@@ -276,6 +295,30 @@ def test_tells_that_it_is_closed() -> None:
     with pytest.raises(IndexError):
         interner[0]
     assert (len(interner), interner.memory, interner.limit) == (0, 0, 0)
+
+
+def test_a_second_interpreter_cant_import_it() -> None:
+    interpreters = pytest.importorskip("_xxsubinterpreters")
+    made = interpreters.create()
+    try:
+        with pytest.raises(interpreters.RunFailedError, match="ImportError.*: lasso can't be used in a subinterpreter"):
+            interpreters.run_string(made, f"import sys\nsys.path[:0] = {sys.path!r}\nimport lasso")
+    finally:
+        interpreters.destroy(made)
+    assert list(Interner().encode(["red"])) == [0]
+
+
+def test_is_built_with_a_library_of_lasso_alone(tmp_path: Path, monkeypatch: pytest.MonkeyPatch) -> None:
+    backend = pytest.importorskip("backend")
+    (tmp_path / "liblasso.so").write_bytes(b"")
+    monkeypatch.setenv("PKG_CONFIG_LIBDIR", str(tmp_path))
+    monkeypatch.setenv("PKG_CONFIG_PATH", "")
+    named = {"": "no library of lasso", "missing.a": "there is no such file", "liblasso.so": "name the archive liblasso.a"}
+    for name, said in named.items():
+        monkeypatch.setenv("LASSO_LIBRARY", str(tmp_path / name) if name else "")
+        with pytest.raises(SystemExit, match=said):
+            backend.build_core(tmp_path / "core.so")
+    assert not (tmp_path / "core.so").exists()
 
 
 def test_has_the_version_of_its_metadata() -> None:

@@ -4,6 +4,7 @@ from __future__ import annotations
 
 import copy
 import gc
+import importlib.util
 import pickle
 import sys
 import threading
@@ -57,7 +58,11 @@ def test_codes_grow_while_the_collector_is_off() -> None:
 def test_results_and_interners_give_their_memory_back() -> None:
     texts = [f"text {row % 1000}" for row in range(20000)]
     with Interner() as interner:
-        for call in (interner.encode, interner.get_many, lambda rows: Interner().encode(rows), lambda rows: interner.encode(rows).__arrow_c_array__()):
+        calls: list[Any] = [interner.encode, interner.get_many, lambda rows: Interner().encode(rows)]
+        calls += [lambda rows: interner.encode(rows).__arrow_c_array__(), lambda rows: interner.encode(interner.encode(rows)), lambda rows: interner.texts()]
+        if importlib.util.find_spec("pandas") is not None:
+            calls += [lambda rows: interner.to_categorical(interner.encode(rows))]
+        for call in calls:
             call(texts)
             before = resident()
             for _ in range(200):
@@ -92,6 +97,40 @@ def test_makes_categoricals_of_integers_by_value() -> None:
     for past in ([2], [-2], [2**32], numpy.array([2**64 - 1], dtype=numpy.uint64), array("I", [NULL - 1])):
         with pytest.raises(ValueError):
             interner.to_categorical(past)
+
+
+def test_a_categorical_is_as_pandas_makes_it() -> None:
+    numpy, pandas = pytest.importorskip("numpy"), pytest.importorskip("pandas")
+    interner = Interner()
+    codes = interner.encode(["nan", None, "", "a\0", "a", "None", "gr\u00fcn", "gru\u0308n", "a"])
+    made, texts = interner.to_categorical(codes), interner.texts()
+    right = pandas.Categorical.from_codes(numpy.array([0, -1, 1, 2, 3, 4, 5, 6, 3]), categories=texts)
+    pandas.testing.assert_extension_array_equal(made, right)
+    pandas.testing.assert_index_equal(made.categories, pandas.Index(texts), exact=True)
+    assert made.equals(pickle.loads(pickle.dumps(made))) and hash(made.dtype) == hash(right.dtype)
+    assert [made.categories.get_loc(text) for text in texts] == list(range(len(texts)))
+    assert made.categories.get_indexer(["a", "pink"]).tolist() == [3, -1] and "nan" in made.categories
+    assert (made == "a").tolist() == (right == "a").tolist()
+    assert made.value_counts().to_dict() == right.value_counts().to_dict()
+    assert made.add_categories("pink").codes.tolist() == right.codes.tolist()
+    assert made.set_categories(["a", "pink"]).codes.tolist() == right.set_categories(["a", "pink"]).codes.tolist()
+    with pytest.raises(ValueError):
+        made.add_categories("a")
+    with pytest.raises(ValueError):
+        made.rename_categories(["a"] * len(texts))
+    assert pandas.concat([pandas.Series(made), pandas.Series(right)]).cat.categories.tolist() == texts
+
+
+@pytest.mark.parametrize("texts", [2, 200, 40000])
+def test_a_categorical_has_codes_of_its_own(texts: int) -> None:
+    pytest.importorskip("pandas")
+    interner = Interner()
+    codes = interner.encode(map(str, range(texts)))
+    made = interner.to_categorical(codes)
+    codes[0] = 1
+    codes.append(0)
+    made[1] = "0"
+    assert (made.tolist()[:2], codes[0], codes[1], len(codes), len(made)) == (["0", "0"], 1, 1, texts + 1, texts)
 
 
 def test_takes_a_list_for_what_it_gives() -> None:

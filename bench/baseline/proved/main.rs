@@ -1,10 +1,10 @@
-//! How long single calls of `lasso_proved` take in one round, over texts of given sizes.
+//! How long single calls of `lasso_proved`, or of lasso 0.7.3, take in one round, over texts of given sizes.
 #[path = "../opaque.rs"]
 mod opaque;
 #[path = "../rounds.rs"]
 mod rounds;
 
-use lasso_proved::{Key, Rodeo, Spur};
+use interner::{Key, Rodeo, Spur};
 use rounds::{round_of_sizes, Texts, SIZES};
 
 impl Texts for Rodeo {
