@@ -58,14 +58,6 @@ module _ {K : Type 0} (key_at : ℕ → Option K) (number : K → ℕ) (made : (
         (λ same. let again : InternsAmong key_at after a (Ok l) (Some new) = subst (λ (t : Text). InternsAmong key_at after t (Ok l) (Some new)) (sym same) j in ap number (sym (twice key_at texts after new a k l h again).1)),
       )
 
-  among : (old new : InternerView) (text : Text) (k : K) → InternsIn key_at old text (Ok k) new → InternsAmong key_at old.texts text (Ok k) (Some new.texts)
-  among old new text k h = (h.0.1, ap (λ (ts : List Text). Some ts) (list_interned key_at old new text k h))
-
-  -- two calls of a `Rodeo`, the second right after the first, return one key for one text, and two for two: the numbers of the keys are
-  -- equal exactly if the texts are
-  pub same_text_same_key : (old mid new : InternerView) (a b : Text) (k l : K) → InternsIn key_at old a (Ok k) mid → InternsIn key_at mid b (Ok l) new → (number k ≡ number l) ↔ (a ≡ b)
-  same_text_same_key old mid new a b k l h j = alike old.texts mid.texts new.texts a b k l (among old mid a k h) (among mid new b l j)
-
   -- the keys of two interned texts have one number exactly where the texts are equal
   pub keys_tell_texts : (old mid new : Option (List Text)) (a b : Text) (k l : K) → IfSome old (λ texts. InternsAmong key_at texts a (Ok k) mid) → IfSome mid (λ texts. InternsAmong key_at texts b (Ok l) new) → IfSome old (λ _. (number k ≡ number l) ↔ (a ≡ b))
   keys_tell_texts None mid new a b k l h j = tt

@@ -9,7 +9,7 @@ use Rattle.lasso_parts.proofs.Spurs.{spur_made, mini_spur_made, micro_spur_made,
 use Rattle.lasso_single.specs.Intern.{InternsIn}
 use Rattle.lasso_single.specs.Interner.{InternerView}
 use Rattle.lasso.specs.Interning.{InternsAmong}
-use Rattle.lasso.proofs.Calling.{answer_resolves, key_answered, keys_tell_texts, same_text_same_key, texts_stay}
+use Rattle.lasso.proofs.Calling.{answer_resolves, key_answered, keys_tell_texts, texts_stay}
 
 -- ---- of a `Spur`
 
@@ -25,9 +25,6 @@ spur_key_answered = key_answered spur_at
 pub spur_keys_tell_texts : (old mid new : Option (List Text)) (a b : Text) (k l : ℕ) → IfSome old (λ texts. InternsAmong spur_at texts a (Ok k) mid) → IfSome mid (λ texts. InternsAmong spur_at texts b (Ok l) new) → IfSome old (λ _. (spur_number k ≡ spur_number l) ↔ (a ≡ b))
 spur_keys_tell_texts = keys_tell_texts spur_at spur_number spur_made
 
-pub spur_same_text_same_key : (old mid new : InternerView) (a b : Text) (k l : ℕ) → InternsIn spur_at old a (Ok k) mid → InternsIn spur_at mid b (Ok l) new → (spur_number k ≡ spur_number l) ↔ (a ≡ b)
-spur_same_text_same_key = same_text_same_key spur_at spur_number spur_made
-
 -- ---- of a `MiniSpur`
 
 pub mini_spur_answer_resolves : (old new : InternerView) (text : Text) (reply : Result ℕ LassoError) → InternsIn mini_spur_at old text reply new → IfOk reply (λ key. slice_get new.texts (mini_spur_number key) ≡ Some text)
@@ -41,9 +38,6 @@ mini_spur_key_answered = key_answered mini_spur_at
 
 pub mini_spur_keys_tell_texts : (old mid new : Option (List Text)) (a b : Text) (k l : ℕ) → IfSome old (λ texts. InternsAmong mini_spur_at texts a (Ok k) mid) → IfSome mid (λ texts. InternsAmong mini_spur_at texts b (Ok l) new) → IfSome old (λ _. (mini_spur_number k ≡ mini_spur_number l) ↔ (a ≡ b))
 mini_spur_keys_tell_texts = keys_tell_texts mini_spur_at mini_spur_number mini_spur_made
-
-pub mini_spur_same_text_same_key : (old mid new : InternerView) (a b : Text) (k l : ℕ) → InternsIn mini_spur_at old a (Ok k) mid → InternsIn mini_spur_at mid b (Ok l) new → (mini_spur_number k ≡ mini_spur_number l) ↔ (a ≡ b)
-mini_spur_same_text_same_key = same_text_same_key mini_spur_at mini_spur_number mini_spur_made
 
 -- ---- of a `MicroSpur`
 
@@ -59,9 +53,6 @@ micro_spur_key_answered = key_answered micro_spur_at
 pub micro_spur_keys_tell_texts : (old mid new : Option (List Text)) (a b : Text) (k l : ℕ) → IfSome old (λ texts. InternsAmong micro_spur_at texts a (Ok k) mid) → IfSome mid (λ texts. InternsAmong micro_spur_at texts b (Ok l) new) → IfSome old (λ _. (micro_spur_number k ≡ micro_spur_number l) ↔ (a ≡ b))
 micro_spur_keys_tell_texts = keys_tell_texts micro_spur_at micro_spur_number micro_spur_made
 
-pub micro_spur_same_text_same_key : (old mid new : InternerView) (a b : Text) (k l : ℕ) → InternsIn micro_spur_at old a (Ok k) mid → InternsIn micro_spur_at mid b (Ok l) new → (micro_spur_number k ≡ micro_spur_number l) ↔ (a ≡ b)
-micro_spur_same_text_same_key = same_text_same_key micro_spur_at micro_spur_number micro_spur_made
-
 -- ---- of a `LargeSpur`
 
 pub large_spur_answer_resolves : (old new : InternerView) (text : Text) (reply : Result ℕ LassoError) → InternsIn large_spur_at old text reply new → IfOk reply (λ key. slice_get new.texts (large_spur_number key) ≡ Some text)
@@ -75,6 +66,3 @@ large_spur_key_answered = key_answered large_spur_at
 
 pub large_spur_keys_tell_texts : (old mid new : Option (List Text)) (a b : Text) (k l : ℕ) → IfSome old (λ texts. InternsAmong large_spur_at texts a (Ok k) mid) → IfSome mid (λ texts. InternsAmong large_spur_at texts b (Ok l) new) → IfSome old (λ _. (large_spur_number k ≡ large_spur_number l) ↔ (a ≡ b))
 large_spur_keys_tell_texts = keys_tell_texts large_spur_at large_spur_number large_spur_made
-
-pub large_spur_same_text_same_key : (old mid new : InternerView) (a b : Text) (k l : ℕ) → InternsIn large_spur_at old a (Ok k) mid → InternsIn large_spur_at mid b (Ok l) new → (large_spur_number k ≡ large_spur_number l) ↔ (a ≡ b)
-large_spur_same_text_same_key = same_text_same_key large_spur_at large_spur_number large_spur_made

@@ -4,8 +4,6 @@ ghost use Rattle.lasso_guide.specs.declared.errors.DeclareError.TheVariants.{Out
 
 use lasso::{FixedState, Key, LassoError, Rodeo};
 use std::alloc::{AllocFailed, Global};
-use std::error::Error;
-use std::fmt;
 
 /// Why a name was not declared.
 #[derive(Debug, Drop)]
@@ -15,17 +13,6 @@ pub enum DeclareError {
     /// Out of memory for its value.
     OutOfMemory,
 }
-
-impl fmt::Display for DeclareError {
-    fn fmt<W: fmt::Write>(&self, f: &mut fmt::Formatter<W>) -> fmt::Result {
-        match self {
-            DeclareError::Refused(error) => write!(f, "the name was refused: {error}"),
-            DeclareError::OutOfMemory => f.write_str("out of memory for the value"),
-        }
-    }
-}
-
-impl Error for DeclareError {}
 
 impl From<LassoError> for DeclareError {
     ghost from_gives = { λ refusal error. error ≡ Refused refusal };

@@ -32,16 +32,6 @@ impl<K: Key> SymbolTable<K> {
         self.names.try_get_or_intern(name)
     }
 
-    /// Declares both names, and returns whether they have one symbol: that is whether they are equal. After an
-    /// error the first one may be declared.
-    pub fn have_one_symbol(&mut self, one: &str, other: &str) -> LassoResult<bool>
-        ensures { IfOk result (λ is_one. IsTrue is_one ↔ (one.now ≡ other.now)) }
-    {
-        let first = self.names.try_get_or_intern(one)?;
-        let second = self.names.try_get_or_intern(other)?;
-        Ok(first.into_usize() == second.into_usize())
-    }
-
     /// Whether the symbol stands for a name of this table.
     pub fn is_declared(&self, symbol: K) -> bool
         ensures { IsTrue result ↔ (K.number symbol < length self.now.names.texts) }

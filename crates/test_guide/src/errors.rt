@@ -1,6 +1,6 @@
 //! Names that are declared with values.
 use crate::checks::ends_so;
-use lasso::{Key, LassoError, LassoErrorKind, LassoResult, MemoryLimits, Rodeo, SpurRodeo};
+use lasso::{Key, LassoErrorKind, LassoResult, MemoryLimits, Rodeo, SpurRodeo};
 use lasso_guide::errors::{DeclareError, declare};
 use std::alloc::{AllocError, Global};
 use std::test::Fail;
@@ -56,16 +56,6 @@ fn are_declared(alloc: Global, names: &mut SpurRodeo) -> Result<bool, Fail> {
 fn names_have_values(alloc: Global) -> Result<bool, Fail> {
     let mut names = interner(alloc)?;
     are_declared(alloc, &mut names)
-}
-
-#[test]
-fn errors_are_printed(rt: HostRuntime) -> Result<(), Fail> {
-    let refused = DeclareError::from(LassoError::new(LassoErrorKind::MemoryLimitReached));
-    let said = format!(in rt.alloc(); "{refused}")?;
-    assert!(rt; said.as_str() == "the name was refused: Lasso encountered an error: The configured memory limit was reached");
-    let said = format!(in rt.alloc(); "{}", DeclareError::OutOfMemory)?;
-    assert!(rt; said.as_str() == "out of memory for the value");
-    Ok(())
 }
 
 #[test]

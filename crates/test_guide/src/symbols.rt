@@ -15,13 +15,3 @@ fn symbols_keep_their_names(rt: HostRuntime) -> Result<(), Fail> {
     assert!(rt; first_name(&mut table, "x", "z")? == "x");
     Ok(())
 }
-
-#[test]
-fn names_have_one_symbol_if_they_are_equal(rt: HostRuntime) -> Result<(), Fail> {
-    let mut table: SymbolTable<Spur> = SymbolTable::new(rt.alloc())?;
-    assert!(rt; table.have_one_symbol("x", "x")?);
-    assert!(rt; !table.have_one_symbol("x", "y")?);
-    assert!(rt; table.have_one_symbol("y", "y")?);
-    assert!(rt; !table.have_one_symbol("", "y")?);
-    Ok(())
-}
