@@ -1,5 +1,7 @@
-"""Scripts and JSON values for tool_replay that are made: each case of the account by all short runs of lengths, runs
-that use up a key type, random runs of all commands, and values of each kind in each place. They are the same each time.
+"""Makes scripts and JSON values for tool_replay, the same ones each time.
+
+Short runs of texts of all lengths meet each case of the account. Others use up the keys of a type. Random runs have
+all commands, and values of each kind stand in each place.
 """
 import itertools
 import json
@@ -44,6 +46,14 @@ def runs_of_lengths():
         for command, letter, size in zip(("intern", "intern", "clear", "intern", "intern"), b"ab cd", (*kept, 0, *again)):
             yield command if command == "clear" else f"intern {model.digits_of(bytes([letter]) * size)}"
             yield "usage"
+
+
+def copies():
+    """For each limit all runs of three lengths that an interner is copied from, what goes in afterwards, and its copy."""
+    for limit, sizes in itertools.product(LIMITS, itertools.product(LENGTHS[::2], repeat=3)):
+        yield f"script copies_{'_'.join(map(str, sizes))}_to_{limit} rodeo spur 0 3 {limit}"
+        yield " ".join(["clonefrom", *words_of(bytes([letter]) * size for letter, size in zip(b"abc", sizes))])
+        yield from ("usage", "len", f"intern {'64' * 3}", "usage", f"intern {'65' * 6}", "usage", "clone", "usage", "max")
 
 
 def used_up_keys():
@@ -169,6 +179,7 @@ def lines():
     """All lines, those that are written by hand first."""
     yield from named_scripts()
     yield from runs_of_lengths()
+    yield from copies()
     yield from used_up_keys()
     yield from random_scripts(200)
     yield from values()
