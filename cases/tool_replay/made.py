@@ -1,7 +1,7 @@
 """Makes scripts and JSON values for tool_replay, the same ones each time.
 
 Short runs of texts of all lengths meet each case of the account. Others use up the keys of a type. Random runs have
-all commands, and values of each kind stand in each place.
+all commands, and values of each kind stand in each place. Some values are large.
 """
 import itertools
 import json
@@ -175,6 +175,22 @@ def values():
         yield from (line_of("threaded", keys, json.dumps(members)) for keys in ("spur", "micro"))
 
 
+def large_values():
+    """Values with long texts, and with as many texts as keys of 16 bits stand for, and more."""
+    long = "a" * 100_000
+    texts = [long, ["a" * 1_000_000], [long, long], [long, [long]], [[long], long]]
+    names = [{long: 0}, {long: 1}, {long: 2}, {"k": long}, {"k": [long]}]
+    yield from (line_of(form, "spur", json.dumps(value)) for form in FORMS for value in texts)
+    yield from (line_of("threaded", "spur", json.dumps(value)) for value in names)
+    many = [str(number) for number in range(69_999)]
+    yield from (line_of(form, "spur", json.dumps([*many, "0"])) for form in FORMS)
+    yield from (line_of(form, "mini", json.dumps(many[:count])) for form in FORMS for count in (65_535, 65_536))
+    numbers = [("mini", count, first) for count in (65_535, 65_536) for first in (1, 65_535, 65_536)]
+    for keys, count, first in [*numbers, ("spur", 65_536, 65_536), ("spur", 65_536, 2**32 - 1)]:
+        members = {f"{number:05}": number + 1 for number in range(count)}
+        yield line_of("threaded", keys, json.dumps({**members, "00000": first}))
+
+
 def lines():
     """All lines, those that are written by hand first."""
     yield from named_scripts()
@@ -183,3 +199,4 @@ def lines():
     yield from used_up_keys()
     yield from random_scripts(200)
     yield from values()
+    yield from large_values()

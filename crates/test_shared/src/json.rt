@@ -1,6 +1,5 @@
-//! Interners that threads share, read from JSON and written as JSON. Stored scripts of `tool_replay` have JSON
-//! values of each kind in each role, and those that are wrong.
-mod large;
+//! Interners that threads share, read from JSON and written as JSON. The lines that are made for `tool_replay` have
+//! values of each kind in each role, also large ones, and those that are wrong.
 
 use super::looks::{Look, first_wrong};
 use super::origins::{Origin, make_from, value_of};

@@ -29,8 +29,6 @@ mod keys;
 #[cfg(test)]
 mod lent_items;
 #[cfg(test)]
-mod parts_json;
-#[cfg(test)]
 mod reader;
 #[cfg(test)]
 mod refusals;
