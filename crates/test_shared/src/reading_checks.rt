@@ -1,4 +1,4 @@
-//! The assertions of these tests. Each stands here once, and says what was checked.
+//! The assertions of the tests that read what an interner shows. Each stands here once, and says what was checked.
 use super::frozen::FROZEN;
 use super::looks::{Look, first_wrong, freezes};
 use super::origins::{Origin, make_from};
