@@ -29,8 +29,6 @@ enum Step {
     Lines(&'static [u8], Ended),
     // merging an interner of these texts gives these codes, or is refused by the memory limit
     Merges(&'static [&'static str], Option<&'static [u32]>),
-    // these are the codes, which are cleared then
-    Codes(&'static [u32]),
     // these are the codes, which stay
     Keeps(&'static [u32]),
     // there is this number of texts
@@ -93,12 +91,6 @@ fn encodes(ended: LassoResult<()>) -> Result<bool, Fail> {
     }
 }
 
-fn were_codes(codes: &mut Vec<u32>, wanted: &[u32]) -> bool {
-    let right = codes.as_slice() == wanted;
-    codes.clear();
-    right
-}
-
 // Takes the step. Returns whether all is as it says.
 fn is_taken(
     alloc: Global,
@@ -111,7 +103,6 @@ fn is_taken(
         Step::Refuses(texts) => limit_refuses(encode(rodeo, texts, codes).err()),
         Step::Lines(lines, ended) => ends(encode_lines(rodeo, lines, codes), ended),
         Step::Merges(texts, merged) => merges(alloc, rodeo, texts, merged),
-        Step::Codes(wanted) => Ok(were_codes(codes, wanted)),
         Step::Keeps(wanted) => Ok(codes.as_slice() == wanted),
         Step::Counts(count) => Ok(rodeo.len() == count),
     }
@@ -311,49 +302,3 @@ fn a_first_new_text_is_refused_by_the_limit(rt: HostRuntime) -> Result<(), Fail>
     );
     column(&rt, limited_interner(rt.alloc()), COLUMN)
 }
-
-#[test]
-fn long_columns_are_encoded(rt: HostRuntime) -> Result<(), Fail> {
-    const TEXTS: [&str; 1000] = ["first"; 1000];
-    const LINES: [u8; 1000] = [b'\n'; 1000];
-    const ZEROS: [u32; 1000] = [0; 1000];
-    const ONES: [u32; 1000] = [1; 1000];
-    static COLUMN: Column = (
-        &[
-            Step::Encodes(&TEXTS),
-            Step::Codes(&ZEROS),
-            Step::Lines(&LINES, Ended::Well),
-            Step::Codes(&ONES),
-        ],
-        &[1, 0],
-        &["", "first"],
-    );
-    column(&rt, interner(rt.alloc(), &[]), COLUMN)
-}
-
-#[test]
-fn long_dictionaries_are_merged(rt: HostRuntime) -> Result<(), Fail> {
-    const LETTERS: [&str; 26] = [
-        "a", "b", "c", "d", "e", "f", "g", "h", "i", "j", "k", "l", "m", "n", "o", "p", "q", "r",
-        "s", "t", "u", "v", "w", "x", "y", "z",
-    ];
-    static COLUMN: Column = (
-        &[
-            Step::Merges(&LETTERS, Some(CODES)),
-            Step::Counts(26),
-            Step::Lines(LINES, Ended::Well),
-            Step::Codes(CODES),
-        ],
-        CODES,
-        &LETTERS,
-    );
-    column(&rt, interner(rt.alloc(), &["z"]), COLUMN)
-}
-
-const LINES: &[u8] =
-    b"a\nb\nc\nd\ne\nf\ng\nh\ni\nj\nk\nl\nm\nn\no\np\nq\nr\ns\nt\nu\nv\nw\nx\ny\nz";
-
-// The codes of the letters where `z` came first.
-const CODES: &[u32] = &[
-    1, 2, 3, 4, 5, 6, 7, 8, 9, 10, 11, 12, 13, 14, 15, 16, 17, 18, 19, 20, 21, 22, 23, 24, 25, 0,
-];

@@ -2,12 +2,9 @@
 ghost use Rattle.std.specs.Prelude.{◌≡◌, ◌+◌, ◌-◌, ◌^◌, ◌<◌, [], IfOk, OnOk, length, sum, vec_len};
 
 use crate::checks::{ends_so, resolves};
-use lasso::{Capacity, LassoError, LassoErrorKind, LassoResult, MemoryLimits, Rodeo, SpurRodeo};
-use lasso_columns::counts::{
-    CountError, Ranked, by_frequency, count_codes, count_in_parts, count_text,
-};
+use lasso::{LassoResult, Rodeo, SpurRodeo};
+use lasso_columns::counts::{Ranked, by_frequency, count_codes, count_in_parts, count_text};
 use std::alloc::{AllocError, Global};
-use std::str::from_utf8;
 use std::test::Fail;
 use std::thread::Threads;
 
@@ -128,24 +125,6 @@ fn equal_counts_go_by_bytes(rt: HostRuntime) -> Result<(), Fail> {
     ends_so(&rt, texts_are_ranked(rt.alloc()), "the ranks")
 }
 
-// Counts the texts in parts. `None` if all are counted. Out of memory is an error.
-fn count_parts<R: AllocGlobal + Threads + Sync>(
-    rt: &R,
-    rodeo: &mut SpurRodeo,
-    counts: &mut Vec<u64>,
-    texts: &[&str],
-    workers: usize,
-) -> Result<Option<(usize, LassoErrorKind)>, Fail>
-    requires lengths { vec_len counts.old ≡ length rodeo.old.texts }
-    requires fits { sum counts.old.items + length texts.now < 2 ^ 64 }
-{
-    match count_in_parts(rt, rodeo, texts, counts, workers) {
-        Ok(()) => Ok(None),
-        Err(refused) if refused.error.kind().is_failed_alloc() => Err(Fail::from(refused.error)),
-        Err(refused) => Ok(Some((refused.position, refused.error.kind()))),
-    }
-}
-
 // Positions and their counts. 400 = 6 * 60 + 40, and 100 = 14 * 7 + 2: n from 400 begins at 1 modulo 7.
 static COUNTED: [(usize, u64); 7] = [
     (0, 1 + 7 + 15),
@@ -181,8 +160,10 @@ fn parts_are_counted<R: AllocGlobal + Threads + Sync>(
     requires counts { counts.old.items ≡ [] }
 {
     count(rodeo, counts, "text 1")?;
-    let refused = count_parts(rt, rodeo, counts, texts, workers)?;
-    Ok(refused.is_none() && are_sixty(rodeo, counts))
+    match count_in_parts(rt, rodeo, texts, counts, workers) {
+        Ok(()) => Ok(are_sixty(rodeo, counts)),
+        Err(refused) => Err(Fail::from(refused.error)),
+    }
 }
 
 fn counts_in_parts<R: AllocGlobal + Threads + Sync>(
@@ -224,97 +205,4 @@ fn parts_count_as_one(rt: HostRuntime) -> Result<(), Fail> {
         ends_so(&rt, counts_in_parts(&rt, &texts, WORKERS[at]), "the counts")?;
     }
     Ok(())
-}
-
-// Eight texts, the position of the refused one, and how often `b` comes before it.
-type Row = (&'static [&'static str], usize, u64);
-
-const LONG: &str = "a long text that takes some bytes";
-
-static ROWS: [Row; 3] = [
-    (&[LONG, "b", "b", "b", "b", "b", "b", "b"], 0, 0),
-    (&["b", LONG, "b", LONG, "c", "b", "d", LONG], 1, 1),
-    (&["b", "b", "b", "b", "b", "b", LONG, "b"], 6, 6),
-];
-
-// Whether the filler is counted, and `b` as often as it came.
-fn are_before(rodeo: &SpurRodeo, counts: &[u64], times: u64) -> bool {
-    if times > 0 {
-        return are_counts(rodeo, counts, &[1, times]);
-    }
-    are_counts(rodeo, counts, &[1])
-}
-
-fn is_named<R: AllocGlobal + Threads + Sync>(
-    rt: &R,
-    rodeo: &mut SpurRodeo,
-    counts: &mut Vec<u64>,
-    filler: &str,
-    row: Row,
-    workers: usize,
-) -> Result<bool, Fail>
-    requires texts { rodeo.old.texts ≡ [] }
-    requires counts { counts.old.items ≡ [] }
-{
-    let (texts, position, times) = row;
-    count(rodeo, counts, filler)?;
-    let refused = count_parts(rt, rodeo, counts, texts, workers)?;
-    Ok(
-        refused == Some((position, LassoErrorKind::MemoryLimitReached))
-            && are_before(rodeo, counts, times),
-    )
-}
-
-// An interner of one bucket.
-fn limited(alloc: Global) -> LassoResult<SpurRodeo>
-    ensures { IfOk result (λ rodeo. rodeo.texts ≡ []) }
-{
-    Rodeo::with_capacity_and_memory_limits(alloc, Capacity::default(), MemoryLimits::new(4096))
-}
-
-fn names_the_refused<R: AllocGlobal + Threads + Sync>(
-    rt: &R,
-    filler: &str,
-    row: Row,
-    workers: usize,
-) -> Result<bool, Fail> {
-    let mut rodeo = limited(rt.alloc())?;
-    let mut counts = Vec::new(rt.alloc());
-    is_named(rt, &mut rodeo, &mut counts, filler, row, workers)
-}
-
-fn names_each<R: AllocGlobal + Threads + Sync>(rt: &R, filler: &str) -> Result<bool, Fail> {
-    static WORKERS: [usize; 4] = [1, 2, 3, 8];
-    for row in 0..ROWS.len() {
-        for at in 0..WORKERS.len() {
-            if !names_the_refused(rt, filler, ROWS[row], WORKERS[at])? {
-                return Ok(false);
-            }
-        }
-    }
-    Ok(true)
-}
-
-// The limit allows one bucket, which the first texts fill. The next text is refused, and those before it are
-// counted, also if it is in a later part or occurs again later.
-#[test]
-fn the_refused_text_is_named(rt: HostRuntime) -> Result<(), Fail> {
-    static FILLER: [u8; 4094] = [b'f'; 4094];
-    let filler = from_utf8(&FILLER).ok().ok_or("letters are no text")?;
-    ends_so(&rt, names_each(&rt, filler), "the refused text")
-}
-
-fn has_words(alloc: Global, error: &CountError, words: &str) -> Result<bool, Fail> {
-    Ok(error.to_string(alloc)?.as_str() == words)
-}
-
-#[test]
-fn a_refused_text_is_printed(rt: HostRuntime) -> Result<(), Fail> {
-    let error = CountError {
-        position: 7,
-        error: LassoError::new(LassoErrorKind::MemoryLimitReached),
-    };
-    let words =
-        "text at position 7: Lasso encountered an error: The configured memory limit was reached";
-    ends_so(&rt, has_words(rt.alloc(), &error, words), "the words")
 }

@@ -3,6 +3,7 @@
 
 use lasso_parts::keys::{Key, Spur};
 use lasso_parts::util::{LassoErrorKind, LassoResult};
+use std::marker::{Send, Sync};
 use std::process::Abort;
 use std::test::Fail;
 
@@ -64,3 +65,6 @@ pub fn is_refused<T: Drop>(outcome: LassoResult<T>, kind: LassoErrorKind) -> boo
 pub fn key_at(position: usize) -> Result<Spur, Fail> {
     Ok(Spur::try_from_usize(position).ok_or("no key")?)
 }
+
+// Compiles for a type that goes to another thread, and is shared.
+pub fn crosses<T: Send + Sync>() {}

@@ -1,159 +1,135 @@
-//! Interners and frozen forms read from values that are too large for a script of `tool_replay`.
-ghost use Rattle.std.specs.Prelude.{◌<◌};
+//! Lists and keys as JSON, and the printed errors of values that can't be read. Values are read in scripts of
+//! `tool_replay`.
 
-use crate::checks::{is_so, is_text};
-use crate::interners::{Small, SpurReader, SpurResolver, takes};
-use lasso_parts::json::JsonError;
+use crate::checks::is_so;
+use lasso_parts::json::{JsonError, JsonKey, read_map, write_array, write_map};
+use lasso_parts::keys::{Key, LargeSpur, MicroSpur, MiniSpur, Spur};
+use lasso_parts::util::LassoErrorKind;
 use serde_json::Value;
 use std::alloc::Global;
+use std::process::Abort;
 use std::test::Fail;
 
-fn as_rodeo(alloc: Global, value: &Value) -> Result<Small, JsonError> {
-    Small::deserialize(alloc, value)
+// Whether the value is written as this JSON text.
+fn is_written(alloc: Global, value: &Value, wanted: &str) -> Result<bool, Fail> {
+    Ok(value.to_string(alloc)?.as_str() == wanted)
 }
 
-fn as_reader(alloc: Global, value: &Value) -> Result<SpurReader, JsonError> {
-    SpurReader::deserialize(alloc, value)
+#[test]
+fn written_texts(rt: HostRuntime) -> Result<(), Fail> {
+    let texts = ["b", "a"].as_slice();
+    let value = write_array(rt.alloc(), &texts, 2)?;
+    let is_so_written = is_written(rt.alloc(), &value, r#"["b","a"]"#)?;
+    is_so(&rt, is_so_written, "an array of two texts");
+    Ok(())
 }
 
-fn as_resolver(alloc: Global, value: &Value) -> Result<SpurResolver, JsonError> {
-    SpurResolver::deserialize(alloc, value)
+// Whether the texts are written as this object.
+fn is_object_written(alloc: Global, texts: &[&str], wanted: &str) -> Result<bool, Fail> {
+    let value = write_map(alloc, &texts, texts.len())?;
+    is_written(alloc, &value, wanted)
 }
 
-// How an interner, a reader and a resolver end that are read from the value.
-type Ends = (Option<JsonError>, Option<JsonError>, Option<JsonError>);
+#[test]
+fn written_objects(rt: HostRuntime) -> Result<(), Fail> {
+    let none: [&str; 0] = [];
+    let rows = [
+        (none.as_slice(), "{}"),
+        ([""].as_slice(), r#"{"":1}"#),
+        (["b", "a"].as_slice(), r#"{"a":2,"b":1}"#),
+        (["b", "a", "c"].as_slice(), r#"{"a":2,"b":1,"c":3}"#),
+        (
+            ["abc", "defghijk", "x", "yz"].as_slice(),
+            r#"{"abc":1,"defghijk":2,"x":3,"yz":4}"#,
+        ),
+    ];
+    for (texts, wanted) in rows {
+        assert!(rt; is_object_written(rt.alloc(), texts, wanted)?, "{wanted}");
+    }
+    Ok(())
+}
 
-fn ends_of(alloc: Global, value: &Value) -> Ends {
+// Whether the array is no object.
+fn is_no_object(alloc: Global, text: &str) -> Result<bool, Fail> {
+    let value = Value::from_str(alloc, text)?;
+    Ok(read_map::<Spur, Global>(alloc, &value).err() == Some(JsonError::NotAnObject))
+}
+
+// An interner that threads share reads an array as a list, so no script can show this.
+#[test]
+fn arrays_are_no_objects(rt: HostRuntime) -> Result<(), Fail> {
+    is_so(&rt, is_no_object(rt.alloc(), "[]")?, "no text");
+    let two = is_no_object(rt.alloc(), r#"["b", "a"]"#)?;
+    is_so(&rt, two, "two texts");
+    Ok(())
+}
+
+// Whether the value is no key of any width.
+fn is_no_key(value: &Value) -> bool {
+    Spur::key_from_json(value) == Err(JsonError::NotAKey)
+        && MiniSpur::key_from_json(value) == Err(JsonError::NotAKey)
+        && MicroSpur::key_from_json(value) == Err(JsonError::NotAKey)
+        && LargeSpur::key_from_json(value) == Err(JsonError::NotAKey)
+}
+
+#[test]
+fn a_text_of_a_million_bytes_is_no_key(rt: HostRuntime) -> Result<(), Fail> {
+    let long = Value::String("1".repeat(rt.alloc(), 1_000_000)?);
+    is_so(&rt, is_no_key(&long), "the text");
+    Ok(())
+}
+
+// The number that key 0 of this type is written as.
+fn first_written<K: JsonKey>(alloc: Global) -> Result<u64, Fail> {
+    let key = K::try_from_usize(0).ok_or("no key")?;
+    let value = key.key_to_json(alloc)?;
+    Ok(value.as_u64().ok_or("no number")?)
+}
+
+#[test]
+fn number_0_is_written_1(rt: HostRuntime) -> Result<(), Fail> {
+    is_so(&rt, first_written::<Spur>(rt.alloc())? == 1, "32 bits");
+    is_so(&rt, first_written::<MiniSpur>(rt.alloc())? == 1, "16 bits");
+    is_so(&rt, first_written::<MicroSpur>(rt.alloc())? == 1, "8 bits");
+    is_so(&rt, first_written::<LargeSpur>(rt.alloc())? == 1, "64 bits");
+    Ok(())
+}
+
+// Whether the fault prints as the text.
+fn is_printed(alloc: Global, fault: JsonError, wanted: &str) -> Result<bool, Fail> {
+    Ok(format!(in alloc; "{fault}")?.as_str() == wanted)
+}
+
+static FAULTS: [(JsonError, &str); 9] = [
+    (JsonError::NotAnArray, "The value is not an array"),
+    (JsonError::NotText(0), "item 0 is not a text"),
     (
-        as_rodeo(alloc, value).err(),
-        as_reader(alloc, value).err(),
-        as_resolver(alloc, value).err(),
-    )
-}
-
-fn ends_so(alloc: Global, value: &Value, wanted: Ends) -> bool {
-    ends_of(alloc, value) == wanted
-}
-
-// An array of `count` texts: the numbers below `count`, each modulo `different`.
-fn numbered(alloc: Global, count: usize, different: usize) -> Result<Value, Fail>
-    requires { 0 < different }
-{
-    let mut items: Vec<Value> = Vec::new(alloc);
-    for n in 0..count {
-        let number = n % different;
-        items.push(Value::String(format!(in alloc; "{number}")?))?;
-    }
-    Ok(Value::Array(items))
-}
-
-fn is_long_resolver(alloc: Global, value: &Value, count: usize) -> bool {
-    match as_resolver(alloc, value) {
-        Ok(resolver) => resolver.len() == count,
-        Err(_fault) => false,
-    }
-}
-
-fn is_doubled_at(alloc: Global, value: &Value, position: usize) -> bool {
-    as_rodeo(alloc, value).err() == Some(JsonError::Doubled(position))
-}
-
-// Comparing each text with all earlier ones would take 2.4 billion comparisons, and longer than a test may.
-#[test]
-fn a_double_behind_many_texts(rt: HostRuntime) -> Result<(), Fail> {
-    let last_as_first = numbered(rt.alloc(), 70_000, 69_999)?;
-    is_so(
-        &rt,
-        is_doubled_at(rt.alloc(), &last_as_first, 69_999),
-        "an interner",
-    );
-    is_so(
-        &rt,
-        is_long_resolver(rt.alloc(), &last_as_first, 70_000),
-        "a resolver",
-    );
-    Ok(())
-}
-
-fn long_text(alloc: Global) -> Result<String, Fail> {
-    Ok("a".repeat(alloc, 1_000_000)?)
-}
-
-// An array of `count` texts of a million bytes.
-fn long_texts(alloc: Global, count: usize) -> Result<Value, Fail> {
-    let mut items: Vec<Value> = Vec::new(alloc);
-    for _item in 0..count {
-        items.push(Value::String(long_text(alloc)?))?;
-    }
-    Ok(Value::Array(items))
-}
-
-// Whether the interner has just this text, in a bucket of its length.
-fn is_rodeo_of(rodeo: &Small, text: &str) -> bool {
-    rodeo.len() == 1 && rodeo.contains(text) && takes(rodeo, text.len())
-}
-
-fn is_reader_of(reader: &SpurReader, text: &str) -> bool {
-    reader.len() == 1 && reader.contains(text)
-}
-
-fn is_resolver_of(resolver: &SpurResolver, text: &str) -> bool {
-    resolver.len() == 1 && is_text(resolver.strings().next(), text)
-}
-
-// Whether each form reads exactly this text from the value.
-fn is_read(alloc: Global, value: &Value, text: &str) -> Result<bool, JsonError> {
-    Ok(
-        is_rodeo_of(&as_rodeo(alloc, value)?, text)
-            && is_reader_of(&as_reader(alloc, value)?, text)
-            && is_resolver_of(&as_resolver(alloc, value)?, text),
-    )
-}
-
-fn is_no_array(alloc: Global) -> Result<bool, Fail> {
-    let value = Value::String(long_text(alloc)?);
-    let no_array = Some(JsonError::NotAnArray);
-    Ok(ends_so(alloc, &value, (no_array, no_array, no_array)))
-}
-
-fn is_long_read(alloc: Global, value: &Value) -> Result<bool, Fail> {
-    let text = long_text(alloc)?;
-    Ok(is_read(alloc, value, text.as_str())?)
-}
+        JsonError::Doubled(2),
+        "item 2 is the text of an earlier item",
+    ),
+    (
+        JsonError::TooMany(255),
+        "item 255 has a position without a key",
+    ),
+    (JsonError::NotAnObject, "The value is not an object"),
+    (JsonError::NotAPosition(1), "item 1 is not a position"),
+    (
+        JsonError::Taken(10),
+        "item 10 is the position of an earlier item",
+    ),
+    (
+        JsonError::Lasso(LassoErrorKind::FailedAllocation),
+        "Lasso encountered an error: Failed to allocate memory",
+    ),
+    (JsonError::NotAKey, "The value is not a key"),
+];
 
 #[test]
-fn texts_of_a_million_bytes(rt: HostRuntime) -> Result<(), Fail> {
-    let one = long_texts(rt.alloc(), 1)?;
-    is_so(&rt, is_long_read(rt.alloc(), &one)?, "the text in an array");
-    is_so(&rt, is_no_array(rt.alloc())?, "the text alone");
-    Ok(())
-}
-
-// How many texts of a million bytes the resolver has.
-fn count_long(resolver: &SpurResolver) -> usize {
-    let mut count = 0usize;
-    for text in resolver.strings() {
-        if text.len() == 1_000_000 {
-            count = count.saturating_add(1);
-        }
+fn faults_print(rt: HostRuntime) -> Result<(), Fail> {
+    for (fault, wanted) in &FAULTS {
+        assert!(rt; is_printed(rt.alloc(), *fault, wanted)?, "{wanted}");
     }
-    count
-}
-
-// Whether the resolver of the value has two texts, each of a million bytes.
-fn are_two_long(alloc: Global, value: &Value) -> bool {
-    match as_resolver(alloc, value) {
-        Ok(resolver) => resolver.len() == 2 && count_long(&resolver) == 2,
-        Err(_fault) => false,
-    }
-}
-
-#[test]
-fn a_text_of_a_million_bytes_twice(rt: HostRuntime) -> Result<(), Fail> {
-    let two = long_texts(rt.alloc(), 2)?;
-    let doubled = Some(JsonError::Doubled(1));
-    let are_refused = ends_so(rt.alloc(), &two, (doubled, doubled, None));
-    is_so(&rt, are_refused, "how each form ends");
-    is_so(&rt, are_two_long(rt.alloc(), &two), "a resolver");
+    let shown = format!(in rt.alloc(); "{:?}", JsonError::Doubled(2))?;
+    is_so(&rt, shown.as_str() == "Doubled(2)", "a fault's debug text");
     Ok(())
 }

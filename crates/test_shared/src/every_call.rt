@@ -1,0 +1,213 @@
+//! Texts that are not ASCII through each call, without a pass and with one, for key types of each size and
+//! two hashers.
+use super::looks::Look;
+use super::origins::Origin;
+use super::reading_checks::{freezes_as, runs_as};
+use Look::{Compares, Does, Shows, UsesBytesOf, Writes};
+use Step::{
+    AllocatesOver, ByNew, ByOne, Counts, EachInterns, EqualsItself, Finds, Interns, IsLimited,
+    Limits, Reads, Uses,
+};
+use lasso_parts::keys::{Key, LargeSpur, MicroSpur, MiniSpur, Spur};
+use lasso_parts::util::FixedState;
+use std::hash::BuildHasher;
+use std::process::Abort;
+use std::sync::Wait;
+use std::test::*;
+use test_common::hashers::SameState;
+use test_shared_common::cases::paired;
+use test_shared_common::makers::Maker;
+use test_shared_common::steps::{Call, FULL, KEEPING, Step, WAYS, Way};
+use test_shared_common::texts::List::Texts;
+
+// A text and one that differs from it in its last byte alone. Their characters have 2, 3, 4, and 1 to 4
+// bytes; the last texts have 54.
+static TEXTS: [(&str, &str); 5] = [
+    ("é", "è"),
+    ("€", "₭"),
+    ("😀", "😁"),
+    ("aé€😀", "aé€😁"),
+    ("é€😀é€😀é€😀é€😀é€😀é€😀", "é€😀é€😀é€😀é€😀é€😀é€😁"),
+];
+
+// A call interns the text, in an interner with 300 bytes in its first bucket and 777 as its limit.
+static TAKEN: [Look; 11] = [
+    Does(&[
+        Finds("@", None),
+        ByNew(Call::Finds("@", None)),
+        ByNew(Call::Counts(0)),
+        Counts(0),
+        Reads(0, None),
+        IsLimited(777),
+        Uses(300),
+        ByNew(Call::Sums(777, 300)),
+        Interns(Way::Given, "@", Ok(0)),
+    ]),
+    Shows(Texts(&["@"])),
+    Does(&[
+        Finds("%", None),
+        ByOne(Call::Finds("@", Some(0))),
+        ByOne(Call::Finds("%", None)),
+        ByOne(Call::Copies("@", Ok(0))),
+        ByOne(Call::Keeps("@", Ok(0))),
+        ByOne(Call::Finds("@", Some(0))),
+        ByOne(Call::Reads(0, Some("@"))),
+        ByOne(Call::Reads(1, None)),
+        ByOne(Call::Counts(1)),
+        EachInterns("@", Ok(0)),
+    ]),
+    Shows(Texts(&["@"])),
+    Does(&[
+        Finds("%", None),
+        IsLimited(777),
+        Uses(300),
+        ByNew(Call::Sums(777, 300)),
+        Limits(0x0123_4567_89ab_cdef),
+        IsLimited(0x0123_4567_89ab_cdef),
+        Uses(300),
+        ByNew(Call::Sums(0x0123_4567_89ab_cdef, 300)),
+        ByNew(Call::Limits(9_876_543_210)),
+        IsLimited(9_876_543_210),
+        Uses(300),
+        ByNew(Call::Sums(9_876_543_210, 300)),
+        Limits(777),
+        IsLimited(777),
+        Uses(300),
+        ByNew(Call::Sums(777, 300)),
+        AllocatesOver(300),
+        EqualsItself,
+    ]),
+    Compares(Texts(&["@"]), true),
+    Compares(Texts(&["%"]), false),
+    Writes(Texts(&["@"])),
+    Shows(Texts(&["@"])),
+    Does(&[IsLimited(777), Uses(300), ByNew(Call::Sums(777, 300))]),
+    Compares(Texts(&["@"]), true),
+];
+
+// A call interns the text, which is frozen then.
+static MADE_BY: [Look; 1] = [Does(&[Interns(Way::Given, "@", Ok(0))])];
+
+// The only bucket has one byte. Each call that copies is refused by the limit and leaves all as it was, and one
+// that keeps the text takes it without a byte, which is free then.
+static REFUSED: [Look; 3] = [
+    Does(&[
+        Interns(Way::TryCopied, "@", FULL),
+        Finds("@", None),
+        ByNew(Call::Finds("@", None)),
+        ByNew(Call::Counts(0)),
+        Counts(0),
+        Reads(0, None),
+        IsLimited(1),
+        Uses(1),
+        ByNew(Call::Sums(1, 1)),
+        Interns(Way::Copied, "@", FULL),
+        Finds("@", None),
+        ByNew(Call::Finds("@", None)),
+        ByNew(Call::Counts(0)),
+        Counts(0),
+        Reads(0, None),
+        IsLimited(1),
+        Uses(1),
+        ByNew(Call::Sums(1, 1)),
+        Interns(Way::CopiedByPass, "@", FULL),
+        Finds("@", None),
+        ByNew(Call::Finds("@", None)),
+        ByNew(Call::Counts(0)),
+        Counts(0),
+        Reads(0, None),
+        IsLimited(1),
+        Uses(1),
+        ByNew(Call::Sums(1, 1)),
+        Interns(Way::Item, "@", FULL),
+        Finds("@", None),
+        ByNew(Call::Finds("@", None)),
+        ByNew(Call::Counts(0)),
+        Counts(0),
+        Reads(0, None),
+        IsLimited(1),
+        Uses(1),
+        ByNew(Call::Sums(1, 1)),
+        Interns(Way::Given, "@", Ok(0)),
+    ]),
+    Shows(Texts(&["@"])),
+    Does(&[
+        Finds("%", None),
+        IsLimited(1),
+        Uses(1),
+        ByNew(Call::Sums(1, 1)),
+        Interns(Way::TryCopied, "z", Ok(1)),
+        IsLimited(1),
+        Uses(1),
+        ByNew(Call::Sums(1, 1)),
+    ]),
+];
+
+// An interner that is made of the text as an item, twice, has it alone, in the first bucket and under no limit.
+static MADE: [Look; 2] = [
+    Shows(Texts(&["@"])),
+    Does(&[
+        Finds("%", None),
+        IsLimited(usize::MAX),
+        Uses(4096),
+        ByNew(Call::Sums(usize::MAX, 4096)),
+    ]),
+];
+
+// One that is read from JSON has one bucket of the text's size, and no limit.
+static READ: [Look; 3] = [
+    Shows(Texts(&["@"])),
+    UsesBytesOf(Texts(&["@"])),
+    Does(&[Finds("%", None), IsLimited(usize::MAX)]),
+];
+
+// Each call has to take the text, copies have to be refused by the limit, and fillings and JSON to give interners of
+// the text alone.
+fn takes<K: Key, S: BuildHasher + Default + Drop, R: AllocGlobal + Wait + Abort>(
+    rt: &R,
+    pair: (&'static str, &'static str),
+) -> Result<(), Fail> {
+    let (roomy, list) = (Origin::Made(Maker::Sized(50, 300, 777)), Texts(&["@"]));
+    for way in WAYS.iter() {
+        runs_as::<K, S, R>(rt, roomy, TAKEN.as_slice(), paired(*way, pair))?;
+        let (made, frozen) = (MADE_BY.as_slice(), (list, "absent"));
+        freezes_as::<K, S, R>(rt, roomy, made, frozen, paired(*way, pair))?;
+    }
+    for way in KEEPING.iter() {
+        let full = Origin::Made(Maker::Full(1));
+        runs_as::<K, S, R>(rt, full, REFUSED.as_slice(), paired(*way, pair))?;
+    }
+    let case = paired(Way::TryCopied, pair);
+    runs_as::<K, S, R>(rt, Origin::Items(Texts(&["@", "@"])), MADE.as_slice(), case)?;
+    runs_as::<K, S, R>(rt, Origin::Object(list), READ.as_slice(), case)?;
+    runs_as::<K, S, R>(rt, Origin::Array(list), READ.as_slice(), case)
+}
+
+// The same of each text, with two hashers.
+fn takes_each_text<K: Key, R: AllocGlobal + Wait + Abort>(rt: &R) -> Result<(), Fail> {
+    for pair in TEXTS.iter() {
+        takes::<K, FixedState, R>(rt, *pair)?;
+        takes::<K, SameState, R>(rt, *pair)?;
+    }
+    Ok(())
+}
+
+#[test]
+fn keys_of_32_bits_take_each_text(rt: HostRuntime) -> Result<(), Fail> {
+    takes_each_text::<Spur, HostRuntime>(&rt)
+}
+
+#[test]
+fn keys_of_64_bits_take_each_text(rt: HostRuntime) -> Result<(), Fail> {
+    takes_each_text::<LargeSpur, HostRuntime>(&rt)
+}
+
+#[test]
+fn keys_of_16_bits_take_each_text(rt: HostRuntime) -> Result<(), Fail> {
+    takes_each_text::<MiniSpur, HostRuntime>(&rt)
+}
+
+#[test]
+fn keys_of_8_bits_take_each_text(rt: HostRuntime) -> Result<(), Fail> {
+    takes_each_text::<MicroSpur, HostRuntime>(&rt)
+}

@@ -1,0 +1,144 @@
+//! Frozen forms of an interner that threads share.
+ghost use Rattle.std.specs.Prelude.{◌≡◌};
+
+use super::frozen::{is_read, reads_just, resolves_just};
+use super::looks::Look;
+use super::origins::Origin;
+use super::reading_checks::{freezes_as, is_so};
+use Look::Does;
+use Step::{Limits, Takes};
+use lasso_log::log::Pass;
+use lasso_parts::keys::Spur;
+use lasso_parts::util::{FixedState, LassoResult};
+use lasso_single::resolver::RodeoResolver;
+use std::alloc::Global;
+use std::process::Abort;
+use std::sync::Wait;
+use std::test::*;
+use std::thread::{Threads, join};
+use test_common::keys::WithoutTwo;
+use test_shared_common::calls::{Reader, Shared, copied, kept_as, made, pass_of};
+use test_shared_common::cases::PLAIN;
+use test_shared_common::makers::Maker;
+use test_shared_common::steps::{FULL, NO_KEY, Step};
+use test_shared_common::texts::List::Texts;
+
+type Resolver = RodeoResolver<Spur, Global>;
+
+#[test]
+fn a_reader_of_texts_in_three_buckets(rt: HostRuntime) -> Result<(), Fail> {
+    static LOOKS: [Look; 1] = [Does(&[
+        Takes("abc", Ok(0)),
+        Takes("defghijk", Ok(1)),
+        Takes("x", Ok(2)),
+        Limits(14),
+        Takes("yz", Ok(3)),
+    ])];
+    let origin = Origin::Made(Maker::Sized(50, 4, 12));
+    let frozen = (Texts(&["abc", "defghijk", "x", "yz"]), "abcd");
+    freezes_as::<Spur, FixedState, _>(&rt, origin, &LOOKS, frozen, PLAIN)
+}
+
+// The key type and the limit refuse a text.
+#[test]
+fn refused_texts_are_not_in_a_frozen_form(rt: HostRuntime) -> Result<(), Fail> {
+    static LOOKS: [Look; 1] = [Does(&[
+        Takes("p", Ok(0)),
+        Takes("q", Ok(1)),
+        Takes("r", NO_KEY),
+        Takes("r", NO_KEY),
+        Takes("r", FULL),
+        Takes("q", Ok(1)),
+    ])];
+    let (origin, frozen) = (Origin::Made(Maker::Full(4)), (Texts(&["p", "q"]), "r"));
+    freezes_as::<WithoutTwo, FixedState, _>(&rt, origin, &LOOKS, frozen, PLAIN)
+}
+
+#[test]
+fn an_interner_without_texts_is_frozen(rt: HostRuntime) -> Result<(), Fail> {
+    let (origin, frozen) = (Origin::Made(Maker::Default), (Texts(&[]), ""));
+    freezes_as::<Spur, FixedState, _>(&rt, origin, &[], frozen, PLAIN)
+}
+
+// An interner of `A` alone.
+fn of_one<R: AllocGlobal + Wait>(rt: &R) -> Result<Shared, Fail> {
+    let shared = made(rt.alloc())?;
+    copied(rt, &shared, "A")?;
+    Ok(shared)
+}
+
+// Whether two threads find that the reader has `A` alone.
+fn both_read<R: Threads>(rt: &R, reader: &Reader) -> bool {
+    let (here, there) = join(
+        rt,
+        || reads_just(reader, &["A"], "F"),
+        || reads_just(reader, &["A"], "F"),
+    );
+    here && there
+}
+
+#[test]
+fn two_threads_read_a_reader(rt: HostRuntime) -> Result<(), Fail> {
+    let reader = of_one(&rt)?.into_reader(&rt)?;
+    is_so(&rt, both_read(&rt, &reader), "two threads");
+    Ok(())
+}
+
+// Whether two threads find that the resolver has `A` alone.
+fn both_resolve<R: Threads>(rt: &R, resolver: &Resolver) -> bool {
+    let (here, there) = join(
+        rt,
+        || resolves_just(resolver, &["A"]),
+        || resolves_just(resolver, &["A"]),
+    );
+    here && there
+}
+
+#[test]
+fn two_threads_read_a_resolver(rt: HostRuntime) -> Result<(), Fail> {
+    let resolver = of_one(&rt)?.into_resolver(&rt)?;
+    is_so(&rt, both_resolve(&rt, &resolver), "two threads");
+    Ok(())
+}
+
+// Interns two texts in two threads. Returns their numbers.
+fn intern_both<R: Threads + Wait + Sync>(rt: &R, shared: &Shared) -> LassoResult<(usize, usize)> {
+    let (first, second) = join(rt, || copied(rt, shared, "red"), || copied(rt, shared, ""));
+    Ok((first?, second?))
+}
+
+// Whether the reader has the static text, and two texts with these numbers.
+fn has_three(reader: &Reader, numbers: (usize, usize)) -> bool {
+    reader.len() == 3
+        && is_read(reader, numbers.0, "red")
+        && is_read(reader, numbers.1, "")
+        && is_read(reader, 0, "a static text")
+        && reader.try_resolve(Spur::default()) == Some("a static text")
+}
+
+// Freezes the interner of a static text and two others by the pass. Returns whether its reader has all three.
+fn freezes_three<R: Wait>(
+    rt: &R,
+    shared: Shared,
+    pass: &mut Pass<Spur>,
+    numbers: (usize, usize),
+) -> LassoResult<bool>
+    requires { pass.old.of ≡ shared }
+{
+    let reader = shared.into_reader_as(rt, pass)?;
+    Ok(has_three(&reader, numbers))
+}
+
+#[test]
+fn static_texts_and_texts_of_other_passes_are_frozen(rt: HostRuntime) -> Result<(), Fail> {
+    let shared = made(rt.alloc())?;
+    let mut pass = pass_of(&shared);
+    kept_as(&rt, &shared, &mut pass, "a static text")?;
+    let numbers = intern_both(&rt, &shared)?;
+    is_so(
+        &rt,
+        freezes_three(&rt, shared, &mut pass, numbers)?,
+        "three texts",
+    );
+    Ok(())
+}
