@@ -42,9 +42,10 @@ def print_lines(figures):
 
 def main():
     figures = Figures(sys.argv[1])
-    for table in (print_calls, print_threads, print_lines):
-        print()
-        table(figures)
+    for table, known in ((print_calls, figures.calls), (print_threads, figures.threads), (print_lines, figures.lines)):
+        if known:
+            print()
+            table(figures)
     print()
     fastest = [figures.hasher(count, size, call) for call in CALLS for count in COUNTS for size in SIZES]
     print("fastest hashers of single calls: " + ", ".join(f"{hasher} {fastest.count(hasher)}" for hasher in sorted(set(fastest))))

@@ -1,3 +1,4 @@
+# shellcheck disable=SC2034 # bench/run reads CARGO_WORDS
 # The tables beside the published crate lasso, and the pictures of them. A part of bench/run, which names the folders, makes the
 # inputs, and takes the peak of a program's memory.
 #

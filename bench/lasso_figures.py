@@ -21,7 +21,11 @@ WAYS = {
 
 
 def lines_of(folder, name):
-    with open(os.path.join(folder, name), encoding="utf-8") as source:
+    """The lines of a file, or none if it does not exist, as after a run that was cut short."""
+    path = os.path.join(folder, name)
+    if not os.path.exists(path):
+        return []
+    with open(path, encoding="utf-8") as source:
         return source.read().splitlines()
 
 

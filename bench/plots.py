@@ -113,8 +113,9 @@ def main():
     os.makedirs(sys.argv[2], exist_ok=True)
     assert SIZE in SIZES
     with pyplot.rc_context(STYLE):
-        for draw in (draw_calls, draw_threads, draw_lines):
-            draw(figures, sys.argv[2])
+        for draw, known in ((draw_calls, figures.calls), (draw_threads, figures.threads), (draw_lines, figures.lines)):
+            if known:
+                draw(figures, sys.argv[2])
 
 
 main()
