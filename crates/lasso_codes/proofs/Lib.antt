@@ -25,6 +25,7 @@ pub mod Cuts
 pub mod DecodedLines
 pub mod ReadBack
 pub mod MergedColumns
+pub mod RecodedColumns
 pub mod MergedLines
 pub mod Failing
 pub mod Lacking

@@ -13,12 +13,18 @@ pub enum Verb {
     Counts,
     /// Decodes columns into their lines.
     Decode,
+    /// Writes the dictionary of columns.
+    Dictionary,
     /// Lists the distinct lines.
     Distinct,
     /// Encodes the lines as a column.
     Encode,
+    /// Joins a dictionary and columns by its codes into one column.
+    Join,
     /// Merges columns into one.
     Merge,
+    /// Writes the entries of columns by the codes of a dictionary.
+    Recode,
 }
 
 /// The values of a verb's options.
@@ -142,9 +148,12 @@ fn verb_of(word: &str) -> Option<Verb>
     match word {
         "counts" => Some(Verb::Counts),
         "decode" => Some(Verb::Decode),
+        "dictionary" => Some(Verb::Dictionary),
         "distinct" => Some(Verb::Distinct),
         "encode" => Some(Verb::Encode),
+        "join" => Some(Verb::Join),
         "merge" => Some(Verb::Merge),
+        "recode" => Some(Verb::Recode),
         _ => None,
     }
 }

@@ -12,6 +12,7 @@ pub mod arguments;
 pub mod columns;
 pub mod counts;
 pub mod decode;
+pub mod dictionary;
 pub mod distinct;
 pub mod encode;
 pub mod ending;
@@ -32,6 +33,7 @@ pub mod program;
 pub mod progress;
 pub mod ranking;
 pub mod reading;
+pub mod recode;
 pub mod streams;
 
 use arguments::{ArgumentError, Request, command_of};
