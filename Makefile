@@ -132,7 +132,7 @@ test: python
 	@.ci/test
 
 #: make verify                       the gate: make test; proofs of all libraries and programs from nothing, by rt ci; the wrong bodies that have
-#:                                   to be refused; the cases that need a proved program; and the tools, without proof
+#:                                   to be refused; all cases over the proved programs; and the tools, without proof
 verify: python
 	@.ci/verify
 

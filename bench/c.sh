@@ -57,6 +57,7 @@ measure_c() {
     rm -rf "$OUT/python" && cp -r python "$OUT/python"
     /usr/bin/python3 "$OUT/python/backend.py" > "$OUT/core.log"
     for words in "" "2000000 20000" "2000000 200000 65536 7" "2000000 200000 65536 35" "1000000 100000 65536 200"; do
-        PYTHONPATH=$OUT/python $PRIORITY /usr/bin/python3 examples/python/categorical.py $words
+        read -r -a sizes <<< "$words"
+        PYTHONPATH=$OUT/python $PRIORITY /usr/bin/python3 examples/python/categorical.py "${sizes[@]}"
     done
 }

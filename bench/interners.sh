@@ -1,3 +1,4 @@
+# shellcheck disable=SC2034 # bench/columns.sh reads COLUMNS_SHARED
 # The tables of interners that threads share, beside those that Rust has. A part of bench/run, which names the folders, builds
 # over the system's packages of Rust crates, makes the inputs, and takes the peak of a program's memory.
 
@@ -9,7 +10,6 @@ SHARED_NAMES="zipf distinct few"
 # Builds the interners that Rust has for threads; where the packages can't be had, or are not built, std stands alone, and nothing where that
 # is not built either.
 build_rivals() {
-    # shellcheck disable=SC2034 # bench/columns.sh reads it
     COLUMNS_SHARED=$OUT/interners/release/columns
     build_over_crates interners dashmap fxhash hashbrown && return
     COLUMNS_SHARED=

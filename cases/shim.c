@@ -12,6 +12,7 @@
    FAIL_SEED                    there are no random bytes: asking for them fails by EIO
    CLOCK_STEP, CLOCK_GOOD       the clock moves by this number of milliseconds each time it is read, and fails after this number of times
    REFUSE                       once the input has ended, a request for more than this number of bytes of memory is refused
+   REFUSE_THREADS               only such requests of threads that the program started
    REFUSE_AFTER                 instead such requests are refused after this number of them, wherever the input is
    THREADS                      NONE: no thread starts; FIRST: a new thread ends before its maker goes on; LAST: it starts when it is joined
    TRACE                        a descriptor, to which each call writes a word: r3 or w3 with its bytes, r- or w- if it failed, r! or w! if
@@ -191,6 +192,8 @@ static int is_refused(size_t size)
     static unsigned long requests;
     unsigned long most = number("REFUSE");
     if (!most || size <= most)
+        return 0;
+    if (number("REFUSE_THREADS") && syscall(SYS_gettid) == getpid())
         return 0;
     if (getenv("REFUSE_AFTER") ? __atomic_fetch_add(&requests, 1, __ATOMIC_SEQ_CST) < number("REFUSE_AFTER") : !has_ended)
         return 0;

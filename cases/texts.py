@@ -22,6 +22,24 @@ def number(value):
     return b"%d" % value
 
 
+# What lasso_codes says of the errors by which cases/shim.c has calls fail: the kinds of Rust's std, in words.
+CAUSES = {
+    "EIO": "Input/output error",
+    "EAGAIN": "Operation would block",
+    "ECONNRESET": "Connection reset",
+    "EPIPE": "Broken pipe",
+    "ENOSPC": "No storage space",
+    "EDQUOT": "Quota exceeded",
+    "EFBIG": "File too large",
+    "NOTHING": "Write zero",
+}
+
+
+def failed(call, way="EIO"):
+    """What lasso_codes says of a read or a write that failed so."""
+    return f"{call} failed: {CAUSES[way]}"
+
+
 def code(value):
     """A code, or a null as 2**32 - 1, as four bytes."""
     return value.to_bytes(4, "little")

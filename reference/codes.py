@@ -33,6 +33,8 @@ def number_of(word):
 
 def options_of(words):
     """The verb and its options; Ends for a wrong argument, a help text or the version."""
+    if any("\udc80" <= letter <= "\udcff" for word in words for letter in word):
+        raise Ends(3, ".+")
     if not words or words[0] not in (*OPTIONS, "--help", "--version"):
         raise Ends(3, re.escape(words[0]) + ": .+" if words else ".+")
     if words[0].startswith("--"):

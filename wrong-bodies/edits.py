@@ -16,7 +16,8 @@ PAGE_FILE = re.compile(r"`(src/[\w/]+\.rt)`")
 EXAMPLES = "lasso_shared"
 KIND = "wrong-bodies"
 GATE = os.path.join(HERE, KIND, "gate.txt")
-GATE_LINE = re.compile(r"(\w+): (\w+)/(\w+), (a goal of|the test|the case) (\S+)(?: of (\w+))?")
+BY_PROVER = ("a goal of", "the prover at")
+GATE_LINE = re.compile(r"(\w+): (\w+)/(\w+), (a goal of|the prover at|the test|the case) (\S+)(?: of (\w+))?")
 
 
 class Unfit(Exception):
@@ -63,7 +64,7 @@ def edits_in(crate, folder):
 
 
 def gate_edits():
-    """The edits that the list of the gate names. Each has to say itself what refuses it."""
+    """The edits that the list of the gate names, each with the kind of what refuses it. Each has to say itself what that is."""
     found = []
     with open(GATE, encoding="utf-8") as source:
         lines = [line.rstrip("\n") for line in source if line.strip() and not line.startswith("#")]
@@ -73,11 +74,11 @@ def gate_edits():
             raise Unfit(f"gate.txt: this is no line of the list: {line}")
         _, crate, name, kind, what, of = named.groups()
         edit = read_edit(os.path.join(HERE, "crates", crate, KIND, f"{name}.edit"), crate)
-        own = f"{crate}::{what}" if kind == "a goal of" else (of, what)
-        has = {"a goal of": [edit.function] * (not edit.tests and not edit.cases), "the test": edit.tests, "the case": edit.cases}[kind]
+        own = f"{crate}::{what}" if kind in BY_PROVER else (of, what)
+        has = {"the test": edit.tests, "the case": edit.cases}.get(kind, [edit.function] * (not edit.tests and not edit.cases))
         if own not in has:
             raise Unfit(f"gate.txt: {crate}/{name} does not name {kind} {what}")
-        found.append(edit)
+        found.append((edit, kind))
     return found
 
 

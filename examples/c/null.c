@@ -94,5 +94,15 @@ int main(void)
     void (*release)(struct lasso *) = lasso_free;
     lasso_free(NULL);
     release(NULL);
+    lasso_shared_free(NULL);
+
+    /* The same in an interner that threads share. */
+    struct lasso_shared shared = LASSO_SHARED_NONE;
+    CHECK(lasso_shared_get(&shared, NULL, 0, &code) == LASSO_NO_INTERNER);
+    CHECK(lasso_shared_new(&shared) == LASSO_DONE && lasso_shared_get(&shared, NULL, 0, &code) == LASSO_NO_SUCH_TEXT);
+    CHECK(lasso_shared_intern_wait(&shared, NULL, 0, &code) == LASSO_DONE && code == 0);
+    CHECK(lasso_shared_get_wait(&shared, NULL, 0, &code) == LASSO_DONE && code == 0);
+    CHECK(lasso_shared_resolve(&shared, 0, NULL, 0, &whole) == LASSO_DONE && whole == 0);
+    lasso_shared_free(&shared);
     return 0;
 }

@@ -89,7 +89,9 @@ def main():
         sys.exit("usage: lines.py LIBRARY FILE")
     lasso = Lasso(sys.argv[1])
     with open(sys.argv[2], "rb") as file:
-        lines = [line.removesuffix(b"\n") for line in file]
+        lines = file.read().split(b"\n")
+    if not lines[-1]:
+        lines.pop()
     codes, dictionary = lasso.encode(lines)
     for code, line in zip(codes, lines):
         sys.stdout.buffer.write(b"%d %b\n" % (code, line))

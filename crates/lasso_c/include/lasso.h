@@ -3,7 +3,8 @@
  *
  * lasso_encode and lasso_decode turn one column of texts into codes and back. lasso_new makes an interner that
  * lives from call to call: intern texts one by one or in batches, look them up, save them by lasso_dictionary,
- * and free it by lasso_free.
+ * and free it by lasso_free. lasso_shared_new makes an interner that many threads intern into at once, by a handle a
+ * thread.
  *
  * Texts are passed in Arrow's layout of arrays of strings: a buffer of UTF-8 bytes without end marks, and a buffer of
  * offsets, which count bytes from the start of the first buffer. Text k is the bytes from offset k up to offset
@@ -16,8 +17,9 @@
  *   array.
  * - The caller owns all memory. No pointer is kept after a call returns.
  * - A pointer is aligned for its elements. It may be NULL if its length is 0. A handle, a report and each other
- *   pointer without a length is never NULL, except that lasso_free(NULL) does nothing. (Inline functions of this
- *   header take NULL. A caller without the header, as ctypes, never passes NULL to any call.)
+ *   pointer without a length is never NULL, except that lasso_free(NULL) and lasso_shared_free(NULL) do nothing.
+ *   (Inline functions of this header take NULL. A caller without the header, as ctypes, never passes NULL to any
+ *   call.)
  * - An array has at least as many elements as its length says, and at most 2^63 - 1 bytes.
  * - Outputs, *report included, must not overlap other arguments.
  * - A refused call, whose status is not LASSO_DONE, writes only *report and leaves its interner as it was. Only the
@@ -29,8 +31,9 @@
  * - No call is made in a signal handler, or in the forked child of a process with threads.
  *
  * lasso_encode and lasso_encode_nulls take memory from malloc and realloc, and free it before they return.
- * The calls whose names begin with lasso_new or lasso_intern, and lasso_clone, take memory that lasso_free frees.
- * The others take none. The program's malloc, realloc and
+ * The calls whose names begin with lasso_new or lasso_intern, and lasso_clone, take memory that lasso_free frees;
+ * lasso_shared_new, lasso_shared_join, lasso_shared_intern and lasso_shared_get take memory that lasso_shared_free
+ * frees. The others take none. The program's malloc, realloc and
  * free have to be one allocator, whose blocks are aligned to each power of two up to 16 that divides their size,
  * as to 8 for 24 bytes.
  *
@@ -53,12 +56,14 @@
  *
  * What a call writes, returns and leaves in its interner is proved. Not proved: that LASSO_NO_MEMORY comes only if
  * malloc or realloc returned none; more of lasso_capacity than that it is at least lasso_len; how long a lent text
- * lasts past the next call; that an interner hashes by the seed or keys that it was made with; what the caller has to
- * keep to; and what is said here of threads and of memory.
+ * lasts past the next call; that an interner hashes by the seed or keys that it was made with; that a handle of a
+ * shared interner gets past LASSO_BUSY, and that it sees what other handles did before; what the caller has to keep to;
+ * and what is said here of threads and of memory.
  */
 #ifndef LASSO_H
 #define LASSO_H
 
+#include <sched.h>
 #include <stdbool.h>
 #include <stddef.h>
 #include <stdint.h>
@@ -83,7 +88,8 @@ enum lasso_status {
     LASSO_NO_CODE_LEFT = 11,     /* the interner has 2^32 - 1 texts, one for each code */
     LASSO_NO_INTERNER = 12,      /* the handle holds no interner */
     LASSO_NO_SUCH_TEXT = 13,     /* the interner does not have the text */
-    LASSO_BITMAP_TOO_SHORT = 14  /* a bitmap has no bit for a row */
+    LASSO_BITMAP_TOO_SHORT = 14, /* a bitmap has no bit for a row */
+    LASSO_BUSY = 15              /* another thread is inside a step of a shared interner: try again */
 };
 
 /*
@@ -490,6 +496,106 @@ uint32_t lasso_clear(struct lasso *lasso);
 void lasso_free(struct lasso *lasso);
 
 /*
+ * A handle of an interner that threads share, or none. Begin with LASSO_SHARED_NONE, which is all zero.
+ *
+ * One growing list of distinct texts explains every reply of a handle: it is the same list for all handles of the
+ * interner, and a code is a position in it. So a text has one code in all threads, and keeps it.
+ *
+ * Each thread has a handle of its own, which lasso_shared_join makes from any handle of the interner. One call at a
+ * time uses a handle, even to read; ordering the calls of two threads with one handle is the caller's, by a lock or a
+ * thread's start or join. Calls with different handles may run at once, and need no order. memcpy may move a handle if
+ * the old copy is never passed to a call again. The interner lasts until its last handle is freed, in any order.
+ *
+ * No call waits. lasso_shared_intern and lasso_shared_get return LASSO_BUSY if another thread is inside a step of the
+ * interner, after they looked about a hundred times. The caller tries again, as lasso_shared_intern_wait and
+ * lasso_shared_get_wait do. What to rely on:
+ * - With LASSO_BUSY, no text was added, and nothing was written. The next call may be about another text.
+ * - The other calls never return LASSO_BUSY: no thread can hold them up.
+ * - If no other thread is inside a call, no call returns LASSO_BUSY. (This is tested, not proved.)
+ * What not to rely on:
+ * - Fairness. A thread may get LASSO_BUSY again and again while others get through.
+ * - Progress, if a thread stops inside a call. If a thread is killed there, or a signal handler that interrupted a
+ *   call makes one or never returns, others may get LASSO_BUSY for ever. So no thread that makes calls is cancelled
+ *   asynchronously, and signal handlers make none.
+ */
+struct lasso_shared {
+    void *at;
+    bool live;
+};
+#define LASSO_SHARED_NONE {NULL, false}
+
+/*
+ * Makes an interner without texts, and its first handle. Codes begin at 0. If the handle holds one, that one is freed
+ * after the new one was made. Hashes have the fixed seed of lasso_new.
+ *
+ * Returns LASSO_DONE, or LASSO_NO_MEMORY, and then the handle is as it was.
+ */
+uint32_t lasso_shared_new(struct lasso_shared *shared);
+
+/*
+ * Makes another handle of the same interner in other, for another thread. If other holds one, that one is freed after
+ * the new one was made.
+ *
+ * shared, other       two different handles.
+ *
+ * Returns LASSO_NO_INTERNER if *shared holds none; LASSO_NO_MEMORY, also if there are too many handles; else LASSO_DONE.
+ * If it is not LASSO_DONE, other holds what it held.
+ */
+uint32_t lasso_shared_join(struct lasso_shared *shared, struct lasso_shared *other);
+
+/*
+ * Interns a text, and appends a copy of it first if it is absent. *code is its code for every handle of the interner,
+ * as long as there is one. Copies are in buckets of 64 KiB, one a handle, which no limit counts; a longer text has one
+ * of just its size. After 4,096 calls a handle keeps 128 KiB of hints, by which it finds texts again without a lock.
+ *
+ * Returns LASSO_NOT_UTF8; LASSO_NO_INTERNER; LASSO_BUSY; for an absent text LASSO_NO_CODE_LEFT or LASSO_NO_MEMORY; else
+ * LASSO_DONE.
+ */
+uint32_t lasso_shared_intern(struct lasso_shared *shared, const uint8_t *text, size_t text_length, uint32_t *code);
+
+/*
+ * Looks up a text, and appends nothing: *code is its code.
+ *
+ * Returns LASSO_NOT_UTF8, LASSO_NO_INTERNER, LASSO_BUSY, LASSO_NO_SUCH_TEXT, else LASSO_DONE.
+ */
+uint32_t lasso_shared_get(struct lasso_shared *shared, const uint8_t *text, size_t text_length, uint32_t *code);
+
+/*
+ * Writes the text of a code, cut to text_length bytes, without an end mark. *whole is the number of bytes of the
+ * whole text.
+ *
+ * Returns LASSO_NO_INTERNER, LASSO_NO_SUCH_CODE, else LASSO_DONE, also if the text is cut.
+ */
+uint32_t lasso_shared_resolve(struct lasso_shared *shared, uint32_t code, uint8_t *text, size_t text_length, size_t *whole);
+
+/*
+ * Has the handle see the list as it is, with the texts of every thread up to now: lasso_shared_text lends these.
+ *
+ * Returns LASSO_NO_INTERNER, else LASSO_DONE.
+ */
+uint32_t lasso_shared_see(struct lasso_shared *shared);
+
+/*
+ * Lends the text of a code, of the list that the handle has seen last: when lasso_shared_new or lasso_shared_join made
+ * it, or in lasso_shared_see. lasso_shared_text_now lends the text of any code. A text stays, for every thread, until
+ * the last handle of the interner is freed. (What is proved covers it until the next call with its handle.)
+ *
+ * text                the caller's, written: one struct, which before is LASSO_NO_TEXT or a text that still lasts.
+ *
+ * Returns LASSO_NO_INTERNER; LASSO_NO_SUCH_CODE, also if the handle has not seen the text yet; else LASSO_DONE.
+ */
+uint32_t lasso_shared_text(struct lasso_shared *shared, uint32_t code, struct lasso_text *text);
+
+/* How many texts the interner has. 0 without an interner. */
+size_t lasso_shared_len(struct lasso_shared *shared);
+
+/*
+ * Frees the handle, and the interner with the last of its handles. The handle is then as LASSO_SHARED_NONE, so a second
+ * call does nothing.
+ */
+void lasso_shared_free(struct lasso_shared *shared);
+
+/*
  * Writes what a status means, in ASCII without an end mark, cut to text_length bytes. Returns the number of bytes of
  * the whole text. A number that is no status gives "not a status".
  *
@@ -505,8 +611,8 @@ size_t lasso_status_text(uint32_t status, uint8_t *text, size_t text_length);
 uint32_t lasso_version(void);
 
 /*
- * The same calls, with NULL allowed for an array of no elements, and for the handle of lasso_free. The library itself
- * never gets NULL.
+ * The same calls, with NULL allowed for an array of no elements, and for the handle of lasso_free and of
+ * lasso_shared_free. The library itself never gets NULL.
  */
 static inline const void *lasso_read_from(const void *array, size_t length)
 {
@@ -737,6 +843,60 @@ static inline uint32_t lasso_dictionary_large_inline(struct lasso *lasso, size_t
                                   report);
 }
 #define lasso_dictionary_large lasso_dictionary_large_inline
+
+static inline uint32_t lasso_shared_intern_inline(struct lasso_shared *shared, const uint8_t *text, size_t text_length, uint32_t *code)
+{
+    return lasso_shared_intern(shared, (const uint8_t *)lasso_read_from(text, text_length), text_length, code);
+}
+#define lasso_shared_intern lasso_shared_intern_inline
+
+static inline uint32_t lasso_shared_get_inline(struct lasso_shared *shared, const uint8_t *text, size_t text_length, uint32_t *code)
+{
+    return lasso_shared_get(shared, (const uint8_t *)lasso_read_from(text, text_length), text_length, code);
+}
+#define lasso_shared_get lasso_shared_get_inline
+
+static inline uint32_t lasso_shared_resolve_inline(struct lasso_shared *shared, uint32_t code,
+                                                   uint8_t *text, size_t text_length, size_t *whole)
+{
+    return lasso_shared_resolve(shared, code, (uint8_t *)lasso_write_to(text, text_length), text_length, whole);
+}
+#define lasso_shared_resolve lasso_shared_resolve_inline
+
+static inline void lasso_shared_free_inline(struct lasso_shared *shared)
+{
+    if (shared != NULL)
+        lasso_shared_free(shared);
+}
+#define lasso_shared_free lasso_shared_free_inline
+
+/* lasso_shared_intern, again and again until it is not LASSO_BUSY. In between the thread lets others run. */
+static inline uint32_t lasso_shared_intern_wait(struct lasso_shared *shared, const uint8_t *text, size_t text_length, uint32_t *code)
+{
+    uint32_t status;
+    while ((status = lasso_shared_intern(shared, text, text_length, code)) == LASSO_BUSY)
+        sched_yield();
+    return status;
+}
+
+/* lasso_shared_get, again and again until it is not LASSO_BUSY. In between the thread lets others run. */
+static inline uint32_t lasso_shared_get_wait(struct lasso_shared *shared, const uint8_t *text, size_t text_length, uint32_t *code)
+{
+    uint32_t status;
+    while ((status = lasso_shared_get(shared, text, text_length, code)) == LASSO_BUSY)
+        sched_yield();
+    return status;
+}
+
+/* lasso_shared_text of the list as it is: it sees the list again if the handle has not seen the text yet. */
+static inline uint32_t lasso_shared_text_now(struct lasso_shared *shared, uint32_t code, struct lasso_text *text)
+{
+    uint32_t status = lasso_shared_text(shared, code, text);
+    if (status != LASSO_NO_SUCH_CODE)
+        return status;
+    lasso_shared_see(shared);
+    return lasso_shared_text(shared, code, text);
+}
 
 #ifdef __cplusplus
 }

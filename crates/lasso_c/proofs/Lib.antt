@@ -14,3 +14,4 @@ pub mod NullsBack
 pub mod Ascii
 pub mod Seeds
 pub mod SeededLaws
+pub mod SharedSeats

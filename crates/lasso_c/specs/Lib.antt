@@ -11,3 +11,7 @@ pub mod Lending
 pub mod Seeds
 pub mod Seeded
 pub mod Ascii
+pub mod Passes
+pub mod Members
+pub mod SharedHeld
+pub mod SharedLending

@@ -152,6 +152,7 @@ pub(crate) fn message_of(status: u32) -> &'static str
         NO_INTERNER => "there is no interner",
         NO_SUCH_TEXT => "the interner does not have the text",
         BITMAP_TOO_SHORT => "a bitmap has no bit for a row",
+        BUSY => "another thread is in the way",
         _ => "not a status",
     }
 }

@@ -46,6 +46,9 @@ mod seed;
 #[cfg(test)]
 mod seed_tests;
 pub mod seeded;
+pub mod shared;
+#[cfg(test)]
+mod shared_tests;
 pub mod status;
 #[cfg(test)]
 mod tests;

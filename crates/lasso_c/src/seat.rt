@@ -16,7 +16,7 @@ use std::marker::Model;
 
 // The memory of a box, without the box.
 pub(crate) struct Block<T> {
-    at: *mut T,
+    pub(crate) at: *mut T,
     ghost value: { T },
 }
 

@@ -30,3 +30,5 @@ pub const NO_INTERNER: u32 = 12;
 pub const NO_SUCH_TEXT: u32 = 13;
 /// A bitmap has no bit for a row.
 pub const BITMAP_TOO_SHORT: u32 = 14;
+/// Another thread is inside a step of the interner that handles share: try again.
+pub const BUSY: u32 = 15;

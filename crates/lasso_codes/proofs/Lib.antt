@@ -30,3 +30,5 @@ pub mod MergedLines
 pub mod Failing
 pub mod Lacking
 pub mod Verbs
+pub mod NearestVerbs
+pub mod AtEnd

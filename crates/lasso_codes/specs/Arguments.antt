@@ -4,6 +4,7 @@ use Rattle.lasso_parts.specs.Texts.{Text}
 use Rattle.lasso_input.specs.Numbers.{digits_value}
 use Rattle.lasso_input.specs.Workers.{most_workers}
 use Rattle.lasso_columns.specs.Rows.{word_of}
+use Rattle.lasso_codes.specs.Shown.{shown_text}
 use Rattle.lasso_codes.specs.declared.arguments.Verb.{Verb}
 use Rattle.lasso_codes.specs.declared.arguments.Verb.TheVariants.{Counts, Decode, Dictionary, Distinct, Encode, Join, Merge, Recode}
 use Rattle.lasso_codes.specs.declared.arguments.Settings.{Settings}
@@ -15,7 +16,7 @@ use Rattle.lasso_codes.specs.declared.options.Reading.{Reading}
 use Rattle.lasso_codes.specs.declared.options.Meaning.{Meaning}
 use Rattle.lasso_codes.specs.declared.options.Meaning.TheVariants.{AsksHelp, IsBinary, IsQuiet, IsUtf8Only, Wants, Has, Nothing}
 use Rattle.lasso_codes.specs.declared.arguments.ArgumentError.{ArgumentError}
-use Rattle.lasso_codes.specs.declared.arguments.ArgumentError.TheVariants.{NoVerb, NotVerb, NotOption, NoNumber, NoWord, NotNumber, NoWorkers, PastWorkers, NotText}
+use Rattle.lasso_codes.specs.declared.arguments.ArgumentError.TheVariants.{NoVerb, NotVerb, NotOption, NoNumber, NoWord, NotNumber, FedNull, NoWorkers, PastWorkers, NotText}
 
 -- the factor that the last byte stands for: 1024 for K, and its square and cube for M and G
 abbrev pub unit_of : Option ℕ → ℕ
@@ -40,19 +41,29 @@ abbrev pub no_verb : List ℕ
 no_verb = codes "no verb (see lasso_codes --help)"
 
 abbrev pub not_verb : Text → List ℕ
-not_verb word = word ++ codes ": no such verb"
+not_verb word = shown_text word ++ codes ": no such verb"
 
+abbrev pub begins_with_dash : Text → Bool
+begins_with_dash [] = false
+begins_with_dash (b ∷ bytes) = b == 45
+
+-- a word that doesn't look like an option may be a file's name
 abbrev pub not_option : Text → List ℕ
-not_option word = word ++ codes ": not an option of this verb"
+not_option word =
+    if begins_with_dash word then shown_text word ++ codes ": not an option of this verb"
+    else shown_text word ++ (codes ": not an option of this verb, which reads standard input (< " ++ (shown_text word ++ codes ")"))
 
 abbrev pub no_number : Text → List ℕ
-no_number word = word ++ codes ": a number is missing"
+no_number word = shown_text word ++ codes ": a number is missing"
 
 abbrev pub no_word : Text → List ℕ
-no_word word = word ++ codes ": a word is missing"
+no_word word = shown_text word ++ codes ": a word is missing"
 
 abbrev pub not_number : Text → List ℕ
-not_number word = word ++ codes ": not a number below 2^64"
+not_number word = shown_text word ++ codes ": not a number below 2^64"
+
+abbrev pub fed_null : List ℕ
+fed_null = codes "--null: a null has no line feed"
 
 abbrev pub no_workers : List ℕ
 no_workers = codes "--workers: 0 is below 1"
@@ -68,6 +79,7 @@ argument_text (NotOption word) = not_option word.now
 argument_text (NoNumber word) = no_number word.now
 argument_text (NoWord word) = no_word word.now
 argument_text (NotNumber word) = not_number word.now
+argument_text FedNull = fed_null
 argument_text NoWorkers = no_workers
 argument_text (PastWorkers count) = past_workers count
 argument_text NotText = codes "an argument is not UTF-8"
@@ -175,11 +187,16 @@ abbrev pub with_workers : Settings → Option Text → Result ℕ (List ℕ) →
 with_workers settings null (Ok n) = Ok (record settings { workers = n }, null)
 with_workers settings null (Err message) = Err message
 
+-- the settings and the null with this word, whose first line feed is at this position
+abbrev pub with_null : Settings → Text → Option ℕ → Result (Settings × Option Text) (List ℕ)
+with_null settings value None = Ok (settings, Some value)
+with_null settings value (Some at) = Err fed_null
+
 -- the settings and the null with this value of the setting; or the message, which names the word
 abbrev pub value_of : Settings → Option Text → Setting → Text → Text → Result (Settings × Option Text) (List ℕ)
 value_of settings null Limit value word = on_number (number_of value) word (λ n. Ok (record settings { limit = n }, null))
 value_of settings null Top value word = on_number (number_of value) word (λ n. Ok (record settings { top = n }, null))
-value_of settings null Null value word = Ok (settings, Some value)
+value_of settings null Null value word = with_null settings value (position (λ b. b == 10) value)
 value_of settings null Workers value word = on_number (number_of value) word (λ n. with_workers settings null (workers_of n))
 
 -- the message for an option without a value
@@ -242,6 +259,17 @@ ReadsValue value result =
     (λ error. value ≡ Err (argument_text error))
 
 -- ---- verbs
+
+-- the word that names the verb
+abbrev pub name_of : Verb → List ℕ
+name_of Counts = codes "counts"
+name_of Decode = codes "decode"
+name_of Dictionary = codes "dictionary"
+name_of Distinct = codes "distinct"
+name_of Encode = codes "encode"
+name_of Join = codes "join"
+name_of Merge = codes "merge"
+name_of Recode = codes "recode"
 
 abbrev pub verb_of : Text → Option Verb
 verb_of word =

@@ -1,6 +1,7 @@
 pub mod Tables
 pub mod Views
 pub mod Errors
+pub mod Causes
 pub mod Streams
 pub mod Limits
 pub mod Distinct
@@ -8,7 +9,9 @@ pub mod Counts
 pub mod Columns
 pub mod Encode
 pub mod EntryParts
+pub mod Shown
 pub mod Arguments
+pub mod Nearest
 pub mod Endings
 pub mod Reading
 pub mod Decode

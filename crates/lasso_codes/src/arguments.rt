@@ -1,9 +1,11 @@
 //! The program's arguments: a verb and its options.
 ghost use Rattle.std.specs.Prelude.{◌≡◌, Some, Ok, Err, MatchResult, map, string_bytes};
+ghost use Rattle.std.specs.Fmt.{WritesOnOk};
 ghost use Rattle.lasso_columns.specs.Rows.{word_of};
-ghost use Rattle.lasso_codes.specs.Arguments.{argument_text, command_of, verb_of};
+ghost use Rattle.lasso_codes.specs.Arguments.{argument_text, begins_with_dash, command_of, name_of, not_option, verb_of};
 
 use crate::options::options_of;
+use crate::shown::Shown;
 use std::fmt;
 
 /// The verbs: what the program does with its input.
@@ -25,6 +27,36 @@ pub enum Verb {
     Merge,
     /// Writes the entries of columns by the codes of a dictionary.
     Recode,
+}
+
+/// All verbs.
+pub const VERBS: [Verb; 8] = [
+    Verb::Counts,
+    Verb::Decode,
+    Verb::Dictionary,
+    Verb::Distinct,
+    Verb::Encode,
+    Verb::Join,
+    Verb::Merge,
+    Verb::Recode,
+];
+
+impl Verb {
+    /// The word that names the verb.
+    pub fn name(&self) -> &'static str
+        ensures { result.now ≡ name_of self.now }
+    {
+        match self {
+            Verb::Counts => "counts",
+            Verb::Decode => "decode",
+            Verb::Dictionary => "dictionary",
+            Verb::Distinct => "distinct",
+            Verb::Encode => "encode",
+            Verb::Join => "join",
+            Verb::Merge => "merge",
+            Verb::Recode => "recode",
+        }
+    }
 }
 
 /// The values of a verb's options.
@@ -73,7 +105,7 @@ pub enum ArgumentError<'a> {
     NoVerb,
     /// The first word is neither a verb nor `--help` or `--version`.
     NotVerb(&'a str),
-    /// The word is not an option of the verb.
+    /// The word is not an option of the verb. It may be a file's name.
     NotOption(&'a str),
     /// The option is the last word: its number is missing.
     NoNumber(&'a str),
@@ -81,6 +113,8 @@ pub enum ArgumentError<'a> {
     NoWord(&'a str),
     /// The value is not a number, or is not below 2^64.
     NotNumber(&'a str),
+    /// The word of a null has a line feed.
+    FedNull,
     /// The number of workers is 0.
     NoWorkers,
     /// The number of workers is this one, which is more than 64.
@@ -95,15 +129,43 @@ impl fmt::Display for ArgumentError<'_> {
     fn fmt<W: fmt::Write>(&self, f: &mut fmt::Formatter<W>) -> fmt::Result {
         match self {
             ArgumentError::NoVerb => write!(f, "no verb (see lasso_codes --help)"),
-            ArgumentError::NotVerb(word) => write!(f, "{word}: no such verb"),
-            ArgumentError::NotOption(word) => write!(f, "{word}: not an option of this verb"),
-            ArgumentError::NoNumber(word) => write!(f, "{word}: a number is missing"),
-            ArgumentError::NoWord(word) => write!(f, "{word}: a word is missing"),
-            ArgumentError::NotNumber(word) => write!(f, "{word}: not a number below 2^64"),
+            ArgumentError::NotVerb(word) => write!(f, "{}: no such verb", Shown(*word)),
+            ArgumentError::NotOption(word) => write_not_option(f, *word),
+            ArgumentError::NoNumber(word) => write!(f, "{}: a number is missing", Shown(*word)),
+            ArgumentError::NoWord(word) => write!(f, "{}: a word is missing", Shown(*word)),
+            ArgumentError::NotNumber(word) => {
+                write!(f, "{}: not a number below 2^64", Shown(*word))
+            }
+            ArgumentError::FedNull => write!(f, "--null: a null has no line feed"),
             ArgumentError::NoWorkers => write!(f, "--workers: 0 is below 1"),
             ArgumentError::PastWorkers(count) => write!(f, "--workers: {count} is past 64"),
             ArgumentError::NotText => write!(f, "an argument is not UTF-8"),
         }
+    }
+}
+
+// Writes that the word is no option. If it doesn't look like one, it also says where the input comes from.
+fn write_not_option<W: fmt::Write>(f: &mut fmt::Formatter<W>, word: &str) -> fmt::Result
+    ensures { WritesOnOk W.write_str_gives f.old result (not_option word.now) f.new }
+{
+    let word = Shown(word);
+    if begins_with_dash(word.0) {
+        write!(f, "{word}: not an option of this verb")
+    } else {
+        write!(
+            f,
+            "{word}: not an option of this verb, which reads standard input (< {word})"
+        )
+    }
+}
+
+// Whether the word begins with a dash, as options do.
+fn begins_with_dash(word: &str) -> bool
+    ensures { result ≡ begins_with_dash word.now }
+{
+    match word.as_bytes() {
+        [b'-', ..] => true,
+        _ => false,
     }
 }
 

@@ -3,7 +3,7 @@ ghost use Rattle.std.specs.Prelude.{◌≡◌, Some};
 ghost use Rattle.std.specs.Process.{exit_status};
 ghost use Rattle.lasso_codes.specs.Endings.{ending_status, ending_text, is_told};
 
-use crate::arguments::ArgumentError;
+use crate::arguments::{ArgumentError, Verb};
 use crate::error::RunError;
 use crate::program::Ran;
 use std::fmt;
@@ -14,8 +14,8 @@ use std::process::ExitCode;
 pub enum Ending<'a> {
     /// Out of memory for the arguments.
     NoMemory,
-    /// The arguments are refused.
-    Refused(ArgumentError<'a>),
+    /// The arguments are refused. The verb may be the one that was meant.
+    Refused(ArgumentError<'a>, Option<Verb>),
     /// A request was run.
     Ran(Ran<'a>),
 }
@@ -26,7 +26,7 @@ impl Ending<'_> {
         ensures { result ≡ is_told self.now }
     {
         match self {
-            Ending::NoMemory | Ending::Refused(_) => true,
+            Ending::NoMemory | Ending::Refused(_, _) => true,
             Ending::Ran(ran) => match ran.ended() {
                 Ok(()) | Err(RunError::ReaderGone) => false,
                 Err(_) => true,
@@ -40,7 +40,7 @@ impl Ending<'_> {
     {
         match self {
             Ending::NoMemory => 1,
-            Ending::Refused(_) => 3,
+            Ending::Refused(_, _) => 3,
             Ending::Ran(ran) => match ran.ended() {
                 Ok(()) => 0,
                 Err(error) => error.status(),
@@ -55,10 +55,15 @@ impl fmt::Display for Ending<'_> {
     fn fmt<W: fmt::Write>(&self, f: &mut fmt::Formatter<W>) -> fmt::Result {
         match self {
             Ending::NoMemory => write!(f, "out of memory"),
-            Ending::Refused(error) => write!(f, "{error}"),
+            Ending::Refused(error, None) => write!(f, "{error}"),
+            Ending::Refused(error, Some(verb)) => write!(
+                f,
+                "{error}; did you mean {}?",
+                verb.name()
+            ),
             Ending::Ran(ran) => match ran.ended() {
                 Ok(()) => write!(f, "done"),
-                Err(error) => write!(f, "{error}"),
+                Err(error) => write!(f, "{error}{}", ran.cause()),
             },
         }
     }

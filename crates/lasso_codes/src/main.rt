@@ -9,6 +9,7 @@ ghost use Rattle.lasso_codes.specs.Endings.{IsRefusal, IsRunOf};
 ghost use Rattle.lasso_codes.specs.declared.arguments.Command.{Command};
 
 pub mod arguments;
+pub mod cause;
 pub mod columns;
 pub mod counts;
 pub mod decode;
@@ -19,6 +20,7 @@ pub mod ending;
 pub mod entries;
 pub mod entry_parts;
 pub mod error;
+pub mod fused;
 pub mod help;
 pub mod input;
 pub mod interner;
@@ -26,6 +28,7 @@ pub mod laws;
 pub mod line_table;
 pub mod lines;
 pub mod merge;
+pub mod nearest;
 pub mod numbers;
 pub mod options;
 pub mod output;
@@ -34,15 +37,18 @@ pub mod progress;
 pub mod ranking;
 pub mod reading;
 pub mod recode;
+pub mod shown;
 pub mod streams;
 
-use arguments::{ArgumentError, Request, command_of};
+use arguments::{ArgumentError, Request, Verb, command_of};
 use ending::{Ending, end};
 use error::RunError;
+use fused::Fused;
 use lasso_parts::hasher::TextState;
+use nearest::nearest_verb;
 use program::{BUFFER_SIZE, Ran, run_with_hasher};
 use progress::{Terminals, Watched, shows_progress};
-use std::alloc::AllocError;
+use std::alloc::{AllocError, Global};
 use std::io::{BufReader, BufWriter, ErrorKind, IsTerminal};
 use std::process::ExitCode;
 use std::rt::{Clock, Env};
@@ -81,7 +87,15 @@ fn run_words<'a, R: AllocGlobal + Input + Print + Eprint + Clock + Threads + Syn
 {
     match command_of(words) {
         Ok(request) => Ending::Ran(run_program(rt, &request, terminals, hasher)),
-        Err(error) => Ending::Refused(error),
+        Err(error) => Ending::Refused(error, hint(rt.alloc(), error)),
+    }
+}
+
+// The verb that may have been meant, if the word of a verb is wrong.
+fn hint(alloc: Global, error: ArgumentError<'_>) -> Option<Verb> {
+    match error {
+        ArgumentError::NotVerb(word) => nearest_verb(alloc, word),
+        _ => None,
     }
 }
 
@@ -95,7 +109,7 @@ fn run_program<'a, R: AllocGlobal + Input + Print + Eprint + Clock + Threads + S
     ensures { result.request ≡ request.now }
 {
     let is_shown = shows_progress(request.command, terminals);
-    let watched = Watched::new(rt.reader(), rt, is_shown);
+    let watched = Fused::new(Watched::new(rt.reader(), rt, is_shown));
     let Ok(reader) = BufReader::with_capacity(rt.alloc(), BUFFER_SIZE, watched) else {
         return Ran::no_memory(request);
     };
@@ -105,7 +119,7 @@ fn run_program<'a, R: AllocGlobal + Input + Print + Eprint + Clock + Threads + S
     let mut input = streams::Input::new(reader);
     let mut output = streams::Output::new(writer);
     let ran = run_with_hasher(rt, request, &mut input, &mut output, hasher);
-    input.into_inner().wipe();
+    input.into_inner().into_inner().wipe();
     // Dropping the writer would write what a failed write left in the buffer. Nothing is tried again.
     let (_writer, _left) = output.into_parts();
     ran
@@ -116,7 +130,7 @@ fn argument_words<R: AllocGlobal + Env>(rt: &R) -> Result<Vec<String>, Ending<'s
     let mut all = match env::args(rt) {
         Ok(all) => all,
         Err(error) if error.kind() == ErrorKind::OutOfMemory => return Err(no_memory(AllocError)),
-        Err(_) => return Err(Ending::Refused(ArgumentError::NotText)),
+        Err(_) => return Err(Ending::Refused(ArgumentError::NotText, None)),
     };
     let _program = all.next();
     all.collect(rt.alloc()).map_err(no_memory)

@@ -1,8 +1,8 @@
 //! The options of a verb.
-ghost use Rattle.std.specs.Prelude.{◌≡◌, ◌+◌, ◌≤◌, ◌∷◌, List, None, Some, Ok, Err, MatchResult, drop, length, map, string_bytes};
+ghost use Rattle.std.specs.Prelude.{◌≡◌, ◌==◌, ◌+◌, ◌≤◌, ◌∷◌, List, None, Some, Ok, Err, IsSome, MatchResult, drop, length, map, position, string_bytes};
 ghost use Rattle.lasso_parts.specs.Texts.{Text};
 ghost use Rattle.lasso_columns.specs.Rows.{word_of};
-ghost use Rattle.lasso_codes.specs.Arguments.{IsWithin, argument_text, is_binary, meaning_of, no_value, not_number, number_of, options_of, setting_of, takes_binary, takes_null, takes_workers, unset, value_of, workers_of, asked_after, ReadsValue, ReadsWord};
+ghost use Rattle.lasso_codes.specs.Arguments.{IsWithin, argument_text, fed_null, is_binary, meaning_of, no_value, not_number, number_of, options_of, setting_of, takes_binary, takes_null, takes_workers, unset, value_of, workers_of, asked_after, ReadsValue, ReadsWord};
 
 use crate::arguments::{ArgumentError, Command, Request, Settings, Verb};
 use crate::numbers::parse_number;
@@ -231,7 +231,7 @@ fn with_value<'a>(
         Setting::Limit => settings.limit = number_in(value, word)?,
         Setting::Top => settings.top = number_in(value, word)?,
         Setting::Workers => settings.workers = workers_in(number_in(value, word)?)?,
-        Setting::Null => null = Some(value),
+        Setting::Null => null = Some(null_in(value)?),
     }
     Ok(Some(Reading {
         settings,
@@ -249,6 +249,18 @@ fn number_in<'a>(value: &[u8], word: &'a str) -> Result<usize, ArgumentError<'a>
     match parse_number(value) {
         Some(number) => Ok(number),
         None => Err(ArgumentError::NotNumber(word)),
+    }
+}
+
+// Returns the value if it may be the word of a null: if it has no line feed, as lines have none.
+fn null_in(value: &[u8]) -> Result<&[u8], ArgumentError<'static>>
+    ensures { MatchResult result
+        (λ word. (word.now ≡ value.now) × (position (λ b. b == 10) value.now ≡ None))
+        (λ error. IsSome (position (λ b. b == 10) value.now) × (argument_text error ≡ fed_null)) }
+{
+    match memchr(b'\n', value) {
+        Some(_) => Err(ArgumentError::FedNull),
+        None => Ok(value),
     }
 }
 

@@ -1,6 +1,7 @@
 //! The program without its streams: runs a request over a reader and a writer.
-ghost use Rattle.std.specs.Prelude.{◌≡◌, ◌+◌, [], Err, IfErr};
+ghost use Rattle.std.specs.Prelude.{◌≡◌, ◌+◌, [], None, Err, IfErr};
 ghost use Rattle.lasso_columns.specs.Rows.{word_of};
+ghost use Rattle.lasso_codes.specs.Causes.{cause_of};
 ghost use Rattle.lasso_codes.specs.Counts.{CountsEnds};
 ghost use Rattle.lasso_codes.specs.Decode.{DecodeEnds};
 ghost use Rattle.lasso_codes.specs.Distinct.{DistinctEnds};
@@ -18,6 +19,7 @@ ghost use Rattle.lasso_codes.specs.declared.arguments.Verb.{Verb};
 ghost use Rattle.lasso_codes.specs.declared.arguments.Verb.TheVariants.{Counts, Decode, Dictionary, Distinct, Encode, Join, Merge, Recode};
 
 use crate::arguments::{Command, Request, Verb};
+use crate::cause::Cause;
 use crate::counts::counts;
 use crate::decode::decode;
 use crate::dictionary::dictionary;
@@ -32,6 +34,7 @@ use crate::recode::{join, recode};
 use crate::streams::{Input, Output};
 use lasso_parts::hasher::TextState;
 use lasso_parts::util::MemoryLimits;
+use std::io;
 use std::io::{Read, Write};
 use std::thread::Threads;
 
@@ -43,6 +46,8 @@ pub const BUFFER_SIZE: usize = 65536;
 pub struct Ran<'a> {
     request: Request<'a>,
     ended: Result<(), RunError>,
+    // The error of the read or write at which it ended.
+    cause: Option<io::Error>,
 }
 
 impl<'a> Ran<'a> {
@@ -50,10 +55,12 @@ impl<'a> Ran<'a> {
     pub fn no_memory(request: &Request<'a>) -> Self
         ensures request { result.request ≡ request.now }
         ensures ended { result.ended ≡ Err (RunError.Line (Refused 0 FailedAllocation)) }
+        ensures cause { result.cause ≡ None }
     {
         Ran {
             request: *request,
             ended: Err(RunError::no_memory(0)),
+            cause: None,
         }
     }
 
@@ -63,9 +70,16 @@ impl<'a> Ran<'a> {
     {
         &self.ended
     }
+
+    /// The error of the read or write at which the run ended, if it ended so.
+    pub fn cause(&self) -> Cause
+        ensures { result.0 ≡ self.now.cause }
+    {
+        Cause(self.cause)
+    }
 }
 
-/// Runs the request as `run_request` does, with the fixed seed.
+/// Runs the request as `run_request` does, with the fixed seed, and keeps the error of the call at which it ended.
 pub fn run<'a, H: AllocGlobal + Threads + Sync, R: Read + Drop, W: Write + Drop>(
     rt: &H,
     request: &Request<'a>,
@@ -84,6 +98,7 @@ pub fn run<'a, H: AllocGlobal + Threads + Sync, R: Read + Drop, W: Write + Drop>
     ensures gone { ¬ (result.ended ≡ Err RunError.WriteFailed) → output.new.gone ≡ output.old.gone + gone_readers result.ended }
     ensures write_failed { ReportsFailure result.ended input.old input.new output.old output.new
         (RequestEnds request.now.command (word_of request.now.null) input.new.left) }
+    ensures cause { result.cause ≡ cause_of result.ended input.new output.new }
 {
     run_with_hasher(rt, request, input, output, TextState::new())
 }
@@ -108,11 +123,29 @@ pub fn run_with_hasher<'a, H: AllocGlobal + Threads + Sync, R: Read + Drop, W: W
     ensures gone { ¬ (result.ended ≡ Err RunError.WriteFailed) → output.new.gone ≡ output.old.gone + gone_readers result.ended }
     ensures write_failed { ReportsFailure result.ended input.old input.new output.old output.new
         (RequestEnds request.now.command (word_of request.now.null) input.new.left) }
+    ensures cause { result.cause ≡ cause_of result.ended input.new output.new }
 {
     let ended = run_request(rt, request, input, output, hasher);
+    let cause = cause_of(&ended, input, output);
     Ran {
         request: *request,
         ended,
+        cause,
+    }
+}
+
+// The error of the call at which a run ended: the last failed one of the reader or of the writer.
+fn cause_of<R: Read + Drop, W: Write + Drop>(
+    ended: &Result<(), RunError>,
+    input: &Input<R>,
+    output: &Output<W>,
+) -> Option<io::Error>
+    ensures { result ≡ cause_of ended.now input.now output.now }
+{
+    match ended {
+        Err(RunError::ReadFailed) => input.cause(),
+        Err(RunError::WriteFailed) => output.cause(),
+        _ => None,
     }
 }
 

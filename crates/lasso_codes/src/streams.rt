@@ -1,8 +1,8 @@
-//! A buffered reader and a buffered writer that count their failed calls.
+//! A buffered reader and a buffered writer that count their failed calls, and keep the error of the last one.
 //!
 //! No contract can say that a call of the inner reader or writer returned an error. So each of the two types
 //! counts the errors that it gets, in one method, `failed`, and only the methods of this file can call it: the
-//! others see the counts by their contracts, and can't change them.
+//! others see the counts and the error by their contracts, and can't change them.
 ghost use Rattle.std.specs.Prelude.{◌≡◌, ◌+◌, ◌<◌, ◌≤◌, ℕ, All, List, ◌++◌, None, Some, IfOk, Err, IfErr, IfSome, OnOk, OnErr, [], drop, length, vec_len};
 ghost use Rattle.std.specs.Io.{WritesAtMost};
 ghost use Rattle.std.specs.Io.BufRead.{DropsThrough, take_through};
@@ -39,6 +39,8 @@ use std::thread::Threads;
 pub struct Input<R: Read + Drop> {
     inner: BufReader<R>,
     failures: Failures,
+    // The error of the last failed read.
+    cause: Option<io::Error>,
 }
 
 impl<R: Read + Drop> Model for Input<R> {
@@ -47,7 +49,12 @@ impl<R: Read + Drop> Model for Input<R> {
 
     ghost Value = { InputView };
 
-    ghost view = { λ r. record { at_hand = reader_buffer r.inner; left = reader_remaining R.remaining r.inner; failures = r.failures.count } };
+    ghost view = { λ r. record {
+      at_hand = reader_buffer r.inner;
+      left = reader_remaining R.remaining r.inner;
+      failures = r.failures.count;
+      cause = r.cause;
+    } };
 }
 
 impl<R: Read + Drop> Input<R> {
@@ -56,18 +63,31 @@ impl<R: Read + Drop> Input<R> {
         ensures at_hand { result.at_hand ≡ reader_buffer inner }
         ensures left { result.left ≡ reader_remaining R.remaining inner }
         ensures failures { result.failures ≡ 0 }
+        ensures cause { result.cause ≡ None }
     {
         Input {
             inner,
             failures: Failures::none(),
+            cause: None,
         }
+    }
+
+    /// The error of the last failed read, if one failed.
+    pub fn cause(&self) -> Option<io::Error>
+        ensures { result ≡ self.now.cause }
+    {
+        self.cause
     }
 
     /// Returns the inner reader. The bytes in the buffer are lost.
     pub fn into_inner(self) -> R
         ensures { (bytes : List ℕ) → self.left ≡ Some bytes → prepend_known self.at_hand (R.remaining result) ≡ Some bytes }
     {
-        let Input { inner, failures: _ } = self;
+        let Input {
+            inner,
+            failures: _,
+            cause: _,
+        } = self;
         inner.into_inner()
     }
 
@@ -215,7 +235,7 @@ impl<R: Read + Drop> Input<R> {
     {
         match read_byte(&mut self.inner) {
             Ok(byte) => Ok(byte),
-            Err(_) => Err(self.failed()),
+            Err(error) => Err(self.failed(&error)),
         }
     }
 
@@ -226,21 +246,24 @@ impl<R: Read + Drop> Input<R> {
         ensures read { ¬ (error_kind error.now ≡ ErrorKind.OutOfMemory) → result ≡ RunError.ReadFailed }
         ensures memory { error_kind error.now ≡ ErrorKind.OutOfMemory → result ≡ RunError.Line (Refused number FailedAllocation) }
         ensures reads { self.new.failures ≡ self.old.failures + failed_reads {X = ℕ} (Err result) }
+        ensures cause { result ≡ RunError.ReadFailed → self.new.cause ≡ Some error.now }
         ensures left { self.new.left ≡ self.old.left }
     {
         if error.kind() == ErrorKind::OutOfMemory {
             return RunError::no_memory(number);
         }
-        self.failed()
+        self.failed(error)
     }
 
-    // Counts a failed read, and returns its error. It is called where the inner reader returned an error.
-    fn failed(&mut self) -> RunError
+    // Counts a read that failed with this error, keeps the error, and returns that of the run.
+    fn failed(&mut self, error: &io::Error) -> RunError
         ensures error { result ≡ RunError.ReadFailed }
         ensures counted { self.new.failures ≡ self.old.failures + 1 }
+        ensures cause { self.new.cause ≡ Some error.now }
         ensures left { self.new.left ≡ self.old.left }
     {
         self.failures = self.failures.and_one();
+        self.cause = Some(*error);
         RunError::ReadFailed
     }
 }
@@ -273,6 +296,8 @@ pub struct Output<W: Write + Drop> {
     inner: BufWriter<W>,
     failures: Failures,
     gone: Failures,
+    // The error of the last failed call.
+    cause: Option<io::Error>,
 }
 
 impl<W: Write + Drop> Model for Output<W> {
@@ -281,7 +306,13 @@ impl<W: Write + Drop> Model for Output<W> {
 
     ghost Value = { OutputView };
 
-    ghost view = { λ w. record { written = writer_contents W.contents w.inner; pending = writer_buffer w.inner; failures = w.failures.count; gone = w.gone.count } };
+    ghost view = { λ w. record {
+      written = writer_contents W.contents w.inner;
+      pending = writer_buffer w.inner;
+      failures = w.failures.count;
+      gone = w.gone.count;
+      cause = w.cause;
+    } };
 }
 
 impl<W: Write + Drop> Output<W> {
@@ -291,12 +322,21 @@ impl<W: Write + Drop> Output<W> {
         ensures pending { result.pending ≡ writer_buffer inner }
         ensures failures { result.failures ≡ 0 }
         ensures gone { result.gone ≡ 0 }
+        ensures cause { result.cause ≡ None }
     {
         Output {
             inner,
             failures: Failures::none(),
             gone: Failures::none(),
+            cause: None,
         }
+    }
+
+    /// The error of the last failed call, if one failed.
+    pub fn cause(&self) -> Option<io::Error>
+        ensures { result ≡ self.now.cause }
+    {
+        self.cause
     }
 
     /// Returns the inner writer, and the bytes in the buffer. Nothing is written.
@@ -308,6 +348,7 @@ impl<W: Write + Drop> Output<W> {
             inner,
             failures: _,
             gone: _,
+            cause: _,
         } = self;
         inner.into_parts()
     }
@@ -351,17 +392,19 @@ impl<W: Write + Drop> Output<W> {
         }
     }
 
-    // Counts a write or a flush that failed with this error, and returns the error of the run.
+    // Counts a write or a flush that failed with this error, keeps the error, and returns that of the run.
     fn failed(&mut self, error: &io::Error) -> RunError
         ensures errors { IsWriteError result }
         ensures pipe { error_kind error.now ≡ ErrorKind.BrokenPipe → result ≡ RunError.ReaderGone }
         ensures other { ¬ (error_kind error.now ≡ ErrorKind.BrokenPipe) → result ≡ RunError.WriteFailed }
         ensures writes { self.new.failures ≡ self.old.failures + 1 }
         ensures gone { self.new.gone ≡ self.old.gone + gone_readers {X = ℕ} (Err result) }
+        ensures cause { self.new.cause ≡ Some error.now }
         ensures written { self.new.written ≡ self.old.written }
         ensures pending { self.new.pending ≡ self.old.pending }
     {
         self.failures = self.failures.and_one();
+        self.cause = Some(*error);
         if error.kind() == ErrorKind::BrokenPipe {
             self.gone = self.gone.and_one();
         }

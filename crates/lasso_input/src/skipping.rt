@@ -1,4 +1,4 @@
-//! Passing over lines: only where they end is looked for, at 32 bytes at a time.
+//! Skips lines: finds only their line feeds, in 32 bytes at a time.
 ghost use Rattle.std.specs.Prelude.{◌≡◌, ◌≢◌, ℕ, ◌+◌, ◌-◌, ◌<◌, ◌≤◌, ◌==◌, true, drop, length, slice_index};
 ghost use Rattle.std.specs.Int.{bit_at};
 ghost use Rattle.lasso_input.specs.Skipping.{AreSkipped, FeedBits};
@@ -8,7 +8,7 @@ use std::simd::prelude::*;
 // The number of bytes of a vector.
 const LANES: usize = 32;
 
-// A bit for each of 32 bytes from the index on, which is set at a line feed.
+// The line feeds among the 32 bytes from the index on, as bits: bit 0 is set if the first of them is a line feed.
 #[inline(always)]
 fn feeds_from(bytes: &[u8], at: usize) -> u64
     requires { at + 32 ≤ length bytes.now }
@@ -42,8 +42,8 @@ fn without_bit(bits: u64, bit: usize) -> u64
     bits & !(1 << bit)
 }
 
-/// Passes over the first lines that a line feed ends, at most `most` of them: not over all of these if they end in
-/// the last bytes. Returns how many, and the index after the last one's line feed.
+/// Skips the first lines that a line feed ends, at most `most` of them. Lines that end in the last `len() % 32` bytes
+/// are not skipped. Returns how many it skipped, and the index after the last one's line feed.
 pub(crate) fn skip_lines(bytes: &[u8], most: usize) -> (usize, usize)
     ensures most { result.0 ≤ most }
     ensures inside { result.1 ≤ length bytes.now }

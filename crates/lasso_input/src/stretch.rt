@@ -92,8 +92,8 @@ impl<'a> Stretch<'a> {
         Some(Line::tested(last, self.untested == 0))
     }
 
-    /// Passes over the next lines that a line feed ends, at most `most` of them, and returns how many. It may pass
-    /// over fewer though more are left.
+    /// Skips the next lines that a line feed ends, at most `most` of them, and returns how many it skipped. It may
+    /// skip fewer though more are left: a caller goes on with `next_line`.
     #[inline(always)]
     pub fn skip(&mut self, most: usize) -> usize
         ensures most { result ≤ most }

@@ -9,3 +9,4 @@ pub mod Ordered
 pub mod Shares
 pub mod LineFaults
 pub mod Explained
+pub mod Help

@@ -118,7 +118,7 @@ fn write_number<O: ByteWriter>(writer: &mut O, number: usize) -> Result<(), RunF
 }
 
 // Writes all of the bytes, by several calls if needed. Stops at the first failed call.
-fn write_all<O: ByteWriter>(writer: &mut O, bytes: &[u8]) -> Result<(), RunFault>
+pub(crate) fn write_all<O: ByteWriter>(writer: &mut O, bytes: &[u8]) -> Result<(), RunFault>
     ensures failures { O.failures writer.new ≡ O.failures writer.old + failed_writes result }
     ensures delivered { OnlyGrows (O.delivered writer.old) (O.delivered writer.new) }
     ensures bytes { Writes O.delivered O.pending writer.old writer.new (WritesAll bytes.now result) }

@@ -1,6 +1,6 @@
 //! Why a run ends early.
-ghost use Rattle.std.specs.Prelude.{◌≡◌, Some};
-ghost use Rattle.lasso_lines.specs.Fault.{status_of, fault_text};
+ghost use Rattle.std.specs.Prelude.{◌≡◌, ◌↔◌, IsTrue, Some};
+ghost use Rattle.lasso_lines.specs.Fault.{IsNoMemory, status_of, fault_text};
 ghost use Rattle.lasso_parts.specs.declared.util.LassoErrorKind.TheVariants.{FailedAllocation};
 
 use lasso_parts::util::{LassoError, LassoErrorKind};
@@ -27,6 +27,16 @@ impl RunFault {
         ensures { result ≡ RunFault.Refused number FailedAllocation }
     {
         RunFault::Refused(number, LassoError::new(LassoErrorKind::FailedAllocation))
+    }
+
+    /// Whether memory ran out, at a line or at none.
+    pub fn is_no_memory(&self) -> bool
+        ensures { IsTrue result ↔ IsNoMemory self.now }
+    {
+        match self {
+            RunFault::Refused(_, error) => error.kind().is_failed_alloc(),
+            _ => false,
+        }
     }
 
     /// The program's exit status: 1 for a refused line, 2 for a line that is not UTF-8, 3 for wrong

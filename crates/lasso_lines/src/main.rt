@@ -9,6 +9,7 @@ mod cutting;
 pub mod engine;
 mod expected;
 pub mod fault;
+pub mod help;
 mod in_turn;
 mod ordered;
 pub mod program;
@@ -20,8 +21,9 @@ mod stretches;
 pub mod workers;
 
 use fault::RunFault;
+use help::page_of;
 use lasso_parts::hasher::TextState;
-use program::run_words;
+use program::{run_words, show};
 use standard::{StandardReader, StandardWriter};
 use std::alloc::AllocError;
 use std::io::ErrorKind;
@@ -45,8 +47,8 @@ fn main(rt: HostRuntime) -> ExitCode {
     }
 }
 
-// Runs from standard input to standard output, with the program's arguments. Texts are hashed with a random seed: the lines may be
-// a stranger's.
+// Shows the help text or the version if the arguments ask for it. Else runs from standard input to standard
+// output. Texts are hashed with a random seed: the lines may be a stranger's.
 fn report_lines<R>(rt: &R, hasher: TextState) -> Result<(), RunFault>
 where
     R: AllocGlobal + Env + Input + Print + Threads + Wait + Sync,
@@ -56,7 +58,10 @@ where
     let mut reader = input.map_err(no_memory)?;
     let output = StandardWriter::new(rt.alloc(), io::writer(rt));
     let mut writer = output.map_err(no_memory)?;
-    run_words(rt, &words, &mut reader, &mut writer, hasher)
+    match page_of(&words) {
+        Some(page) => show(&mut writer, page.text()),
+        None => run_words(rt, &words, &mut reader, &mut writer, hasher),
+    }
 }
 
 // The arguments after the program's name. Returns `Usage` if one is not UTF-8.

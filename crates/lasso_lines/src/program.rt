@@ -2,15 +2,16 @@
 ghost use Rattle.std.specs.Prelude.{◌≡◌, ℕ, ◌+◌, [], Option, Some, None, Err, OnOk, IfErr, map, string_bytes};
 ghost use Rattle.lasso_lines.specs.Stream.{OnlyGrows, Ended, Keeps, Writes};
 ghost use Rattle.lasso_lines.specs.Report.{Ends};
-ghost use Rattle.lasso_lines.specs.Answer.{OnWriteFailed, failed_reads, failed_writes};
+ghost use Rattle.lasso_lines.specs.Answer.{OnWriteFailed, WritesAll, failed_reads, failed_writes};
 ghost use Rattle.lasso_lines.specs.Arguments.{SetWorkers, WithWorkers, WithoutWorkers, settings_of};
 ghost use Rattle.lasso_lines.specs.LineFaults.{AreTexts, IsFaultOf};
 ghost use Rattle.lasso_lines.specs.Explained.{IsExplainedBy};
 ghost use Rattle.lasso_lines.specs.Ordered.{WritesOrdered, BeginsOrdered};
 ghost use Rattle.lasso_lines.specs.declared.fault.RunFault.TheVariants.{Usage, WriteFailed};
 
+use crate::answers::write_all;
 use crate::arguments::{Settings, arguments};
-use crate::engine::run_with_hasher;
+use crate::engine::{flush_all, run_with_hasher};
 use crate::fault::RunFault;
 use crate::stream::{ByteReader, ByteWriter};
 use crate::workers::{OpenGate, run_workers_with_hasher};
@@ -71,4 +72,15 @@ pub fn run_words<R: AllocGlobal + Threads + Wait + Sync, I: ByteReader, O: ByteW
         ),
         Err(fault) => Err(fault),
     }
+}
+
+/// Writes a help text, and flushes it. Returns `WriteFailed` if that fails; a beginning of the text was written then.
+pub fn show<O: ByteWriter>(writer: &mut O, text: &str) -> Result<(), RunFault>
+    ensures text { Writes O.delivered O.pending writer.old writer.new (WritesAll text.now result) }
+    ensures writes { O.failures writer.new ≡ O.failures writer.old + failed_writes result }
+    ensures nothing_pending { OnOk result (O.pending writer.new ≡ Some []) }
+    ensures faults { IfErr result (λ fault. fault ≡ WriteFailed) }
+{
+    write_all(writer, text.as_bytes())?;
+    flush_all(writer)
 }

@@ -33,10 +33,45 @@ struct Share {
     codes: Result<Vec<u32>, NumberedError>,
 }
 
-// Interns the lines with the workers. Returns the positions of the lines' texts, worker by worker, in the
-// list that the pass has seen at the end. If lines were refused, returns the error of the lowest one; all
-// lines before it are in that list. Out of memory at no line is reported as line 0.
+// Interns the lines with the workers, and returns the positions of the lines' texts in the list that the pass
+// has seen at the end. If memory ran out, the caller's thread interns all lines once more, alone: the others
+// have ended, and their memory is free. If lines were refused, returns the error of the lowest one; all lines
+// before it are in that list. Out of memory at no line is reported as line 0.
 pub(crate) fn share_out<R: AllocGlobal + Threads + Wait + Sync, G: Gate>(
+    rt: &R,
+    rodeo: &SpurThreadedRodeo,
+    pass: &mut Pass<Spur>,
+    lines: &Stretch<'_>,
+    workers: usize,
+    gate: &G,
+) -> Result<Vec<u32>, RunFault>
+    requires some { 0 < workers }
+    requires texts { AreTexts (lines_of lines.now) }
+    requires of { pass.old.of ≡ rodeo.now }
+    ensures same { IsSamePass pass.new pass.old }
+    ensures codes { IfOk result (λ codes. AreCodesOf (list_of rodeo.now pass.new.notes) (lines_of lines.now) codes.items) }
+    ensures refused { IfErr result (IsRefusalOf rodeo.now.opening (seen pass.new) (lines_of lines.now)) }
+    ensures legal { IsLegal spur_at rodeo.now.opening (seen pass.new) }
+{
+    let outcome = share_once(rt, rodeo, pass, lines, workers, gate);
+    if is_no_memory(&outcome) {
+        share_once(rt, rodeo, pass, lines, 1, gate)
+    } else {
+        outcome
+    }
+}
+
+// Whether memory ran out.
+fn is_no_memory(outcome: &Result<Vec<u32>, RunFault>) -> bool {
+    match outcome {
+        Ok(_) => false,
+        Err(fault) => fault.is_no_memory(),
+    }
+}
+
+// Interns the lines with the workers, each line once. Returns the positions of the lines' texts, worker by
+// worker; otherwise as `share_out`.
+fn share_once<R: AllocGlobal + Threads + Wait + Sync, G: Gate>(
     rt: &R,
     rodeo: &SpurThreadedRodeo,
     pass: &mut Pass<Spur>,
@@ -131,9 +166,9 @@ fn intern_share<R: AllocGlobal + Wait, G: Gate>(
     }
 }
 
-// Interns the worker's lines, at the positions `worker`, `worker + workers`, `worker + 2 * workers` and so
-// on. It passes over the others for that, so no list of lines is kept. Returns the positions of their texts. Stops at the
-// first refused line and returns its error.
+// Interns the worker's lines: those at the positions `worker`, `worker + workers`, `worker + 2 * workers` and so
+// on. It skips the lines between them in the input, so no list of lines is kept. Returns the positions of their
+// texts. Stops at the first refused line and returns its error.
 fn intern_by<R: AllocGlobal + Wait, G: Gate>(
     rt: &R,
     rodeo: &SpurThreadedRodeo,
@@ -155,7 +190,7 @@ fn intern_by<R: AllocGlobal + Wait, G: Gate>(
     let mut turns = Turns::new(turn, gate.is_open());
     let mut rest = lines.copy();
     let mut next = 1u64;
-    // how many lines come before the worker's next one
+    // The number of other workers' lines before this worker's next one.
     let mut others = worker;
     while let Some(line) = rest.next_line() {
         let number = next;
@@ -200,7 +235,7 @@ fn intern_line<R: Wait>(
         Err(error) => return Err((number, error)),
     };
     let position = key.into_position();
-    turns.count(rt, position);
+    turns.count_line(rt, position);
     match codes.push(position) {
         Ok(()) => Ok(()),
         Err(_) => Err((number, LassoError::new(LassoErrorKind::FailedAllocation))),

@@ -103,7 +103,7 @@ pub(crate) fn next_number<R: Wait>(rt: &R, number: u64) -> u64
     unreachable!()
 }
 
-// A line's number, so many lines later. Waits forever past the greatest number, as `next_number` does.
+// The number of the line that comes `lines` lines later. Waits forever past the greatest number, as `next_number` does.
 #[inline]
 pub(crate) fn later_number<R: Wait>(rt: &R, number: u64, lines: usize) -> u64
     ensures { result ≡ number + lines }

@@ -35,7 +35,8 @@ pub trait Gate: Sync {
     /// Returns when the worker of this number may go on. Workers are numbered from 0.
     fn enter(&self, worker: usize);
 
-    /// Whether it returns at once for each worker at any time. If so, a worker may keep others from interning while it calls.
+    /// Whether `enter` returns at once for each worker at any time. If so, a worker may call it while it keeps
+    /// others from interning, in its turn.
     fn is_open(&self) -> bool {
         false
     }
@@ -56,8 +57,9 @@ impl Gate for OpenGate {
 /// Reads the whole input, interns its lines with `workers` threads in one interner, and writes the distinct
 /// lines in the order of their bytes, each followed by a line feed. Line i, from 0, goes to worker i modulo
 /// `workers`; 0 workers count as one. One of the threads is the caller's. If a thread can't be started, the
-/// thread that would have started it does its work. Each worker calls the gate before each line. All are
-/// joined before the lines are written.
+/// thread that would have started it does its work. If memory runs out in one, the caller's thread interns all
+/// lines once more, as worker 0 of 1, when the others have ended. Each worker calls the gate before each line.
+/// All are joined before the lines are written.
 ///
 /// The first line that is not UTF-8 ends the run before a worker starts. Each worker stops at its first
 /// refused line, and the fault names the lowest of them. Out of memory at no line is reported as line 0. In

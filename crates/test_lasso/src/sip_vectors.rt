@@ -2,8 +2,8 @@
 //!
 //! The values of `PUBLISHED` begin those of the tests of Rust's standard library, for the bytes 0, 1, 2 and so on under
 //! the keys 0 to 15. The values of `PYTHON` are those of CPython 3.11 with PYTHONHASHSEED=0, which hashes bytes by
-//! SipHash-1-3 with keys of zeros there. A program in Python, written from the paper of SipHash for this alone, gives
-//! both, and the vectors of SipHash-2-4 that the paper's authors published.
+//! SipHash-1-3 with keys of zeros there. A program in Python, written from the description of SipHash for this alone, gives
+//! both, and the vectors of SipHash-2-4 that its authors published.
 use crate::answers::is_so;
 use lasso::index::hash_text;
 use lasso::keyed::keyed_by;

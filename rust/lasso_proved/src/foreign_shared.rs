@@ -1,4 +1,4 @@
-//! The library's shared interner: the calls that `lasso_shared.h` declares, and a pool of handles.
+//! The library's shared interner: the calls of `lasso.h` whose names begin with `lasso_shared`, and a pool of handles.
 //!
 //! No other file makes these calls. The points of `foreign.rs` hold here, but for these.
 //!
@@ -20,7 +20,7 @@ use std::sync::atomic::{AtomicUsize, Ordering};
 use std::sync::{Mutex, MutexGuard, PoisonError};
 use std::{ptr, thread};
 
-/// `struct lasso_shared`: a user of an interner, or none.
+/// `struct lasso_shared`: a handle of an interner, or none.
 #[repr(C)]
 struct Shared {
     at: *mut c_void,
@@ -28,14 +28,14 @@ struct Shared {
 }
 
 extern "C" {
-    fn lasso_shared_new(user: *mut Shared) -> u32;
-    fn lasso_shared_join(user: *mut Shared, other: *mut Shared) -> u32;
-    fn lasso_shared_intern(user: *mut Shared, text: *const u8, len: usize, code: *mut u32) -> u32;
-    fn lasso_shared_get(user: *mut Shared, text: *const u8, len: usize, code: *mut u32) -> u32;
-    fn lasso_shared_see(user: *mut Shared) -> u32;
-    fn lasso_shared_text(user: *mut Shared, code: u32, text: *mut LassoText) -> u32;
-    fn lasso_shared_len(user: *mut Shared) -> usize;
-    fn lasso_shared_free(user: *mut Shared);
+    fn lasso_shared_new(shared: *mut Shared) -> u32;
+    fn lasso_shared_join(shared: *mut Shared, other: *mut Shared) -> u32;
+    fn lasso_shared_intern(shared: *mut Shared, text: *const u8, len: usize, code: *mut u32) -> u32;
+    fn lasso_shared_get(shared: *mut Shared, text: *const u8, len: usize, code: *mut u32) -> u32;
+    fn lasso_shared_see(shared: *mut Shared) -> u32;
+    fn lasso_shared_text(shared: *mut Shared, code: u32, text: *mut LassoText) -> u32;
+    fn lasso_shared_len(shared: *mut Shared) -> usize;
+    fn lasso_shared_free(shared: *mut Shared);
 }
 
 const DONE: u32 = 0;

@@ -87,7 +87,6 @@ impl<K: Key> Log<K> {
     pub fn known_list(&self, pass: &mut Pass<K>) -> KnownList<K>
         requires { pass.old.of ≡ self.now }
         ensures of { result.of ≡ self.now }
-        ensures notes { result.notes ≡ pass.new.notes }
         ensures same { IsSamePass pass.new pass.old }
         ensures since { Since pass.old.number pass.old.notes pass.new.notes [] }
     {

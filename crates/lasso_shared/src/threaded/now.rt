@@ -1,6 +1,6 @@
-//! Calls of an interner that threads share that do not wait, with a pass. Where the waiting call would wait, they return `None` soon, and
-//! the caller tries again.
-ghost use Rattle.std.specs.Prelude.{◌≡◌, [], IfSome, IsNone, Some, slice_get};
+//! Calls of a shared interner that do not wait, with a pass. If the waiting call would wait, they look again a few times, and return
+//! `None`; the caller tries again.
+ghost use Rattle.std.specs.Prelude.{◌≡◌, [], IfSome, IsNone, option_map, slice_get};
 ghost use Rattle.lasso_log.specs.History.{IsLegal, IsOpening};
 ghost use Rattle.lasso_log.specs.LentBuckets.{LentBucket};
 ghost use Rattle.lasso_log.specs.Notes.{Since};
@@ -10,7 +10,7 @@ ghost use Rattle.lasso_shared.specs.Now.{IsOwnOf};
 ghost use Rattle.lasso_shared.specs.PassCalls.{IsPassCall};
 
 use crate::threaded::ThreadedRodeo;
-use lasso_log::log::{KnownList, Pass};
+use lasso_log::log::{Pass, SeenList};
 use lasso_log::shared_memory::new_bucket::NewBucket;
 use lasso_parts::keys::Key;
 use lasso_parts::util::LassoResult;
@@ -56,29 +56,23 @@ impl<K: Key, S: BuildHasher + Drop> ThreadedRodeo<K, S> {
         found
     }
 
-    /// A list of which nothing is known. It takes no memory and does not wait.
-    pub fn unknown_list(&self) -> KnownList<K>
-        ensures { result.of ≡ self.now }
-    {
-        self.shards.log.unknown_list()
-    }
-
     /// The list that the pass has then seen, to be read without a pass. It takes no memory and does not wait.
-    pub fn known_list_as(&self, pass: &mut Pass<K>) -> KnownList<K>
+    pub fn seen_list_as(&self, pass: &mut Pass<K>) -> SeenList<K>
         requires { pass.old.of ≡ self.now }
         ensures of { result.of ≡ self.now }
         ensures notes { result.notes ≡ pass.new.notes }
         ensures same { IsSamePass pass.new pass.old }
         ensures since { Since pass.old.number pass.old.notes pass.new.notes [] }
     {
-        self.shards.log.known_list(pass)
+        self.shards.log.seen_list(pass)
     }
 
-    /// The key's text in a list that is known, or `None` past it. It is lent as long as the interner.
-    pub fn text_in(&self, list: &KnownList<K>, key: K) -> Option<&str>
+    /// The text at a position of a list that was seen, or `None` past its end. It is lent as long as the interner. It takes no memory
+    /// and does not wait.
+    pub fn text_at(&self, list: &SeenList<K>, position: usize) -> Option<&str>
         requires { list.now.of ≡ self.now }
-        ensures { IfSome result (λ t. slice_get (list_of list.now.of list.now.notes) (K.number key) ≡ Some t.now) }
+        ensures { option_map (λ t. t.now) result ≡ slice_get (list_of list.now.of list.now.notes) position }
     {
-        self.shards.log.text_in(list, key.into_usize() as u64)
+        self.shards.log.text_of(list, position as u64)
     }
 }

@@ -87,7 +87,7 @@ impl<'a> BuildHasher for ArmedState<'a> {
     }
 }
 
-// Keeps the first byte, and counts the bytes written: those of the text, and one more.
+// Keeps the first byte, and counts the bytes written, which are those of the text.
 #[derive(Clone, Copy)]
 pub struct ArmedHasher<'a> {
     gate: &'a Gate,
@@ -104,7 +104,7 @@ impl Hasher for ArmedHasher<'_> {
     ghost finish = { λ hasher. hasher.first * 2 ^ 56 };
 
     fn finish(&self) -> u64 {
-        if self.given == 3 {
+        if self.given == 2 {
             self.gate.stop();
         }
         u64::from(self.first) * 0x100_0000_0000_0000

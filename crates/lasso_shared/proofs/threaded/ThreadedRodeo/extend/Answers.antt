@@ -12,6 +12,6 @@ returns-clause-filled g c =
       told.0,
       c.into_iter-items.ensures.into_iter_gives,
       MatchResult-weaker c.extend_as.result told.1
-      (λ done all. ((c.extend_as.new.items, all.0), filling_all g.K.Key.key_at opening texts c.pass-pass.result c.extend_as.new.pass c.pass-pass.ensures.notes all.1 c.extend_as.ensures.legal))
-      (λ error some. ((c.extend_as.new.items, some.0), filling_refused g.K.Key.key_at opening texts error c.pass-pass.result c.extend_as.new.pass c.pass-pass.ensures.notes some.1 c.extend_as.ensures.legal)),
+          (λ done all. ((c.extend_as.new.items, all.0), filling_all g.K.Key.key_at opening texts c.pass-pass.result c.extend_as.new.pass c.pass-pass.ensures.notes all.1 c.extend_as.ensures.legal))
+          (λ error some. ((c.extend_as.new.items, some.0), filling_refused g.K.Key.key_at opening texts error c.pass-pass.result c.extend_as.new.pass c.pass-pass.ensures.notes some.1 c.extend_as.ensures.legal)),
     )

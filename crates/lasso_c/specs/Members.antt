@@ -1,0 +1,70 @@
+-- What a call on a handle of a shared interner is about: the member that the handle holds, if any, with its pass and the
+-- list that it has seen.
+use Rattle.std.specs.Prelude.{◌≡◌, ◌⊎◌, ℕ, Bool, true, false, List, [], Option, None, Some, Result, Err}
+use Rattle.lasso_parts.specs.Texts.{Text}
+use Rattle.lasso_log.specs.Replies.{Question, Reply}
+use Rattle.lasso_c.specs.Handles.{code_lookup_in}
+use Rattle.lasso_c.specs.declared.error.CallError.{CallError}
+use Rattle.lasso_c.specs.declared.error.CallError.TheVariants.{NoInterner}
+use Rattle.lasso_c.specs.Passes.{CopiesCall, IsCallOf, IsQuiet, texts_of}
+use Rattle.lasso_c.specs.declared.shared.member.Member.{Member}
+use Rattle.lasso_c.specs.declared.status.TheConstants.{DONE, NOT_UTF8, NO_SUCH_CODE, NO_MEMORY, LIMIT_REACHED, NO_CODE_LEFT, NO_INTERNER, NO_SUCH_TEXT, BUSY}
+
+-- the member made one call of its pass, with this reply
+abbrev pub Calls : (before after : Option Member) → Question → Reply ℕ → Type 0
+Calls (Some before) (Some after) question reply = IsCallOf before.pass after.pass question reply
+Calls (Some before) None question reply = ⊥
+Calls None after question reply = ⊥
+
+-- the member made no event
+abbrev pub MakesNone : (before after : Option Member) → Type 0
+MakesNone (Some before) (Some after) = IsQuiet before.pass after.pass
+MakesNone (Some before) None = ⊥
+MakesNone None after = after ≡ None
+
+-- the member is of this interner, and has seen nothing yet
+abbrev pub BeginsBeside : (first second : Option Member) → Type 0
+BeginsBeside (Some first) (Some second) = (second.pass.of ≡ first.pass.of) × (second.pass.notes ≡ [])
+BeginsBeside (Some first) None = ⊥
+BeginsBeside None second = ⊥
+
+-- the member resolved the code, and its text was copied over the front of a buffer
+abbrev pub Copies : (before after : Option Member) → (code : ℕ) → (whole : ℕ) → (room_before room_after : List ℕ) → Type 0
+Copies (Some before) (Some after) code whole room_before room_after = CopiesCall before.pass after.pass code whole room_before room_after
+Copies (Some before) None code whole room_before room_after = ⊥
+Copies None after code whole room_before room_after = ⊥
+
+-- the texts of the list that the member has seen last
+abbrev pub texts_seen : Option Member → List Text
+texts_seen None = []
+texts_seen (Some member) = texts_of member.list
+
+-- the text of a code in that list, or why there is none
+abbrev pub seen_lookup : Option Member → (code : ℕ) → Result Text CallError
+seen_lookup None code = Err NoInterner
+seen_lookup (Some member) code = code_lookup_in (texts_of member.list) code
+
+-- the member made no event, and then has seen the list that its pass has
+abbrev pub Sees : (before after : Option Member) → Type 0
+Sees (Some before) (Some after) = IsQuiet before.pass after.pass × (after.list.notes ≡ after.pass.notes)
+Sees (Some before) None = ⊥
+Sees None after = after ≡ None
+
+-- whether a handle holds a member decides between a status and these
+abbrev pub IsStatusOf : Option Member → (status : ℕ) → Type 0 → Type 0
+IsStatusOf None status others = status ≡ NO_INTERNER
+IsStatusOf (Some _) status others = others
+
+-- a status of interning bytes that are UTF-8 or not
+abbrev pub IsInternStatus : (utf8 : Bool) → Option Member → (status : ℕ) → Type 0
+IsInternStatus false held status = status ≡ NOT_UTF8
+IsInternStatus true held status = IsStatusOf held status ((status ≡ DONE) ⊎ (status ≡ LIMIT_REACHED) ⊎ (status ≡ NO_CODE_LEFT) ⊎ (status ≡ NO_MEMORY) ⊎ (status ≡ BUSY))
+
+-- a status of looking bytes up that are UTF-8 or not
+abbrev pub IsGetStatus : (utf8 : Bool) → Option Member → (status : ℕ) → Type 0
+IsGetStatus false held status = status ≡ NOT_UTF8
+IsGetStatus true held status = IsStatusOf held status ((status ≡ DONE) ⊎ (status ≡ NO_SUCH_TEXT) ⊎ (status ≡ BUSY))
+
+-- a status of looking a code up
+abbrev pub IsCodeStatus : Option Member → (status : ℕ) → Type 0
+IsCodeStatus held status = IsStatusOf held status ((status ≡ DONE) ⊎ (status ≡ NO_SUCH_CODE))

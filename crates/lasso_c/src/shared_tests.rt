@@ -1,0 +1,204 @@
+//! Calls on handles of shared interners, on inputs that were worked by hand. `examples/c/shared.c` has those of several threads.
+use crate::lending::LassoText;
+use crate::shared::handle::LassoShared;
+use crate::shared::lending::lasso_shared_text;
+use crate::shared::{
+    lasso_shared_free, lasso_shared_get, lasso_shared_intern, lasso_shared_join, lasso_shared_len,
+    lasso_shared_new, lasso_shared_resolve, lasso_shared_see,
+};
+use crate::tests::checks::{Seen, has_bytes, is_as_told};
+use std::alloc::Global;
+use std::process::Abort;
+use std::test::Fail;
+
+// A call, with what it has to give. A handle is the first or the second.
+#[derive(Clone, Copy)]
+enum Step {
+    // an interner is made in a handle
+    Makes(usize),
+    // a handle of the first one's interner is made in the second, or of the second's in the first: this status
+    Joins(usize, u32),
+    // interning the text has this status and writes this code, 77 if none
+    Interns(usize, &'static [u8], (u32, u32)),
+    // looking the text up has this status and writes this code, 77 if none
+    Finds(usize, &'static [u8], (u32, u32)),
+    // the text of the code has this status, begins so, and has this number of bytes, 77 if there is none
+    Resolves(usize, u32, (u32, &'static [u8], usize)),
+    // the handle sees the list: this status
+    Sees(usize, u32),
+    // lending the text of the code has this status and lends this text, "none" if there is none
+    Lends(usize, u32, (u32, &'static [u8])),
+    // the number of texts
+    Counts(usize, usize),
+    // the handle is let go
+    Frees(usize),
+}
+
+fn interns(shared: &mut LassoShared, text: &[u8], want: (u32, u32)) -> Seen {
+    let mut code = 77;
+    let status = lasso_shared_intern(shared, text, &mut code);
+    (status, (status, code) == want)
+}
+
+fn finds(shared: &mut LassoShared, text: &[u8], want: (u32, u32)) -> Seen {
+    let mut code = 77;
+    let status = lasso_shared_get(shared, text, &mut code);
+    (status, (status, code) == want)
+}
+
+fn resolves(shared: &mut LassoShared, code: u32, want: (u32, &[u8], usize)) -> Seen {
+    let (mut text, mut whole) = ([9; 4], 77);
+    let status = lasso_shared_resolve(shared, code, &mut text, &mut whole);
+    let is_told = (status, whole) == (want.0, want.2);
+    (status, is_told && has_bytes(&text, want.1))
+}
+
+fn lends(shared: &mut LassoShared, code: u32, want: (u32, &[u8])) -> Seen {
+    let mut text = LassoText { bytes: b"none" };
+    let status = lasso_shared_text(shared, code, &mut text);
+    (status, status == want.0 && text.bytes == want.1)
+}
+
+// Takes the step on one of the handles.
+fn take(alloc: Global, [first, second]: &mut [LassoShared; 2], step: &Step) -> Seen {
+    match *step {
+        Step::Makes(0) => is_status(lasso_shared_new(alloc, first), 0),
+        Step::Makes(_) => is_status(lasso_shared_new(alloc, second), 0),
+        Step::Joins(0, want) => is_status(lasso_shared_join(alloc, first, second), want),
+        Step::Joins(_, want) => is_status(lasso_shared_join(alloc, second, first), want),
+        Step::Interns(0, text, want) => interns(first, text, want),
+        Step::Interns(_, text, want) => interns(second, text, want),
+        Step::Finds(0, text, want) => finds(first, text, want),
+        Step::Finds(_, text, want) => finds(second, text, want),
+        Step::Resolves(0, code, want) => resolves(first, code, want),
+        Step::Resolves(_, code, want) => resolves(second, code, want),
+        Step::Sees(0, want) => is_status(lasso_shared_see(first), want),
+        Step::Sees(_, want) => is_status(lasso_shared_see(second), want),
+        Step::Lends(0, code, want) => lends(first, code, want),
+        Step::Lends(_, code, want) => lends(second, code, want),
+        Step::Counts(0, count) => (0, lasso_shared_len(first) == count),
+        Step::Counts(_, count) => (0, lasso_shared_len(second) == count),
+        Step::Frees(0) => frees(alloc, first),
+        Step::Frees(_) => frees(alloc, second),
+    }
+}
+
+fn is_status(status: u32, want: u32) -> Seen {
+    (status, status == want)
+}
+
+fn frees(alloc: Global, shared: &mut LassoShared) -> Seen {
+    lasso_shared_free(alloc, shared);
+    (0, true)
+}
+
+// Takes the steps in turn on two handles that hold nothing at first, and checks each.
+fn walk<R: Abort + AllocGlobal>(rt: &R, steps: &[Step]) -> Result<(), Fail> {
+    let alloc: Global = rt.alloc();
+    let mut handles = [LassoShared::none(alloc), LassoShared::none(alloc)];
+    let mut row = 0usize;
+    for step in steps {
+        row = row.saturating_add(1);
+        is_as_told(rt, take(alloc, &mut handles, step), row)?;
+    }
+    Ok(())
+}
+
+static ONE_HANDLE: [Step; 22] = [
+    Step::Makes(0),
+    Step::Counts(0, 0),
+    Step::Finds(0, b"red", (13, 77)),
+    Step::Interns(0, b"red", (0, 0)),
+    Step::Interns(0, b"", (0, 1)),
+    Step::Interns(0, b"blue", (0, 2)),
+    Step::Interns(0, b"red", (0, 0)),
+    Step::Interns(0, b"", (0, 1)),
+    Step::Interns(0, b"\xc3", (3, 77)),
+    Step::Finds(0, b"\xc3", (3, 77)),
+    Step::Finds(0, b"blue", (0, 2)),
+    Step::Counts(0, 3),
+    Step::Resolves(0, 2, (0, b"blue", 4)),
+    Step::Resolves(0, 1, (0, b"", 0)),
+    Step::Resolves(0, 3, (4, b"", 77)),
+    Step::Resolves(0, u32::MAX, (4, b"", 77)),
+    Step::Lends(0, 0, (4, b"none")),
+    Step::Sees(0, 0),
+    Step::Lends(0, 0, (0, b"red")),
+    Step::Lends(0, 2, (0, b"blue")),
+    Step::Lends(0, 3, (4, b"none")),
+    Step::Lends(0, u32::MAX, (4, b"none")),
+];
+
+#[test]
+fn one_handle_is_an_interner(rt: HostRuntime) -> Result<(), Fail> {
+    walk(&rt, &ONE_HANDLE)
+}
+
+static TWO_HANDLES: [Step; 18] = [
+    Step::Makes(0),
+    Step::Interns(0, b"red", (0, 0)),
+    Step::Joins(0, 0),
+    Step::Counts(1, 1),
+    Step::Lends(1, 0, (0, b"red")),
+    Step::Interns(1, b"blue", (0, 1)),
+    Step::Interns(1, b"red", (0, 0)),
+    Step::Finds(0, b"blue", (0, 1)),
+    Step::Lends(1, 1, (4, b"none")),
+    Step::Sees(1, 0),
+    Step::Lends(1, 1, (0, b"blue")),
+    Step::Frees(0),
+    Step::Counts(0, 0),
+    Step::Resolves(1, 0, (0, b"red", 3)),
+    Step::Interns(1, b"green", (0, 2)),
+    Step::Joins(1, 0),
+    Step::Resolves(0, 2, (0, b"gree", 5)),
+    Step::Counts(0, 3),
+];
+
+#[test]
+fn two_handles_have_one_list(rt: HostRuntime) -> Result<(), Fail> {
+    walk(&rt, &TWO_HANDLES)
+}
+
+static TWO_INTERNERS: [Step; 12] = [
+    Step::Makes(0),
+    Step::Makes(1),
+    Step::Interns(0, b"red", (0, 0)),
+    Step::Interns(1, b"blue", (0, 0)),
+    Step::Finds(0, b"blue", (13, 77)),
+    Step::Joins(0, 0),
+    Step::Finds(1, b"blue", (13, 77)),
+    Step::Finds(1, b"red", (0, 0)),
+    Step::Makes(0),
+    Step::Counts(0, 0),
+    Step::Counts(1, 1),
+    Step::Resolves(1, 0, (0, b"red", 3)),
+];
+
+#[test]
+fn a_handle_lets_go_of_what_it_held(rt: HostRuntime) -> Result<(), Fail> {
+    walk(&rt, &TWO_INTERNERS)
+}
+
+static NO_INTERNER: [Step; 8] = [
+    Step::Interns(0, b"red", (12, 77)),
+    Step::Finds(0, b"red", (12, 77)),
+    Step::Resolves(0, 0, (12, b"", 77)),
+    Step::Sees(0, 12),
+    Step::Lends(0, 0, (12, b"none")),
+    Step::Joins(0, 12),
+    Step::Counts(0, 0),
+    Step::Frees(0),
+];
+
+#[test]
+fn a_handle_without_an_interner_refuses(rt: HostRuntime) -> Result<(), Fail> {
+    walk(&rt, &NO_INTERNER)
+}
+
+fn is_send<T: Send>() {}
+
+#[test]
+fn handles_of_shared_interners_cross_threads() {
+    is_send::<LassoShared>();
+}
