@@ -37,8 +37,9 @@ def run(program, words, sources, target):
     """Runs the program over the files. What it writes gets the name of the target once it is whole, so a run that is killed leaves nothing
     half written there, and may be done again, also while the first one goes on. Runs on a worker."""
     what = f"{' '.join(words)} for {target}"
+    sizes = [os.path.getsize(source) for source in sources]
     # In an input of several columns no program sees that an empty file was there.
-    if words[0] != "encode" and not all(os.path.getsize(source) for source in sources):
+    if words[0] != "encode" and 0 in sizes:
         raise RuntimeError(f"{what}: a file is empty")
     unfinished = target.with_name(f".unfinished.{target.name}.{os.getpid()}.{uuid.uuid4().hex}")
     try:

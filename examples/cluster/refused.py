@@ -26,7 +26,7 @@ REFUSED = [
     ("merge", ["two", "bytes"], "target", "column 2: no header"),
     ("merge", ["two", "empty"], "target", "a file is empty"),
     ("merge", ["two", "absent"], "target", "No such file"),
-    ("encode", ["bytes", "absent"], "target", "a file was not read"),
+    ("encode", ["bytes", "absent"], "target", "No such file"),
 ]
 
 

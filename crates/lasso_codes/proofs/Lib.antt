@@ -26,6 +26,7 @@ pub mod DecodedLines
 pub mod ReadBack
 pub mod MergedColumns
 pub mod RecodedColumns
+pub mod RecodedLines
 pub mod MergedLines
 pub mod Failing
 pub mod Lacking

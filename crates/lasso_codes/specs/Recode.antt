@@ -1,11 +1,13 @@
 -- What `recode` and `join` write, and how they end: columns after a dictionary, by whose codes their entries are rewritten.
 use Rattle.std.specs.Prelude.{ℕ, zero, suc, ◌≡◌, ◌+◌, ◌<◌, ◌⊎◌, Bool, true, false, List, [], ◌∷◌, ◌++◌, map, take, All, Vec, Option, Some, None, Result, Ok, Err, MatchResult, IsSome, IsSomeAnd, slice_get}
 use Rattle.hex.specs.Hex.{IsBytes}
+use Rattle.lasso_input.specs.Lines.{lines_of}
 use Rattle.lasso_parts.specs.Texts.{Text, position_of}
 use Rattle.lasso_parts.specs.declared.util.LassoErrorKind.TheVariants.{FailedAllocation}
 use Rattle.lasso_columns.specs.declared.faults.LineError.TheVariants.{Refused}
 use Rattle.lasso_single.specs.Codes.{AreCodes}
-use Rattle.lasso_codes.specs.Columns.{column_of, entry_at}
+use Rattle.lasso_codes.specs.Columns.{column_bytes, column_of, dictionary_of, entry_at, entry_of}
+use Rattle.lasso_codes.specs.Encode.{EncodeEnd}
 use Rattle.lasso_codes.specs.Errors.{AreTooMany}
 use Rattle.lasso_codes.specs.Limits.{line_texts, Admits}
 use Rattle.lasso_codes.specs.Merge.{recoded, AreFew}
@@ -241,3 +243,33 @@ RecodeEnds only limit binary after result input part = RecodeEnd input only limi
 
 abbrev pub JoinEnds : Bool → ℕ → Bool → Option (List ℕ) → Result (Unit {0}) RunError → List ℕ → List ℕ → Type 0
 JoinEnds only limit binary after result input part = JoinEnd input only limit binary after part result
+
+-- ---- the laws
+
+-- `encode` writes this part for the lines of the input
+abbrev pub EncodesTo : Bool → Option Text → List ℕ → List ℕ → Type 0
+EncodesTo only null input part = (limit : ℕ) × (binary : Bool) × (after : Option (List ℕ)) × EncodeEnd input only limit null binary after part (Ok tt)
+
+-- of what `encode` wrote, the entries by the codes of a list are those of the lines, whatever follows the column
+abbrev pub RecodingKeepsLines : Type 0
+RecodingKeepsLines =
+    (input : List ℕ) (only strict : Bool) (null : Option Text) (part rest : List ℕ) (list : List Text)
+    → (strict ≡ true → only ≡ true) → EncodesTo only null input part → coded_entries strict list (part ++ rest) ≡ (map (entry_of null list) (lines_of input), Ok rest)
+
+-- the lines of the first n inputs, one input after another
+abbrev pub lines_before : (ℕ → List ℕ) → ℕ → List Text
+lines_before inputs zero = []
+lines_before inputs (suc n) = lines_before inputs n ++ lines_of (inputs n)
+
+-- the bytes begin with the columns that `encode` wrote for the first n inputs, and the rest follows them
+abbrev pub EncodesParts : Bool → Option Text → (ℕ → List ℕ) → ℕ → List ℕ → List ℕ → Type 0
+EncodesParts only null inputs zero bytes rest = rest ≡ bytes
+EncodesParts only null inputs (suc n) bytes rest =
+    (part : List ℕ) × EncodesParts only null inputs n bytes (part ++ rest) × EncodesTo only null (inputs n) part
+
+-- the parts of an input, encoded each, recoded by the dictionary of all lines and joined, are the column of all lines
+abbrev pub JoiningGivesOneColumn : Type 0
+JoiningGivesOneColumn =
+    (only strict binary : Bool) (limit : ℕ) (null : Option Text) (inputs : ℕ → List ℕ) (n : ℕ) (bytes rest : List ℕ) (list : List Text) (entries : List (Option ℕ))
+    → (strict ≡ true → only ≡ true) → EncodesParts only null inputs n bytes rest → list ≡ dictionary_of null (lines_before inputs n) → Recodes strict limit list n bytes entries rest
+    → column_of binary list entries ≡ column_bytes binary null (lines_before inputs n)
