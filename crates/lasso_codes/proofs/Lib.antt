@@ -26,8 +26,8 @@ pub mod DecodedLines
 pub mod ReadBack
 pub mod MergedColumns
 pub mod RecodedColumns
-pub mod RecodedLines
 pub mod MergedLines
+pub mod RecodedLines
 pub mod Failing
 pub mod Lacking
 pub mod Verbs

@@ -10,7 +10,7 @@ use Rattle.lasso_codes.specs.Columns.{column_bytes, column_of, dictionary_of, en
 use Rattle.lasso_codes.specs.Encode.{EncodeEnd}
 use Rattle.lasso_codes.specs.Errors.{AreTooMany}
 use Rattle.lasso_codes.specs.Limits.{line_texts, Admits}
-use Rattle.lasso_codes.specs.Merge.{recoded, AreFew}
+use Rattle.lasso_codes.specs.Merge.{distinct_of, recoded, AreFew, Merges}
 use Rattle.lasso_codes.specs.Reading.{Makes, ReadItems, entry_items, head_of, texts_at, texts_from, read_column, IsCut, IsEntryError, IsColumnError, IsTextError, LacksEntry, LacksText}
 use Rattle.lasso_codes.specs.Streams.{Begins, StopsShort}
 use Rattle.lasso_codes.specs.declared.error.ColumnError.{ColumnError}
@@ -267,9 +267,20 @@ EncodesParts only null inputs zero bytes rest = rest ≡ bytes
 EncodesParts only null inputs (suc n) bytes rest =
     (part : List ℕ) × EncodesParts only null inputs n bytes (part ++ rest) × EncodesTo only null (inputs n) part
 
+-- the distinct texts of the parts' columns, merged, are the dictionary of all lines
+abbrev pub MergingGivesOneDictionary : Type 0
+MergingGivesOneDictionary =
+    (only strict : Bool) (null : Option Text) (inputs : ℕ → List ℕ) (n : ℕ) (bytes rest left : List ℕ) (texts : List Text) (entries : List (Option ℕ))
+    → (strict ≡ true → only ≡ true) → EncodesParts only null inputs n bytes rest → Merges strict n bytes texts entries left → distinct_of texts ≡ dictionary_of null (lines_before inputs n)
+
+-- a dictionary that was merged may be merged in the place of its texts
+abbrev pub DictionariesMergeInSteps : Type 0
+DictionariesMergeInSteps =
+    (before texts after : List Text) → distinct_of (before ++ (distinct_of texts ++ after)) ≡ distinct_of (before ++ (texts ++ after))
+
 -- the parts of an input, encoded each, recoded by the dictionary of all lines and joined, are the column of all lines
 abbrev pub JoiningGivesOneColumn : Type 0
 JoiningGivesOneColumn =
-    (only strict binary : Bool) (limit : ℕ) (null : Option Text) (inputs : ℕ → List ℕ) (n : ℕ) (bytes rest : List ℕ) (list : List Text) (entries : List (Option ℕ))
-    → (strict ≡ true → only ≡ true) → EncodesParts only null inputs n bytes rest → list ≡ dictionary_of null (lines_before inputs n) → Recodes strict limit list n bytes entries rest
+    (only strict binary : Bool) (limit : ℕ) (null : Option Text) (inputs : ℕ → List ℕ) (n : ℕ) (bytes rest left : List ℕ) (list : List Text) (entries : List (Option ℕ))
+    → (strict ≡ true → only ≡ true) → EncodesParts only null inputs n bytes rest → list ≡ dictionary_of null (lines_before inputs n) → Recodes strict limit list n bytes entries left
     → column_of binary list entries ≡ column_bytes binary null (lines_before inputs n)

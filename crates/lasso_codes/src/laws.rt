@@ -1,7 +1,7 @@
 //! Laws of columns. Each law is the contract of a function that does nothing.
 ghost use Rattle.lasso_codes.specs.Decode.{DecodingGivesLines};
 ghost use Rattle.lasso_codes.specs.Merge.{DictionariesAreDistinct, MergedColumnsDecode, MergingKeepsLines};
-ghost use Rattle.lasso_codes.specs.Recode.{JoiningGivesOneColumn, RecodingKeepsLines};
+ghost use Rattle.lasso_codes.specs.Recode.{DictionariesMergeInSteps, JoiningGivesOneColumn, MergingGivesOneDictionary, RecodingKeepsLines};
 
 /// Decoding what `encode` wrote gives the lines of its input, whatever follows the column.
 pub fn decoding_gives_lines()
@@ -28,7 +28,17 @@ pub fn recoding_keeps_lines()
     ensures { RecodingKeepsLines }
 {}
 
-/// Parts of an input that were encoded, recoded by the dictionary of all and joined are the column of all.
+/// The merged dictionary of an input's parts is that of all their lines.
+pub fn merging_gives_one_dictionary()
+    ensures { MergingGivesOneDictionary }
+{}
+
+/// Dictionaries can be merged in steps: a merged one stands for those that it was made of.
+pub fn dictionaries_merge_in_steps()
+    ensures { DictionariesMergeInSteps }
+{}
+
+/// Parts of an input that were encoded, recoded by the dictionary of all lines and joined are the column of all lines.
 pub fn joining_gives_one_column()
     ensures { JoiningGivesOneColumn }
 {}
