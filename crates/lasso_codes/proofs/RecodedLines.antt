@@ -164,7 +164,7 @@ parts_codes only strict limit null inputs (suc n) bytes rest left list entries w
     let read : coded_entries strict list mid ≡ (map (entry_of null list) last, Ok rest) = ap (coded_entries strict list) before.1 ∙ recoding_keeps_lines_lem (inputs n) only strict null parts.0 rest list weaker parts.2 in
     let items : (coded_entries strict list mid).0 ≡ map (entry_of null list) last = ap (λ (r : ReadItems (Option ℕ)). r.0) read in (
       done.6 ∙ ap (λ (es : List (Option ℕ)). es ++ (coded_entries strict list mid).0) before.0 ∙ ap (λ (es : List (Option ℕ)). map (entry_of null list) (lines_before inputs n) ++ es) items
-      ∙ sym (map-append (entry_of null list) (lines_before inputs n) last),
+          ∙ sym (map-append (entry_of null list) (lines_before inputs n) last),
       same_left left rest (coded_entries strict list mid) (map (entry_of null list) last) done.5 read,
     )
 
@@ -241,7 +241,7 @@ parts_texts only strict null inputs (suc n) bytes rest left texts entries weaker
     let read : entries_of strict list mid ≡ (map (entry_of null list) last, Ok rest) =
     ap (entries_of strict list) so_far.1 ∙ made_back strict only null (inputs n) parts.0 rest weaker parts.2 (recoded list) list (recoded_by list (dictionary_of null last)) in (
       ap distinct_of merged.4 ∙ ap (λ (ts : List Text). distinct_of (before ++ ts)) texts_are ∙ distinct_once before new ∙ new_both [] before new ∙ ap (λ (ts : List Text). ts ++ new_texts ts new) so_far.0
-      ∙ sym (new_both [] old new) ∙ ap distinct_of (sym (filter-append (λ line. not (is_null null line)) (lines_before inputs n) last)),
+          ∙ sym (new_both [] old new) ∙ ap distinct_of (sym (filter-append (λ line. not (is_null null line)) (lines_before inputs n) last)),
       same_left left rest (entries_of strict list mid) (map (entry_of null list) last) merged.5 read,
     )
 
