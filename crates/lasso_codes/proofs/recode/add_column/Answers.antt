@@ -12,10 +12,10 @@ use Rattle.lasso_codes.proofs.RecodedColumns.{body_find_fails, body_result, body
 use Rattle.lasso_codes.proofs.recode.add_column.Goals as goal
 
 -- the column has no texts: its entries are codes of the dictionary
-pub returns-then-header-clause-added : goal.returns-then-header-clause-added
-returns-then-header-clause-added g c = λ list texts_are list_bytes bytes e.
+pub returns-then-header-eq0-clause-added : goal.returns-then-header-eq0-clause-added
+returns-then-header-eq0-clause-added g c = λ list texts_are list_bytes bytes e.
     let header = c.args.header in
-    let none : header.distinct ≡ 0 = omega (arith, c.if-header.true) in
+    let none : header.distinct ≡ 0 = omega (arith, c.if-header-eq0.true) in
     let codes = subst (λ (ts : List Text). AreCodes ts ts c.args.own.now) texts_are c.requires.own in
     let few = subst (λ (ts : List Text). length ts < 2 ^ 32) texts_are c.requires.few in
     body_result c.args.rule.only_utf8 c.args.limits list header bytes c.args.column [] bytes (no_texts c.args.rule.only_utf8 c.args.limits header bytes none) (All-nil (λ t. IsSome (position_of list t))) list_bytes list_bytes
@@ -53,7 +53,7 @@ returns-clause-added g c = λ list texts_are list_bytes bytes e.
     let own = texts.2.0 in
     let admitted = admitted_list c.args.limits c.in_ok-texts.texts c.read_texts.new.rodeo own texts.2.3 c.in_ok-texts.ensures.made c.in_ok-read_texts.ensures.list in
     let table = c.in_ok-table.table in
-    let some : 0 < header.distinct = omega (arith, c.if-header.false) in
+    let some : 0 < header.distinct = omega (arith, c.if-header-eq0.false) in
     let same : texts_or list own ≡ own = own_texts only list own header.distinct bytes texts.0 texts.2.1 some in
     let found = subst (λ (ts : List Text). AreCodes ts (line_texts own) table.items) texts_are (subst (λ (ts : List Text). AreCodes c.args.dictionary.now.texts ts table.items) (c.into_reader.ensures ∙ texts.2.3) c.in_ok-table.ensures) in
     let all : HasAll list own = has_coded list own table.items list_bytes texts.2.2 found in

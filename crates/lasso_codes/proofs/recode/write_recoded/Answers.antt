@@ -63,8 +63,8 @@ returns-then-with_texts-clause-report g c = λ bytes e.
     let w' = subst (λ (ts : List Text). WritesAll (column_of c.args.binary ts (map entry_at held.items)) result part) table_is (subst (λ (ns : List ℕ). WritesAll (column_of c.args.binary c.in_ok-table.table (map entry_at ns)) result part) c.deref.ensures.value w) in
     subst (λ b. RecodedEnd bytes only c.args.limits (form_of b c.args.binary) left part result) (sym c.if-with_texts.true) (recoded_written only bytes c.args.limits (column_of c.args.binary) left first.0 (map entry_at held.items) part result are few w'))
 
-pub returns-else-with_texts-clause-report : goal.returns-else-with_texts-clause-report
-returns-else-with_texts-clause-report g c = λ bytes e.
+pub returns-clause-report : goal.returns-clause-report
+returns-clause-report g c = λ bytes e.
     let only = c.args.rule.only_utf8 in
     let left = c.add_columns.new.input.left in
     let result = c.write_codes.result in
@@ -75,7 +75,7 @@ returns-else-with_texts-clause-report g c = λ bytes e.
     let long : length held.items < 2 ^ 64 = omega (arith, held.ok.0, held.ok.1, held.small) in
     let few = recoded_few c.args.limits c.in_ok-rodeo.rodeo c.read_dictionary.new.rodeo first.0 held.items c.in_ok-rodeo.ensures.made c.in_ok-read_dictionary.ensures.list first.5 long in
     writes_as _ _ _ (λ part. RecodedEnd bytes only c.args.limits (form_of c.args.with_texts c.args.binary) left part result) c.write_codes.ensures.written (λ part w.
-    let w' = subst (λ (ns : List ℕ). WritesAll (column_of c.args.binary [] (map entry_at ns)) result part) c.deref-2.ensures.value w in
+    let w' = subst (λ (ns : List ℕ). WritesAll (column_of c.args.binary [] (map entry_at ns)) result part) c.deref-else-with_texts.ensures.value w in
     subst (λ b. RecodedEnd bytes only c.args.limits (form_of b c.args.binary) left part result) (sym c.if-with_texts.false) (recoded_written only bytes c.args.limits (without_texts c.args.binary) left first.0 (map entry_at held.items) part result are few w'))
 
 pub returns-then-with_texts-clause-reads : goal.returns-then-with_texts-clause-reads
@@ -84,8 +84,8 @@ returns-then-with_texts-clause-reads g c =
     let nothing = written_no_read _ wrote.0 c.write_column.result wrote.2 in
     omega (arith, c.in_ok-read_dictionary.ensures.reads, c.in_ok-add_columns.ensures.reads, nothing)
 
-pub returns-else-with_texts-clause-reads : goal.returns-else-with_texts-clause-reads
-returns-else-with_texts-clause-reads g c =
+pub returns-clause-reads : goal.returns-clause-reads
+returns-clause-reads g c =
     let wrote = c.write_codes.ensures.written in
     let nothing = written_no_read _ wrote.0 c.write_codes.result wrote.2 in
     omega (arith, c.in_ok-read_dictionary.ensures.reads, c.in_ok-add_columns.ensures.reads, nothing)
