@@ -60,4 +60,4 @@ returns-clause-added g c = λ list texts_are list_bytes bytes e.
     let codes = subst (λ (ts : List Text). AreCodes (line_texts list) (line_texts ts) c.deref.result.now) (sym same) (subst (λ ns. AreCodes (line_texts list) (line_texts own) ns) (sym c.deref.ensures.value) found) in
     let few = subst (λ (ts : List Text). length ts < 2 ^ 32) texts_are c.requires.few in
     body_result only c.args.limits list header bytes c.args.column own texts.0 (texts.2.1, admitted) all list_bytes (subst (All IsBytes) (sym same) texts.2.2)
-    c.add_numbers.new.input.left c.args.numbers.now.items c.add_numbers.new.numbers.items c.add_numbers.result (c.add_numbers.ensures.added (line_texts list) (line_texts (texts_or list own)) codes few texts.0 texts.1)
+    c.add_numbers-2.new.input.left c.args.numbers.now.items c.add_numbers-2.new.numbers.items c.add_numbers-2.result (c.add_numbers-2.ensures.added (line_texts list) (line_texts (texts_or list own)) codes few texts.0 texts.1)

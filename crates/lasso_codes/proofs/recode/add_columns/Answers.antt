@@ -33,7 +33,7 @@ returns-in_default-clause-added g c = λ list texts_are list_bytes bytes e.
     let at = c.loop-column in
     let ahead = at.invariant.ahead list texts_are list_bytes bytes e in
     let none = header_none _ _ c.in_ok-header.field-0 c.in_ok-header.ensures.taken c.in_default.is ahead.0 ahead.1 in
-    recoding_ends c.args.rule.only_utf8 c.args.limits list bytes ahead.0 at.column (map entry_at at.numbers.items) ahead.2 c.next_header.new.input.left none (omega (arith, c.if-column-eq2.false, at.auto.column-start))
+    recoding_ends c.args.rule.only_utf8 c.args.limits list bytes ahead.0 at.column (map entry_at at.numbers.items) ahead.2 c.next_header.new.input.left none (omega (arith, c.if-column-eq2.false, at.auto.column))
 
 pub returns-in_err-add_column-clause-added : goal.returns-in_err-add_column-clause-added
 returns-in_err-add_column-clause-added g c =
