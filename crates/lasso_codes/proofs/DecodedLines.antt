@@ -21,7 +21,7 @@ use Rattle.lasso_codes.specs.Streams.{Begins, StopsShort, WritesAll, cut_line}
 use Rattle.lasso_codes.specs.declared.entries.Entry.{Entry}
 use Rattle.lasso_codes.specs.declared.entries.Entry.TheVariants.{Missing, Bad, Null, Code}
 use Rattle.lasso_codes.specs.declared.error.ColumnError.{ColumnError}
-use Rattle.lasso_codes.specs.declared.error.ColumnError.TheVariants.{NoHeader, NoText, TextRefused, NoEntry, NotEntry, PastTexts, IsNull, NotMerged}
+use Rattle.lasso_codes.specs.declared.error.ColumnError.TheVariants.{NoHeader, NoText, TextRefused, NoEntry, NotEntry, PastTexts, IsNull, NotMerged, HasEntries, Absent}
 use Rattle.lasso_codes.specs.declared.error.RunError.{RunError}
 use Rattle.lasso_codes.specs.declared.error.RunError.TheVariants.{Line, TooManyLines, ReadFailed, WriteFailed, ReaderGone, Column}
 use Rattle.lasso_codes.specs.declared.reading.Header.{Header}
@@ -264,6 +264,8 @@ module _ (only : Bool) (input : List ℕ) (limit : ℕ) (null : Option Text) (re
   text_fails : (bytes left : List ℕ) (header : Header) → head_of bytes ≡ Some (header, left) → (reason : ColumnError) → IsTextError only limit header.distinct left reason → IsColumnError only (line_at null) limit bytes reason × (lines_before only null bytes reason ≡ [])
   text_fails bytes left header head NoHeader is = absurd is
   text_fails bytes left header head (NotMerged error) is = absurd is
+  text_fails bytes left header head HasEntries is = absurd is
+  text_fails bytes left header head (Absent number) is = absurd is
   text_fails bytes left header head (TextRefused number error) is = (((header, left), head, is), refl)
   text_fails bytes left header head (NoEntry number) is = absurd is
   text_fails bytes left header head (NotEntry number) is = absurd is

@@ -25,7 +25,9 @@ pub mod Cuts
 pub mod DecodedLines
 pub mod ReadBack
 pub mod MergedColumns
+pub mod RecodedColumns
 pub mod MergedLines
+pub mod RecodedLines
 pub mod Failing
 pub mod Lacking
 pub mod Verbs

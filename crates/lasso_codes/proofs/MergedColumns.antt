@@ -21,21 +21,21 @@ use Rattle.lasso_single.proofs.Coded.{map_some_length}
 use Rattle.lasso_single.specs.Codes.{AreCodes}
 use Rattle.lasso_single.specs.Coding.{spur_at, IsRefused}
 use Rattle.lasso_columns.specs.declared.faults.LineError.TheVariants.{Refused}
-use Rattle.lasso_codes.specs.Columns.{entry_at, column_of}
+use Rattle.lasso_codes.specs.Columns.{entry_at}
 use Rattle.lasso_codes.specs.Errors.{IsReadError, IsWriteEnd}
 use Rattle.hex.specs.Hex.{IsBytes}
 use Rattle.lasso_input.specs.Texts.{line_of, text_of}
 use Rattle.lasso_codes.specs.Limits.{line_texts, Admits}
 use Rattle.lasso_codes.proofs.LineTexts.{distinct_are_bytes, extend_lines, list_of_lines, some_line, table_back}
 use Rattle.lasso_codes.proofs.LineCodes.{recoded_items}
-use Rattle.lasso_codes.specs.Merge.{code_or_past, recoded, entries_of, distinct_of, Merges, AdmitsColumns, MergesWithin, EntriesError, AddsEntry, AddsEntries, AreMerged, IsNotMerged, IsMergeError, IsMergeBegun, MergesShort, MergingError, MergeEnd}
+use Rattle.lasso_codes.specs.Merge.{code_or_past, recoded, entries_of, distinct_of, Merges, AdmitsColumns, MergesWithin, EntriesError, AddsEntry, AddsEntries, AreMerged, IsNotMerged, IsMergeError, IsMergeBegun, MergesShort, MergingError, MergedEnd}
 use Rattle.lasso_codes.specs.Stages.{EntriesAhead}
 use Rattle.lasso_codes.specs.Reading.{ReadItems, cut_entry, entry_items, head_of, head_before, on_header_line, texts_at, texts_before, texts_from, items_from, HasNoHeader, IsCut, IsTextError, LacksEntry, LacksText, TextsError, IsEntryError}
 use Rattle.lasso_codes.specs.Streams.{StopsShort, WritesAll, cut_line}
 use Rattle.lasso_codes.specs.declared.entries.Entry.{Entry}
 use Rattle.lasso_codes.specs.declared.entries.Entry.TheVariants.{Missing, Bad, Null, Code}
 use Rattle.lasso_codes.specs.declared.error.ColumnError.{ColumnError}
-use Rattle.lasso_codes.specs.declared.error.ColumnError.TheVariants.{NoHeader, NoText, NotUtf8, Doubled, TextRefused, NoEntry, NotEntry, PastTexts, IsNull, NotMerged}
+use Rattle.lasso_codes.specs.declared.error.ColumnError.TheVariants.{NoHeader, NoText, NotUtf8, Doubled, TextRefused, NoEntry, NotEntry, PastTexts, IsNull, NotMerged, HasEntries, Absent}
 use Rattle.lasso_codes.specs.declared.error.RunError.{RunError}
 use Rattle.lasso_codes.specs.declared.error.RunError.TheVariants.{Line, TooManyLines, ReadFailed, WriteFailed, ReaderGone, Column}
 use Rattle.lasso_codes.specs.declared.reading.Header.{Header}
@@ -227,6 +227,8 @@ module _ (only : Bool) (input rest : List ℕ) (limit column : ℕ) (now : Inter
   text_fails bytes left header head NoHeader is = absurd is
   text_fails bytes left header head (TextRefused number error) is = (((header, left), head, is), λ entry. absurd entry)
   text_fails bytes left header head (NotMerged error) is = absurd is
+  text_fails bytes left header head HasEntries is = absurd is
+  text_fails bytes left header head (Absent number) is = absurd is
   text_fails bytes left header head (NoText number) is = (unread bytes left header head (NoText number) is.0 is.1, λ entry. absurd entry)
   text_fails bytes left header head (NotUtf8 number) is = (unread bytes left header head (NotUtf8 number) is.0 is.1, λ entry. absurd entry)
   text_fails bytes left header head (Doubled number) is = (unread bytes left header head (Doubled number) is.0 is.1, λ entry. absurd entry)
@@ -355,55 +357,55 @@ module _ (only : Bool) (input rest : List ℕ) (limit column : ℕ) (now : Inter
 
 -- ---- the one column
 
-written_end : (only : Bool) (input : List ℕ) (limit : ℕ) (binary : Bool) (after : Option (List ℕ)) (n : ℕ) (texts : List Text) (entries : List (Option ℕ)) (part : List ℕ) (result : Result (Unit {0}) RunError) → MergesWithin only limit n input texts entries [] → length (distinct_of texts) < 2 ^ 32 → length entries < 2 ^ 64 → WritesAll (column_of binary (distinct_of texts) entries) result part → MergeEnd input only limit binary after part result
-written_end only input limit binary after n texts entries part (Ok x) merges few few' written = (n, texts, entries, merges, (few, few'), written)
-written_end only input limit binary after n texts entries part (Err (Line error)) merges few few' written = absurd written.0
-written_end only input limit binary after n texts entries part (Err TooManyLines) merges few few' written = absurd written.0
-written_end only input limit binary after n texts entries part (Err ReadFailed) merges few few' written = absurd written.0
-written_end only input limit binary after n texts entries part (Err WriteFailed) merges few few' written = inr (n, texts, entries, merges.0, written.1)
-written_end only input limit binary after n texts entries part (Err ReaderGone) merges few few' written = inr (n, texts, entries, merges.0, written.1)
-written_end only input limit binary after n texts entries part (Err (Column column error)) merges few few' written = absurd written.0
+written_end : (only : Bool) (input : List ℕ) (limit : ℕ) (form : List Text → List (Option ℕ) → List ℕ) (after : Option (List ℕ)) (n : ℕ) (texts : List Text) (entries : List (Option ℕ)) (part : List ℕ) (result : Result (Unit {0}) RunError) → MergesWithin only limit n input texts entries [] → length (distinct_of texts) < 2 ^ 32 → length entries < 2 ^ 64 → WritesAll (form (distinct_of texts) entries) result part → MergedEnd input only limit form after part result
+written_end only input limit form after n texts entries part (Ok x) merges few few' written = (n, texts, entries, merges, (few, few'), written)
+written_end only input limit form after n texts entries part (Err (Line error)) merges few few' written = absurd written.0
+written_end only input limit form after n texts entries part (Err TooManyLines) merges few few' written = absurd written.0
+written_end only input limit form after n texts entries part (Err ReadFailed) merges few few' written = absurd written.0
+written_end only input limit form after n texts entries part (Err WriteFailed) merges few few' written = inr (n, texts, entries, merges.0, written.1)
+written_end only input limit form after n texts entries part (Err ReaderGone) merges few few' written = inr (n, texts, entries, merges.0, written.1)
+written_end only input limit form after n texts entries part (Err (Column column error)) merges few few' written = absurd written.0
 
 -- the column is written, or a beginning of it
-pub merged_written : (only : Bool) (input : List ℕ) (limit : ℕ) (binary : Bool) (after : Option (List ℕ)) (table list : List Text) (numbers part : List ℕ) (result : Result (Unit {0}) RunError) → table ≡ map line_of list → AreMerged input only limit list numbers → length numbers < 2 ^ 64 → WritesAll (column_of binary table (map entry_at numbers)) result part → MergeEnd input only limit binary after part result
-merged_written only input limit binary after table list numbers part result table_is are few written =
+pub merged_written : (only : Bool) (input : List ℕ) (limit : ℕ) (form : List Text → List (Option ℕ) → List ℕ) (after : Option (List ℕ)) (table list : List Text) (numbers part : List ℕ) (result : Result (Unit {0}) RunError) → table ≡ map line_of list → AreMerged input only limit list numbers → length numbers < 2 ^ 64 → WritesAll (form table (map entry_at numbers)) result part → MergedEnd input only limit form after part result
+merged_written only input limit form after table list numbers part result table_is are few written =
     let texts = are.1 in
     let entries = map entry_at numbers in
-    written_end only input limit binary after are.0 texts entries part result are.2 (subst (λ n. n < 2 ^ 32) (ap length are.3 ∙ length-map (distinct_of texts) text_of) are.5) (subst (λ n. n < 2 ^ 64) (sym (length-map numbers entry_at)) few)
-    (subst (λ (ts : List Text). WritesAll (column_of binary ts entries) result part) (table_back table list (distinct_of texts) table_is are.3 (distinct_are_bytes texts are.4)) written)
+    written_end only input limit form after are.0 texts entries part result are.2 (subst (λ n. n < 2 ^ 32) (ap length are.3 ∙ length-map (distinct_of texts) text_of) are.5) (subst (λ n. n < 2 ^ 64) (sym (length-map numbers entry_at)) few)
+    (subst (λ (ts : List Text). WritesAll (form ts entries) result part) (table_back table list (distinct_of texts) table_is are.3 (distinct_are_bytes texts are.4)) written)
 
 -- columns were not merged, and nothing is written
-pub none_merged : (only : Bool) (input : List ℕ) (limit : ℕ) (binary : Bool) (after : Option (List ℕ)) (error : RunError) → MergingError input only limit after error → MergeEnd input only limit binary after [] (Err error)
-none_merged only input limit binary after (Line error) is = (refl, is)
-none_merged only input limit binary after TooManyLines is = (refl, is)
-none_merged only input limit binary after ReadFailed is = (refl, is)
-none_merged only input limit binary after WriteFailed is = absurd is
-none_merged only input limit binary after ReaderGone is = absurd is
-none_merged only input limit binary after (Column column error) is = (refl, is)
+pub none_merged : (only : Bool) (input : List ℕ) (limit : ℕ) (form : List Text → List (Option ℕ) → List ℕ) (after : Option (List ℕ)) (error : RunError) → MergingError input only limit after error → MergedEnd input only limit form after [] (Err error)
+none_merged only input limit form after (Line error) is = (refl, is)
+none_merged only input limit form after TooManyLines is = (refl, is)
+none_merged only input limit form after ReadFailed is = (refl, is)
+none_merged only input limit form after WriteFailed is = absurd is
+none_merged only input limit form after ReaderGone is = absurd is
+none_merged only input limit form after (Column column error) is = (refl, is)
 
 -- there was no memory for the interner
 pub unmade : (only : Bool) (input : List ℕ) (limit : ℕ) (after : Option (List ℕ)) (error : RunError) → error ≡ Line (Refused 0 FailedAllocation) → MergingError input only limit after error
 unmade only input limit after error is = subst (MergingError input only limit after) (sym is) refl
 
-end_begun : (only : Bool) (input : List ℕ) (limit : ℕ) (binary : Bool) (after : Option (List ℕ)) (part : List ℕ) (result : Result (Unit {0}) RunError) → MergeEnd input only limit binary after part result → IsMergeBegun input only binary part
-end_begun only input limit binary after part (Ok x) end = inr (end.0, end.1, end.2, end.3.0, ([], sym end.5 ∙ sym (append-nil part)))
-end_begun only input limit binary after part (Err (Line error)) end = inl end.0
-end_begun only input limit binary after part (Err TooManyLines) end = inl end.0
-end_begun only input limit binary after part (Err ReadFailed) end = inl end.0
-end_begun only input limit binary after part (Err WriteFailed) end = end
-end_begun only input limit binary after part (Err ReaderGone) end = end
-end_begun only input limit binary after part (Err (Column column error)) end = inl end.0
+end_begun : (only : Bool) (input : List ℕ) (limit : ℕ) (form : List Text → List (Option ℕ) → List ℕ) (after : Option (List ℕ)) (part : List ℕ) (result : Result (Unit {0}) RunError) → MergedEnd input only limit form after part result → IsMergeBegun input only form part
+end_begun only input limit form after part (Ok x) end = inr (end.0, end.1, end.2, end.3.0, ([], sym end.5 ∙ sym (append-nil part)))
+end_begun only input limit form after part (Err (Line error)) end = inl end.0
+end_begun only input limit form after part (Err TooManyLines) end = inl end.0
+end_begun only input limit form after part (Err ReadFailed) end = inl end.0
+end_begun only input limit form after part (Err WriteFailed) end = end
+end_begun only input limit form after part (Err ReaderGone) end = end
+end_begun only input limit form after part (Err (Column column error)) end = inl end.0
 
-write_end : (only : Bool) (input : List ℕ) (limit : ℕ) (binary : Bool) (after : Option (List ℕ)) (part : List ℕ) (result : Result (Unit {0}) RunError) → IsMergeBegun input only binary part → IsWriteEnd result → MergeEnd input only limit binary after part result
-write_end only input limit binary after part (Ok x) begun is = absurd is
-write_end only input limit binary after part (Err (Line error)) begun is = absurd is
-write_end only input limit binary after part (Err TooManyLines) begun is = absurd is
-write_end only input limit binary after part (Err ReadFailed) begun is = absurd is
-write_end only input limit binary after part (Err WriteFailed) begun is = begun
-write_end only input limit binary after part (Err ReaderGone) begun is = begun
-write_end only input limit binary after part (Err (Column column error)) begun is = absurd is
+write_end : (only : Bool) (input : List ℕ) (limit : ℕ) (form : List Text → List (Option ℕ) → List ℕ) (after : Option (List ℕ)) (part : List ℕ) (result : Result (Unit {0}) RunError) → IsMergeBegun input only form part → IsWriteEnd result → MergedEnd input only limit form after part result
+write_end only input limit form after part (Ok x) begun is = absurd is
+write_end only input limit form after part (Err (Line error)) begun is = absurd is
+write_end only input limit form after part (Err TooManyLines) begun is = absurd is
+write_end only input limit form after part (Err ReadFailed) begun is = absurd is
+write_end only input limit form after part (Err WriteFailed) begun is = begun
+write_end only input limit form after part (Err ReaderGone) begun is = begun
+write_end only input limit form after part (Err (Column column error)) begun is = absurd is
 
 -- the run ends as it did before the flush, or with the error of the flush
-pub end_then : (only : Bool) (input : List ℕ) (limit : ℕ) (binary : Bool) (after : Option (List ℕ)) (part : List ℕ) (given result : Result (Unit {0}) RunError) → MergeEnd input only limit binary after part given → (result ≡ given) ⊎ IsWriteEnd result → MergeEnd input only limit binary after part result
-end_then only input limit binary after part given result end (inl same) = subst (MergeEnd input only limit binary after part) (sym same) end
-end_then only input limit binary after part given result end (inr is) = write_end only input limit binary after part result (end_begun only input limit binary after part given end) is
+pub end_then : (only : Bool) (input : List ℕ) (limit : ℕ) (form : List Text → List (Option ℕ) → List ℕ) (after : Option (List ℕ)) (part : List ℕ) (given result : Result (Unit {0}) RunError) → MergedEnd input only limit form after part given → (result ≡ given) ⊎ IsWriteEnd result → MergedEnd input only limit form after part result
+end_then only input limit form after part given result end (inl same) = subst (MergedEnd input only limit form after part) (sym same) end
+end_then only input limit form after part given result end (inr is) = write_end only input limit form after part result (end_begun only input limit form after part given end) is

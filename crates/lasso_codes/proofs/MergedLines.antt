@@ -31,7 +31,7 @@ new_one list x xs ys false same more =
     let new = new_texts (list ++ x ∷ []) xs in
     ap (λ (ts : List Text). x ∷ ts) more ∙ ap (λ (ts : List Text). x ∷ (new ++ new_texts ts ys)) (append_assoc list (x ∷ []) new)
 
-new_both : (list xs ys : List Text) → new_texts list (xs ++ ys) ≡ new_texts list xs ++ new_texts (list ++ new_texts list xs) ys
+pub new_both : (list xs ys : List Text) → new_texts list (xs ++ ys) ≡ new_texts list xs ++ new_texts (list ++ new_texts list xs) ys
 new_both list [] ys = ap (λ (ts : List Text). new_texts ts ys) (sym (append-nil list))
 new_both list (x ∷ xs) ys = new_one list x xs ys (is_some (position_of list x)) (new_both list xs ys) (new_both (list ++ x ∷ []) xs ys)
 

@@ -20,7 +20,7 @@ module _ (word : Text) where
   IsNearest least nearest = IfSome nearest (λ verb. (edits word verb ≡ least) × (least ≤ 2))
 
   -- the verb at the index has fewer edits
-  pub nearer : (i least count : ℕ) (verb d : Verb) (least' : ℕ) (nearest' : Option Verb) → i < 5 → All (IsAsFar least) (take i verbs) → least ≤ 3
+  pub nearer : (i least count : ℕ) (verb d : Verb) (least' : ℕ) (nearest' : Option Verb) → i < 8 → All (IsAsFar least) (take i verbs) → least ≤ 3
       → verb ≡ get_or verbs i d → count ≡ edits word verb → count < least → least' ≡ count → nearest' ≡ Some verb
       → All (IsAsFar least') (take (i + 1) verbs) × IsNearest least' nearest' × (least' ≤ 3)
   nearer i least count verb d least' nearest' small so_far few is counted less same found =
@@ -33,7 +33,7 @@ module _ (word : Text) where
       )
 
   -- it has not
-  pub no_nearer : (i least count : ℕ) (verb d : Verb) (nearest : Option Verb) (least' : ℕ) (nearest' : Option Verb) → i < 5 → All (IsAsFar least) (take i verbs) → IsNearest least nearest → least ≤ 3
+  pub no_nearer : (i least count : ℕ) (verb d : Verb) (nearest : Option Verb) (least' : ℕ) (nearest' : Option Verb) → i < 8 → All (IsAsFar least) (take i verbs) → IsNearest least nearest → least ≤ 3
       → verb ≡ get_or verbs i d → count ≡ edits word verb → least ≤ count → least' ≡ least → nearest' ≡ nearest
       → All (IsAsFar least') (take (i + 1) verbs) × IsNearest least' nearest' × (least' ≤ 3)
   no_nearer i least count verb d nearest least' nearest' small so_far nearest_is few is counted more same found =
@@ -44,7 +44,7 @@ module _ (word : Text) where
       )
 
   -- after the last verb
-  pub nearest_of_all : (i least : ℕ) (nearest : Option Verb) → 5 ≤ i → All (IsAsFar least) (take i verbs) → IsNearest least nearest → IfSome nearest (λ verb. All (λ other. edits word verb ≤ edits word other) verbs)
+  pub nearest_of_all : (i least : ℕ) (nearest : Option Verb) → 8 ≤ i → All (IsAsFar least) (take i verbs) → IsNearest least nearest → IfSome nearest (λ verb. All (λ other. edits word verb ≤ edits word other) verbs)
   nearest_of_all i least None past so_far is = tt
   nearest_of_all i least (Some verb) past so_far is =
       All-weaker (IsAsFar least) (λ other. edits word verb ≤ edits word other) (λ other far. omega (arith, far, is.0)) verbs (subst (All (IsAsFar least)) (take_all i verbs past) so_far)

@@ -96,7 +96,7 @@ unfolding is_free
 front_no_feed true = tells_free (header_front true) refl
 front_no_feed false = tells_free (header_front false) refl
 
-head_back : (binary : Bool) (d n : ℕ) (rest : List ℕ) → d < 2 ^ 64 → n < 2 ^ 64 → head_of (header binary d n ++ rest) ≡ Some (record { binary = binary; distinct = d; lines = n }, rest)
+pub head_back : (binary : Bool) (d n : ℕ) (rest : List ℕ) → d < 2 ^ 64 → n < 2 ^ 64 → head_of (header binary d n ++ rest) ≡ Some (record { binary = binary; distinct = d; lines = n }, rest)
 head_back binary d n rest small small' =
     let line = header_front binary ++ (decimal d ++ 32 ∷ decimal n) in
     let ds_free : NoFeed (decimal d) = lacks_feed (decimal d) (decimal_lacks 10 d (omega arith) small) in
@@ -112,7 +112,7 @@ abbrev pub AreFresh : Bool → List Text → List Text → Type 0
 AreFresh only list [] = Unit {0}
 AreFresh only list (t ∷ ts) = NoFeed t × (is_let_in only t ≡ true) × (position_of list t ≡ None) × AreFresh only (list ++ t ∷ []) ts
 
-texts_back : (only : Bool) (list texts : List Text) (rest : List ℕ) → AreFresh only list texts → texts_from only (length texts) list (flat_map with_feed texts ++ rest) ≡ Ok (list ++ texts, rest)
+pub texts_back : (only : Bool) (list texts : List Text) (rest : List ℕ) → AreFresh only list texts → texts_from only (length texts) list (flat_map with_feed texts ++ rest) ≡ Ok (list ++ texts, rest)
 texts_back only list [] rest fresh = ap (λ (ts : List Text). Ok (ts, rest)) (sym (append-nil list))
 texts_back only list (t ∷ ts) rest fresh =
     let others = flat_map with_feed ts ++ rest in
@@ -143,7 +143,7 @@ code_back : (code : ℕ) → code < 2 ^ 64 → entry_in (decimal code) ≡ Code 
 code_back code small =
     ap (λ b. cond b Null (code_in (digits_value (decimal code)))) (no_minus (decimal code) (decimal_lacks 45 code (omega arith) small)) ∙ ap code_in (number_read code small)
 
-entry_back : (binary : Bool) (entry : Option ℕ) (rest : List ℕ) → HasCode entry → cut_entry binary (entry_bytes binary entry ++ rest) ≡ (entry_for entry, rest)
+pub entry_back : (binary : Bool) (entry : Option ℕ) (rest : List ℕ) → HasCode entry → cut_entry binary (entry_bytes binary entry ++ rest) ≡ (entry_for entry, rest)
 entry_back true None rest has = bytes_back 4294967295 rest (omega arith)
 entry_back true (Some code) rest has = bytes_back code rest (omega (arith, has)) ∙ ap (λ e. (e, rest)) (number_back code has)
 entry_back false None rest has = refl
@@ -196,7 +196,7 @@ pub fresh_new : (only : Bool) (list texts : List Text) → ArePlain only texts �
 fresh_new only list [] plain = tt
 fresh_new only list (t ∷ ts) plain = fresh_one only list t ts plain (position_of list t) refl (fresh_new only list ts plain.2) (fresh_new only (list ++ t ∷ []) ts plain.2)
 
-abbrev AreFree : List (List ℕ) → Type 0
+abbrev pub AreFree : List (List ℕ) → Type 0
 AreFree [] = Unit {0}
 AreFree (l ∷ ls) = NoFeed l × AreFree ls
 
@@ -208,11 +208,11 @@ free_one : (b : ℕ) (lines : List (List ℕ)) (feed : Bool) → is_line_feed b 
 free_one b lines true e free = (tt, free)
 free_one b lines false e free = free_onto b lines e free
 
-lines_free : (bytes : List ℕ) → AreFree (lines_of bytes)
+pub lines_free : (bytes : List ℕ) → AreFree (lines_of bytes)
 lines_free [] = tt
 lines_free (b ∷ bytes) = free_one b (lines_of bytes) (is_line_feed b) refl (lines_free bytes)
 
-plain_lines : (only : Bool) (lines : List Text) → AreFree lines → All (λ l. is_let_in only l ≡ true) lines → ArePlain only lines
+pub plain_lines : (only : Bool) (lines : List Text) → AreFree lines → All (λ l. is_let_in only l ≡ true) lines → ArePlain only lines
 plain_lines only [] free lets = tt
 plain_lines only (l ∷ ls) free lets =
     (free.0, All-head (λ t. is_let_in only t ≡ true) l ls lets, plain_lines only ls free.1 (All-tail (λ t. is_let_in only t ≡ true) l ls lets))
@@ -221,16 +221,16 @@ plain_one : (only keep : Bool) (l : Text) (ls : List Text) → NoFeed l → is_l
 plain_one only true l ls free let_in plain = (free, let_in, plain)
 plain_one only false l ls free let_in plain = plain
 
-plain_texts : (only : Bool) (null : Option Text) (lines : List Text) → ArePlain only lines → ArePlain only (texts_of null lines)
+pub plain_texts : (only : Bool) (null : Option Text) (lines : List Text) → ArePlain only lines → ArePlain only (texts_of null lines)
 plain_texts only null [] plain = tt
 plain_texts only null (l ∷ ls) plain = plain_one only (not (is_null null l)) l (texts_of null ls) plain.0 plain.1 (plain_texts only null ls plain.2)
 
 -- each of the lines that is not null is in the list
-abbrev StandsAs : Bool → List Text → Text → Type 0
+abbrev pub StandsAs : Bool → List Text → Text → Type 0
 StandsAs true list l = Unit {0}
 StandsAs false list l = (n : ℕ) × (position_of list l ≡ Some n)
 
-abbrev AllStand : Option Text → List Text → List Text → Type 0
+abbrev pub AllStand : Option Text → List Text → List Text → Type 0
 AllStand null list [] = Unit {0}
 AllStand null list (l ∷ ls) = StandsAs (is_null null l) list l × AllStand null list ls
 
@@ -264,7 +264,7 @@ stand_one : (keep : Bool) (list : List Text) (l : Text) (texts : List Text) → 
 stand_one true list l texts found = (found.0, found.1)
 stand_one false list l texts found = (tt, found)
 
-all_stand : (null : Option Text) (list lines : List Text) → AllFound list (texts_of null lines) → AllStand null list lines
+pub all_stand : (null : Option Text) (list lines : List Text) → AllFound list (texts_of null lines) → AllStand null list lines
 all_stand null list [] found = tt
 all_stand null list (l ∷ ls) found =
     let one = stand_one (not (is_null null l)) list l (texts_of null ls) found in
@@ -300,7 +300,7 @@ column_lines only binary null input rest lets many few =
     let stand : AllStand null list lines = all_stand null list lines (found_new [] (texts_of null lines)) in
     column_back only binary null list (map (entry_of null list) lines) lines rest fresh (lines_read null list lines few stand) (omega (arith, few)) (omega (arith, many, length-map lines (entry_of null list)))
 
-let_in_too : (strict only : Bool) (line : Text) → (strict ≡ true → only ≡ true) → is_let_in only line ≡ true → is_let_in strict line ≡ true
+pub let_in_too : (strict only : Bool) (line : Text) → (strict ≡ true → only ≡ true) → is_let_in only line ≡ true → is_let_in strict line ≡ true
 let_in_too false only line weaker let_in = refl
 let_in_too true only line weaker let_in = subst (λ o. is_let_in o line ≡ true) (weaker refl) let_in
 

@@ -20,7 +20,7 @@ use Rattle.lasso_codes.specs.Limits.{line_texts, Admits}
 use Rattle.lasso_codes.specs.Reading.{ReadTexts, on_text, texts_from, read_list, first_texts, AddsText, AddError, IsTextError, TextsError}
 use Rattle.lasso_codes.specs.Streams.{cut_line}
 use Rattle.lasso_codes.specs.declared.error.ColumnError.{ColumnError}
-use Rattle.lasso_codes.specs.declared.error.ColumnError.TheVariants.{NoHeader, NoText, NotUtf8, Doubled, TextRefused, NoEntry, NotEntry, PastTexts, IsNull, NotMerged}
+use Rattle.lasso_codes.specs.declared.error.ColumnError.TheVariants.{NoHeader, NoText, NotUtf8, Doubled, TextRefused, NoEntry, NotEntry, PastTexts, IsNull, NotMerged, HasEntries, Absent}
 use Rattle.lasso_codes.specs.declared.error.RunError.TheVariants.{Column}
 use Rattle.lasso_codes.proofs.LineTexts.{position_of_text, texts_push}
 
@@ -138,6 +138,8 @@ module _ (only : Bool) (bytes rest : List ℕ) (position distinct : ℕ) (now : 
   faulty limit line left (PastTexts number) list cut is = absurd is
   faulty limit line left (IsNull number) list cut is = absurd is
   faulty limit line left (NotMerged error) list cut is = absurd is
+  faulty limit line left HasEntries list cut is = absurd is
+  faulty limit line left (Absent number) list cut is = absurd is
 
   pub reading_fails : (limit column : ℕ) (after : Option (List ℕ)) (line : Text) (left : List ℕ) (error : ColumnError) → extend spur_at (made_with 4096 limit) now.texts accepted now → cut_line rest ≡ Some (line, left) → AddError only now line (position + 1) error → TextsError only limit distinct column bytes after (Column column error)
   reading_fails limit column after line left error list cut is = inr (error, refl, faulty limit line left error list cut is)

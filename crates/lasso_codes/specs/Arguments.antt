@@ -6,7 +6,7 @@ use Rattle.lasso_input.specs.Workers.{most_workers}
 use Rattle.lasso_columns.specs.Rows.{word_of}
 use Rattle.lasso_codes.specs.Shown.{shown_text}
 use Rattle.lasso_codes.specs.declared.arguments.Verb.{Verb}
-use Rattle.lasso_codes.specs.declared.arguments.Verb.TheVariants.{Counts, Decode, Distinct, Encode, Merge}
+use Rattle.lasso_codes.specs.declared.arguments.Verb.TheVariants.{Counts, Decode, Dictionary, Distinct, Encode, Join, Merge, Recode}
 use Rattle.lasso_codes.specs.declared.arguments.Settings.{Settings}
 use Rattle.lasso_codes.specs.declared.arguments.Command.{Command}
 use Rattle.lasso_codes.specs.declared.arguments.Command.TheVariants.{Help, VerbHelp, Version, Run}
@@ -89,30 +89,42 @@ argument_text NotText = codes "an argument is not UTF-8"
 abbrev pub takes_top : Verb → Bool
 takes_top Counts = true
 takes_top Decode = false
+takes_top Dictionary = false
 takes_top Distinct = false
 takes_top Encode = false
+takes_top Join = false
 takes_top Merge = false
+takes_top Recode = false
 
 abbrev pub takes_null : Verb → Bool
 takes_null Counts = false
 takes_null Decode = true
+takes_null Dictionary = false
 takes_null Distinct = false
 takes_null Encode = true
+takes_null Join = false
 takes_null Merge = false
+takes_null Recode = false
 
 abbrev pub takes_binary : Verb → Bool
 takes_binary Counts = false
 takes_binary Decode = false
+takes_binary Dictionary = true
 takes_binary Distinct = false
 takes_binary Encode = true
+takes_binary Join = true
 takes_binary Merge = true
+takes_binary Recode = true
 
 abbrev pub takes_workers : Verb → Bool
 takes_workers Counts = true
 takes_workers Decode = false
+takes_workers Dictionary = false
 takes_workers Distinct = false
 takes_workers Encode = true
+takes_workers Join = false
 takes_workers Merge = false
+takes_workers Recode = false
 
 -- the verb's setting of this name
 abbrev pub setting_of : Verb → Text → Option Setting
@@ -252,16 +264,22 @@ ReadsValue value result =
 abbrev pub name_of : Verb → List ℕ
 name_of Counts = codes "counts"
 name_of Decode = codes "decode"
+name_of Dictionary = codes "dictionary"
 name_of Distinct = codes "distinct"
 name_of Encode = codes "encode"
+name_of Join = codes "join"
 name_of Merge = codes "merge"
+name_of Recode = codes "recode"
 
 abbrev pub verb_of : Text → Option Verb
 verb_of word =
     if bytes_eq word (codes "counts") then Some Counts
     else (if bytes_eq word (codes "decode") then Some Decode
+    else (if bytes_eq word (codes "dictionary") then Some Dictionary
     else (if bytes_eq word (codes "distinct") then Some Distinct
-    else (if bytes_eq word (codes "encode") then Some Encode else (if bytes_eq word (codes "merge") then Some Merge else None))))
+    else (if bytes_eq word (codes "encode") then Some Encode
+    else (if bytes_eq word (codes "join") then Some Join
+    else (if bytes_eq word (codes "merge") then Some Merge else (if bytes_eq word (codes "recode") then Some Recode else None)))))))
 
 -- the default settings: no limit, all lines, codes as text, one worker, and a progress line
 abbrev pub unset : Settings

@@ -7,7 +7,7 @@ use Rattle.lasso_columns.specs.Faults.{line_error_text}
 use Rattle.lasso_columns.specs.declared.faults.LineError.TheVariants.{Refused, NotText}
 use Rattle.lasso_codes.specs.Views.{InputView, OutputView}
 use Rattle.lasso_codes.specs.declared.error.ColumnError.{ColumnError}
-use Rattle.lasso_codes.specs.declared.error.ColumnError.TheVariants.{NoHeader, NoText, NotUtf8, Doubled, TextRefused, NoEntry, NotEntry, PastTexts, IsNull, NotMerged}
+use Rattle.lasso_codes.specs.declared.error.ColumnError.TheVariants.{NoHeader, NoText, NotUtf8, Doubled, TextRefused, NoEntry, NotEntry, PastTexts, IsNull, NotMerged, HasEntries, Absent}
 use Rattle.lasso_codes.specs.declared.error.RunError.{RunError}
 use Rattle.lasso_codes.specs.declared.error.RunError.TheVariants.{Line, TooManyLines, ReadFailed, WriteFailed, ReaderGone, Column}
 
@@ -23,6 +23,8 @@ column_status (NotEntry number) = 2
 column_status (PastTexts number) = 2
 column_status (IsNull number) = 2
 column_status (NotMerged error) = 1
+column_status HasEntries = 2
+column_status (Absent number) = 2
 
 -- what such an error prints
 abbrev pub column_fault_text : ColumnError → List ℕ
@@ -36,6 +38,8 @@ column_fault_text (NotEntry number) = codes "entry " ++ (decimal number ++ codes
 column_fault_text (PastTexts number) = codes "entry " ++ (decimal number ++ codes " is past the texts")
 column_fault_text (IsNull number) = codes "entry " ++ (decimal number ++ codes " is a null, and --null is missing")
 column_fault_text (NotMerged error) = error_text error
+column_fault_text HasEntries = codes "a dictionary has no entries"
+column_fault_text (Absent number) = codes "text " ++ (decimal number ++ codes " is not in the dictionary")
 
 -- the exit status of an error
 abbrev pub status_of : RunError → ℕ

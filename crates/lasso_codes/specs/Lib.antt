@@ -16,6 +16,7 @@ pub mod Endings
 pub mod Reading
 pub mod Decode
 pub mod Merge
+pub mod Recode
 pub mod Requests
 pub mod Progress
 pub mod Stages

@@ -105,10 +105,10 @@ IsMergeError only limit before bytes (NotMerged error) = Admits limit (line_text
 IsMergeError only limit before bytes error =
     IsColumnError only (recoded (distinct_of (before ++ texts_at only bytes))) limit bytes error × (IsEntryError error → Admits limit (line_texts (before ++ texts_at only bytes)))
 
--- nothing was written, or a beginning of the merged column
-abbrev pub IsMergeBegun : List ℕ → Bool → Bool → List ℕ → Type 0
-IsMergeBegun input only binary part =
-    (part ≡ []) ⊎ ((n : ℕ) × (texts : List Text) × (entries : List (Option ℕ)) × Merges only n input texts entries [] × Begins part (column_of binary (distinct_of texts) entries))
+-- nothing was written, or a beginning of what the form makes of the merged dictionary and entries
+abbrev pub IsMergeBegun : List ℕ → Bool → (List Text → List (Option ℕ) → List ℕ) → List ℕ → Type 0
+IsMergeBegun input only form part =
+    (part ≡ []) ⊎ ((n : ℕ) × (texts : List Text) × (entries : List (Option ℕ)) × Merges only n input texts entries [] × Begins part (form (distinct_of texts) entries))
 
 -- the list is the dictionary of the merged column, and the numbers are those of its entries
 abbrev pub AreMerged : List ℕ → Bool → ℕ → List Text → List ℕ → Type 0
@@ -135,30 +135,45 @@ MergingError input only limit after (Column column error) =
 
 -- how a run ends with an error after it has written the part, and what is left of the input then. Nothing was written
 -- unless all columns were merged
-abbrev pub MergeError : List ℕ → Bool → ℕ → Bool → Option (List ℕ) → List ℕ → RunError → Type 0
-MergeError input only limit binary after part (Line error) = (part ≡ []) × MergingError input only limit after (Line error)
-MergeError input only limit binary after part TooManyLines = (part ≡ []) × MergingError input only limit after TooManyLines
-MergeError input only limit binary after part ReadFailed = (part ≡ []) × MergingError input only limit after ReadFailed
-MergeError input only limit binary after part WriteFailed = IsMergeBegun input only binary part
-MergeError input only limit binary after part ReaderGone = IsMergeBegun input only binary part
-MergeError input only limit binary after part (Column column error) = (part ≡ []) × MergingError input only limit after (Column column error)
+abbrev pub MergeError : List ℕ → Bool → ℕ → (List Text → List (Option ℕ) → List ℕ) → Option (List ℕ) → List ℕ → RunError → Type 0
+MergeError input only limit form after part (Line error) = (part ≡ []) × MergingError input only limit after (Line error)
+MergeError input only limit form after part TooManyLines = (part ≡ []) × MergingError input only limit after TooManyLines
+MergeError input only limit form after part ReadFailed = (part ≡ []) × MergingError input only limit after ReadFailed
+MergeError input only limit form after part WriteFailed = IsMergeBegun input only form part
+MergeError input only limit form after part ReaderGone = IsMergeBegun input only form part
+MergeError input only limit form after part (Column column error) = (part ≡ []) × MergingError input only limit after (Column column error)
 
 -- the codes and the number of entries fit into a column
 abbrev pub AreFew : List Text → List (Option ℕ) → Type 0
 AreFew list entries = (length list < 2 ^ 32) × (length entries < 2 ^ 64)
 
--- how a run of `merge` ends: without an error, the input is columns, they are merged within this limit, and the
--- part is the merged column
-abbrev pub MergeEnd : List ℕ → Bool → ℕ → Bool → Option (List ℕ) → List ℕ → Result (Unit {0}) RunError → Type 0
-MergeEnd input only limit binary after part result =
+-- how a run over columns ends: without an error, the input is columns, they are merged within this limit, and the part
+-- is what the form makes of the merged dictionary and entries
+abbrev pub MergedEnd : List ℕ → Bool → ℕ → (List Text → List (Option ℕ) → List ℕ) → Option (List ℕ) → List ℕ → Result (Unit {0}) RunError → Type 0
+MergedEnd input only limit form after part result =
     MatchResult result
     (λ _. (n : ℕ) × (texts : List Text) × (entries : List (Option ℕ)) × MergesWithin only limit n input texts entries [] × AreFew (distinct_of texts) entries
-    × (part ≡ column_of binary (distinct_of texts) entries))
-    (MergeError input only limit binary after part)
+    × (part ≡ form (distinct_of texts) entries))
+    (MergeError input only limit form after part)
+
+-- the column of a dictionary without its entries
+abbrev pub without_entries : Bool → List Text → List (Option ℕ) → List ℕ
+without_entries binary list entries = column_of binary list []
+
+-- how a run of `merge` ends: the part is the merged column
+abbrev pub MergeEnd : List ℕ → Bool → ℕ → Bool → Option (List ℕ) → List ℕ → Result (Unit {0}) RunError → Type 0
+MergeEnd input only limit binary after part result = MergedEnd input only limit (column_of binary) after part result
+
+-- how a run of `dictionary` ends: the part is the merged column without its entries
+abbrev pub DictionaryEnd : List ℕ → Bool → ℕ → Bool → Option (List ℕ) → List ℕ → Result (Unit {0}) RunError → Type 0
+DictionaryEnd input only limit binary after part result = MergedEnd input only limit (without_entries binary) after part result
 
 -- the same, of the input and the part
 abbrev pub MergeEnds : Bool → ℕ → Bool → Option (List ℕ) → Result (Unit {0}) RunError → List ℕ → List ℕ → Type 0
 MergeEnds only limit binary after result input part = MergeEnd input only limit binary after part result
+
+abbrev pub DictionaryEnds : Bool → ℕ → Bool → Option (List ℕ) → Result (Unit {0}) RunError → List ℕ → List ℕ → Type 0
+DictionaryEnds only limit binary after result input part = DictionaryEnd input only limit binary after part result
 
 -- ---- the laws
 

@@ -15,7 +15,7 @@ use Rattle.lasso_codes.specs.Errors.{IsReadError}
 use Rattle.lasso_codes.specs.Limits.{line_texts, Admits, IsLetIn, IsTextLackingMemory}
 use Rattle.lasso_codes.specs.Streams.{cut_line, IfKnown, LosesLine, StopsShort}
 use Rattle.lasso_codes.specs.declared.error.ColumnError.{ColumnError}
-use Rattle.lasso_codes.specs.declared.error.ColumnError.TheVariants.{NoHeader, NoText, NotUtf8, Doubled, TextRefused, NoEntry, NotEntry, PastTexts, IsNull, NotMerged}
+use Rattle.lasso_codes.specs.declared.error.ColumnError.TheVariants.{NoHeader, NoText, NotUtf8, Doubled, TextRefused, NoEntry, NotEntry, PastTexts, IsNull, NotMerged, HasEntries, Absent}
 use Rattle.lasso_codes.specs.declared.error.RunError.{RunError}
 use Rattle.lasso_codes.specs.declared.error.RunError.TheVariants.{Column}
 use Rattle.lasso_codes.specs.declared.entries.Entry.{Entry}
@@ -124,6 +124,8 @@ AddError only old line number (NotEntry at) = ⊥
 AddError only old line number (PastTexts at) = ⊥
 AddError only old line number (IsNull at) = ⊥
 AddError only old line number (NotMerged error) = ⊥
+AddError only old line number HasEntries = ⊥
+AddError only old line number (Absent at) = ⊥
 
 -- the text of the line with this number is refused by an interner with this limit that holds the texts of those
 -- before it. When memory may run out is as `IsTextLackingMemory` has it
@@ -144,6 +146,8 @@ TakesTexts only before after distinct texts =
 abbrev pub IsTextError : Bool → ℕ → ℕ → List ℕ → ColumnError → Type 0
 IsTextError only limit distinct bytes NoHeader = ⊥
 IsTextError only limit distinct bytes (NotMerged error) = ⊥
+IsTextError only limit distinct bytes HasEntries = ⊥
+IsTextError only limit distinct bytes (Absent number) = ⊥
 IsTextError only limit distinct bytes (TextRefused number error) = IsTextRefused only limit distinct bytes number error
 IsTextError only limit distinct bytes (NoEntry number) = ⊥
 IsTextError only limit distinct bytes (NotEntry number) = ⊥
@@ -240,6 +244,8 @@ IsEntryError (NotEntry number) = Unit {0}
 IsEntryError (PastTexts number) = Unit {0}
 IsEntryError (IsNull number) = Unit {0}
 IsEntryError (NotMerged error) = ⊥
+IsEntryError HasEntries = ⊥
+IsEntryError (Absent number) = ⊥
 
 -- ---- columns
 

@@ -15,21 +15,30 @@ pub enum Verb {
     Counts,
     /// Decodes columns into their lines.
     Decode,
+    /// Writes the dictionary of columns.
+    Dictionary,
     /// Lists the distinct lines.
     Distinct,
     /// Encodes the lines as a column.
     Encode,
+    /// Joins a dictionary and columns by its codes into one column.
+    Join,
     /// Merges columns into one.
     Merge,
+    /// Writes the entries of columns by the codes of a dictionary.
+    Recode,
 }
 
 /// All verbs.
-pub const VERBS: [Verb; 5] = [
+pub const VERBS: [Verb; 8] = [
     Verb::Counts,
     Verb::Decode,
+    Verb::Dictionary,
     Verb::Distinct,
     Verb::Encode,
+    Verb::Join,
     Verb::Merge,
+    Verb::Recode,
 ];
 
 impl Verb {
@@ -40,9 +49,12 @@ impl Verb {
         match self {
             Verb::Counts => "counts",
             Verb::Decode => "decode",
+            Verb::Dictionary => "dictionary",
             Verb::Distinct => "distinct",
             Verb::Encode => "encode",
+            Verb::Join => "join",
             Verb::Merge => "merge",
+            Verb::Recode => "recode",
         }
     }
 }
@@ -198,9 +210,12 @@ fn verb_of(word: &str) -> Option<Verb>
     match word {
         "counts" => Some(Verb::Counts),
         "decode" => Some(Verb::Decode),
+        "dictionary" => Some(Verb::Dictionary),
         "distinct" => Some(Verb::Distinct),
         "encode" => Some(Verb::Encode),
+        "join" => Some(Verb::Join),
         "merge" => Some(Verb::Merge),
+        "recode" => Some(Verb::Recode),
         _ => None,
     }
 }

@@ -58,6 +58,23 @@ pub fn write_column<W: Write + Drop>(
     write_entries(output, binary, numbers)
 }
 
+/// Writes the column without texts that has these entries.
+///
+/// # Errors
+/// As `write_bytes`.
+pub fn write_codes<W: Write + Drop>(
+    output: &mut Output<W>,
+    numbers: &[u32],
+    binary: bool,
+) -> Result<(), RunError>
+    ensures written { Writes output.old.written output.new.written (WritesAll (column_of binary [] (map entry_at numbers.now)) result) }
+    ensures writes { output.new.failures ≡ output.old.failures + failed_writes result }
+    ensures gone { output.new.gone ≡ output.old.gone + gone_readers result }
+{
+    write_header(output, binary, 0, numbers.len() as u64)?;
+    write_entries(output, binary, numbers)
+}
+
 /// Writes what comes before the entries of a column of this number of lines: the header, and the lines of the table.
 ///
 /// # Errors

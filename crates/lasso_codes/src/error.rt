@@ -51,6 +51,10 @@ pub enum ColumnError {
     IsNull(usize),
     /// One of the texts was refused by the merged dictionary.
     NotMerged(LassoError),
+    /// It has entries, and a dictionary has none.
+    HasEntries,
+    /// The text is not in the dictionary.
+    Absent(usize),
 }
 
 impl ColumnError {
@@ -83,6 +87,8 @@ impl fmt::Display for ColumnError {
                 "entry {number} is a null, and --null is missing"
             ),
             ColumnError::NotMerged(error) => write!(f, "{error}"),
+            ColumnError::HasEntries => write!(f, "a dictionary has no entries"),
+            ColumnError::Absent(number) => write!(f, "text {number} is not in the dictionary"),
         }
     }
 }

@@ -6,11 +6,14 @@ pub const HELP: &str = "\
 usage: lasso_codes VERB [OPTION..] < INPUT > OUTPUT
 
 Verbs:
-  counts    each distinct line after how often it came, the most frequent first
-  decode    the lines of columns
-  distinct  each distinct line once, where it first came
-  encode    a column: each distinct line once, and for each line its code
-  merge     columns as one column
+  counts      each distinct line after how often it came, most frequent first
+  decode      the lines of columns
+  dictionary  the distinct lines of columns, as a column without entries
+  distinct    each distinct line once, where it first came
+  encode      a column: each distinct line once, and for each line its code
+  join        a column of a dictionary and of entries by its codes
+  merge       columns as one column
+  recode      the entries of columns by the codes of a dictionary
 
 On a terminal, a line tells how much was read so far; --quiet turns it off.
 
@@ -49,6 +52,20 @@ Writes the lines of columns, one or several one after another.
 N is a number below 2^64, or one with K, M or G after it, as 64K for 65536.
 ";
 
+const DICTIONARY_HELP: &str = "\
+usage: lasso_codes dictionary [OPTION..] < COLUMNS > DICTIONARY
+
+Writes the distinct lines of columns, one or several one after another, as a
+column without entries.
+
+  --limit N  the most bytes that the texts of all columns may take
+  --binary   write the header of a column of codes of four bytes
+  --utf8     refuse a text that is not UTF-8
+  --quiet    show no progress on a terminal
+
+N is a number below 2^64, or one with K, M or G after it, as 64K for 65536.
+";
+
 const DISTINCT_HELP: &str = "\
 usage: lasso_codes distinct [OPTION..] < INPUT > OUTPUT
 
@@ -77,6 +94,20 @@ which is the position of the line among the distinct ones, from 0.
 N is a number below 2^64, or one with K, M or G after it, as 64K for 65536.
 ";
 
+const JOIN_HELP: &str = "\
+usage: lasso_codes join [OPTION..] < INPUT > COLUMN
+
+Reads what recode reads. Writes one column of the dictionary and of the entries
+by its codes.
+
+  --limit N  the most bytes that the texts of a column may take
+  --binary   write codes as four bytes each, the least first
+  --utf8     refuse a text that is not UTF-8
+  --quiet    show no progress on a terminal
+
+N is a number below 2^64, or one with K, M or G after it, as 64K for 65536.
+";
+
 const MERGE_HELP: &str = "\
 usage: lasso_codes merge [OPTION..] < COLUMNS > COLUMN
 
@@ -90,13 +121,32 @@ Writes one column of the lines of columns, one or several one after another.
 N is a number below 2^64, or one with K, M or G after it, as 64K for 65536.
 ";
 
+const RECODE_HELP: &str = "\
+usage: lasso_codes recode [OPTION..] < INPUT > ENTRIES
+
+Reads a dictionary, which is a column without entries, and then columns, one or
+several. Writes their entries by its codes, as a column without texts.
+The dictionary has each text of the columns; the entries of a column without
+texts are its codes already.
+
+  --limit N  the most bytes that the texts of a column may take
+  --binary   write codes as four bytes each, the least first
+  --utf8     refuse a text that is not UTF-8
+  --quiet    show no progress on a terminal
+
+N is a number below 2^64, or one with K, M or G after it, as 64K for 65536.
+";
+
 /// The text of `lasso_codes VERB --help`.
 pub fn verb_help(verb: Verb) -> &'static str {
     match verb {
         Verb::Counts => COUNTS_HELP,
         Verb::Decode => DECODE_HELP,
+        Verb::Dictionary => DICTIONARY_HELP,
         Verb::Distinct => DISTINCT_HELP,
         Verb::Encode => ENCODE_HELP,
+        Verb::Join => JOIN_HELP,
         Verb::Merge => MERGE_HELP,
+        Verb::Recode => RECODE_HELP,
     }
 }

@@ -13,6 +13,7 @@ pub mod cause;
 pub mod columns;
 pub mod counts;
 pub mod decode;
+pub mod dictionary;
 pub mod distinct;
 pub mod encode;
 pub mod ending;
@@ -35,6 +36,7 @@ pub mod program;
 pub mod progress;
 pub mod ranking;
 pub mod reading;
+pub mod recode;
 pub mod shown;
 pub mod streams;
 

@@ -69,8 +69,12 @@ fn write_merged<R: Read + Drop, W: Write + Drop>(
     write_column(output, &table, &numbers, binary)
 }
 
-// Interns the texts of each column, and appends its entries with the codes of these.
-fn merge_columns<R: Read + Drop>(
+/// Interns the texts of each column, and appends its entries with the codes of these. The interner must be new, and there
+/// must be no entries.
+///
+/// # Errors
+/// Those of `merge` before a write.
+pub fn merge_columns<R: Read + Drop>(
     rule: TextRule,
     input: &mut Input<R>,
     rodeo: &mut SpurRodeo,
@@ -99,8 +103,11 @@ fn merge_columns<R: Read + Drop>(
     Err(RunError::TooManyLines)
 }
 
-// Appends each entry of a column. `table` has the new code for each code of the column.
-fn add_numbers<R: Read + Drop>(
+/// Appends each entry of a column with this header and number. `table` has the new code for each code of the column.
+///
+/// # Errors
+/// An entry that is missing, bad or past the texts, a failed read, or out of memory. The entries before it are appended.
+pub fn add_numbers<R: Read + Drop>(
     input: &mut Input<R>,
     line: &mut Vec<u8>,
     numbers: &mut Vec<u32>,

@@ -179,8 +179,13 @@ fn takes_null(verb: Verb) -> bool
     ensures { result ≡ takes_null verb }
 {
     match verb {
-        Verb::Counts | Verb::Distinct | Verb::Merge => false,
         Verb::Decode | Verb::Encode => true,
+        Verb::Counts
+        | Verb::Dictionary
+        | Verb::Distinct
+        | Verb::Join
+        | Verb::Merge
+        | Verb::Recode => false,
     }
 }
 
@@ -190,7 +195,7 @@ fn takes_binary(verb: Verb) -> bool
 {
     match verb {
         Verb::Counts | Verb::Decode | Verb::Distinct => false,
-        Verb::Encode | Verb::Merge => true,
+        Verb::Dictionary | Verb::Encode | Verb::Join | Verb::Merge | Verb::Recode => true,
     }
 }
 
@@ -200,7 +205,12 @@ fn takes_workers(verb: Verb) -> bool
 {
     match verb {
         Verb::Counts | Verb::Encode => true,
-        Verb::Decode | Verb::Distinct | Verb::Merge => false,
+        Verb::Decode
+        | Verb::Dictionary
+        | Verb::Distinct
+        | Verb::Join
+        | Verb::Merge
+        | Verb::Recode => false,
     }
 }
 

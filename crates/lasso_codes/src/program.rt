@@ -7,7 +7,8 @@ ghost use Rattle.lasso_codes.specs.Decode.{DecodeEnds};
 ghost use Rattle.lasso_codes.specs.Distinct.{DistinctEnds};
 ghost use Rattle.lasso_codes.specs.Encode.{EncodeEnds};
 ghost use Rattle.lasso_codes.specs.Errors.{failed_reads, failed_writes, gone_readers, IsWriteEnd, IsWriteError};
-ghost use Rattle.lasso_codes.specs.Merge.{MergeEnds};
+ghost use Rattle.lasso_codes.specs.Merge.{DictionaryEnds, MergeEnds};
+ghost use Rattle.lasso_codes.specs.Recode.{JoinEnds, RecodeEnds};
 ghost use Rattle.lasso_codes.specs.Requests.{RequestEnds, VerbEnds};
 ghost use Rattle.lasso_codes.specs.Streams.{Reports, ReportsFailure, Writes, WritesAll};
 ghost use Rattle.lasso_columns.specs.declared.faults.LineError.TheVariants.{Refused};
@@ -15,12 +16,13 @@ ghost use Rattle.lasso_parts.specs.declared.util.LassoErrorKind.TheVariants.{Fai
 ghost use Rattle.lasso_codes.specs.declared.arguments.Settings.{Settings};
 ghost use Rattle.lasso_codes.specs.declared.arguments.Command.TheVariants.{Help, VerbHelp, Version, Run};
 ghost use Rattle.lasso_codes.specs.declared.arguments.Verb.{Verb};
-ghost use Rattle.lasso_codes.specs.declared.arguments.Verb.TheVariants.{Counts, Decode, Distinct, Encode, Merge};
+ghost use Rattle.lasso_codes.specs.declared.arguments.Verb.TheVariants.{Counts, Decode, Dictionary, Distinct, Encode, Join, Merge, Recode};
 
 use crate::arguments::{Command, Request, Verb};
 use crate::cause::Cause;
 use crate::counts::counts;
 use crate::decode::decode;
+use crate::dictionary::dictionary;
 use crate::distinct::distinct;
 use crate::encode::encode;
 use crate::error::RunError;
@@ -28,6 +30,7 @@ use crate::help::{HELP, VERSION, verb_help};
 use crate::lines::TextRule;
 use crate::merge::merge;
 use crate::output::write_bytes;
+use crate::recode::{join, recode};
 use crate::streams::{Input, Output};
 use lasso_parts::hasher::TextState;
 use lasso_parts::util::MemoryLimits;
@@ -163,10 +166,16 @@ pub fn run_request<H: AllocGlobal + Threads + Sync, R: Read + Drop, W: Write + D
         Reports input.old output.old output.new (CountsEnds settings input.new.left result) }
     ensures decode { (settings : Settings) → request.now.command ≡ Run Decode settings →
         Reports input.old output.old output.new (DecodeEnds settings.only_utf8 settings.limit (word_of request.now.null) input.new.left result) }
+    ensures dictionary { (settings : Settings) → request.now.command ≡ Run Dictionary settings →
+        Reports input.old output.old output.new (DictionaryEnds settings.only_utf8 settings.limit settings.binary input.new.left result) }
     ensures encode { (settings : Settings) → request.now.command ≡ Run Encode settings →
         Reports input.old output.old output.new (EncodeEnds settings (word_of request.now.null) input.new.left result) }
+    ensures join { (settings : Settings) → request.now.command ≡ Run Join settings →
+        Reports input.old output.old output.new (JoinEnds settings.only_utf8 settings.limit settings.binary input.new.left result) }
     ensures merge { (settings : Settings) → request.now.command ≡ Run Merge settings →
         Reports input.old output.old output.new (MergeEnds settings.only_utf8 settings.limit settings.binary input.new.left result) }
+    ensures recode { (settings : Settings) → request.now.command ≡ Run Recode settings →
+        Reports input.old output.old output.new (RecodeEnds settings.only_utf8 settings.limit settings.binary input.new.left result) }
     ensures help { request.now.command ≡ Help → input.new ≡ input.old }
     ensures verb_help { (verb : Verb) → request.now.command ≡ VerbHelp verb → input.new ≡ input.old }
     ensures version { request.now.command ≡ Version → input.new ≡ input.old }
@@ -192,9 +201,12 @@ pub fn run_request<H: AllocGlobal + Threads + Sync, R: Read + Drop, W: Write + D
             match verb {
                 Verb::Counts => counts(rt, input, output, settings, hasher),
                 Verb::Decode => decode(rule, input, output, limits, null),
+                Verb::Dictionary => dictionary(rule, input, output, limits, settings.binary),
                 Verb::Distinct => distinct(rule, input, output, limits),
                 Verb::Encode => encode(rt, input, output, settings, null, hasher),
+                Verb::Join => join(rule, input, output, limits, settings.binary),
                 Verb::Merge => merge(rule, input, output, limits, settings.binary),
+                Verb::Recode => recode(rule, input, output, limits, settings.binary),
             }
         }
     }

@@ -46,8 +46,9 @@ fn writes_while_reading(verb: Verb) -> bool
     ensures { result ≡ writes_while_reading verb }
 {
     match verb {
-        Verb::Counts | Verb::Encode | Verb::Merge => false,
         Verb::Decode | Verb::Distinct => true,
+        Verb::Counts | Verb::Dictionary | Verb::Encode | Verb::Join | Verb::Merge | Verb::Recode =>
+            false,
     }
 }
 

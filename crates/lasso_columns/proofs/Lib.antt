@@ -21,6 +21,7 @@ pub mod Counted
 pub mod Rest
 pub mod Added
 pub mod Ranks
+pub mod Found
 -- the lemmas about codes and about lines
 pub use Rattle.lasso_single.proofs.Coded
 pub use Rattle.lasso_single.proofs.Encoded

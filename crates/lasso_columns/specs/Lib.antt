@@ -1,4 +1,5 @@
 pub mod Merging
+pub mod Finding
 pub mod Faults
 pub mod Sharing
 pub mod Parts

@@ -1,4 +1,5 @@
 use Rattle.std.proofs.Common.{ℕ, ◌≡◌, List, Err, Some, subst}
+use Rattle.lasso_codes.specs.Columns.{column_of}
 use Rattle.lasso_codes.specs.Merge.{MergeEnd}
 use Rattle.lasso_codes.specs.Streams.{Writes}
 use Rattle.lasso_codes.specs.declared.error.RunError.{RunError}
@@ -9,7 +10,7 @@ use Rattle.lasso_codes.proofs.merge.merge.Goals as goal
 
 pub returns-clause-report : goal.returns-clause-report
 returns-clause-report g c = λ bytes e.
-    writes_kept _ _ _ _ _ (c.write_merged-result.ensures.report bytes e) c.end_flushed.ensures.kept (λ part end. end_then c.args.rule.only_utf8 bytes c.args.limits c.args.binary c.write_merged-result.new.input.left part c.write_merged-result.result c.end_flushed.result end c.end_flushed.ensures.ends)
+    writes_kept _ _ _ _ _ (c.write_merged-result.ensures.report bytes e) c.end_flushed.ensures.kept (λ part end. end_then c.args.rule.only_utf8 bytes c.args.limits (column_of c.args.binary) c.write_merged-result.new.input.left part c.write_merged-result.result c.end_flushed.result end c.end_flushed.ensures.ends)
 
 pub returns-clause-reads : goal.returns-clause-reads
 returns-clause-reads g c =

@@ -10,6 +10,9 @@ returns-clause-report g c = λ verb settings asked bytes known.
     verb_end settings (word_of c.args.request.now.null) bytes ran.new.input.left c.args.output.now.written ran.new.output.written ran.result verb
     (λ is. ran.ensures.counts settings (asked ∙ ap (λ v. Run v settings) is) bytes known)
     (λ is. ran.ensures.decode settings (asked ∙ ap (λ v. Run v settings) is) bytes known)
+    (λ is. ran.ensures.dictionary settings (asked ∙ ap (λ v. Run v settings) is) bytes known)
     (λ is. ran.ensures.distinct settings (asked ∙ ap (λ v. Run v settings) is) bytes known)
     (λ is. ran.ensures.encode settings (asked ∙ ap (λ v. Run v settings) is) bytes known)
+    (λ is. ran.ensures.join settings (asked ∙ ap (λ v. Run v settings) is) bytes known)
     (λ is. ran.ensures.merge settings (asked ∙ ap (λ v. Run v settings) is) bytes known)
+    (λ is. ran.ensures.recode settings (asked ∙ ap (λ v. Run v settings) is) bytes known)
