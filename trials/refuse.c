@@ -1,5 +1,5 @@
 /* Refuses one of a program's requests for memory: of those made since its main began, the one whose number, counted from 1, stands in
-   the environment as REFUSE. It then writes a line to descriptor 3. A number of 0, or none, refuses nothing. Where MANY stands in the
+   the environment as REFUSE. It then writes a line to the descriptor that TOLD names. A number of 0, or none, refuses nothing. Where MANY stands in the
    environment, so many requests in a row are refused, that one and those after it.
 
    Where LEFT stands in the environment, the file of that name gets the line `<n> blocks, <m> bytes` at the program's exit: what the
@@ -32,7 +32,7 @@ void __libc_free(void *);
 static main_function *program_main;
 static atomic_bool counting;
 static atomic_ulong requests;
-static unsigned long refused, many;
+static unsigned long refused, many, told;
 
 /* Where the program's own code lies. */
 static uintptr_t code_start = UINTPTR_MAX, code_end;
@@ -131,7 +131,7 @@ static int is_refused(void)
     request = atomic_fetch_add(&requests, 1) + 1;
     if (!refused || request < refused || request - refused >= many)
         return 0;
-    (void)!write(3, "refused\n", 8);
+    (void)!write((int)told, "refused\n", 8);
     errno = ENOMEM;
     return 1;
 }
@@ -201,6 +201,7 @@ static int see_code(struct dl_phdr_info *shown, size_t size, void *nothing)
 static int begin(int count, char **words, char **environment)
 {
     refused = number("REFUSE");
+    told = number("TOLD");
     many = number("MANY") ? number("MANY") : 1;
     alarm((unsigned)number("HALT"));
     dl_iterate_phdr(see_code, NULL);
