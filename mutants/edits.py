@@ -12,6 +12,7 @@ FUNCTION = re.compile(r"\bfn (\w+)")
 CLOSURE = re.compile(r"(.*::|)fn::(.*)::(\w+)")
 TYPE_OR_CRATE = re.compile(r"(?<![\w:])(?:([A-Z]\w*)(?=::|\(| \{)|(lasso\w*)::)")
 KNOWN_EVERYWHERE = ("Some", "Ok", "Err", "Vec", "String", "Box", "Option")
+EDITED = re.compile(r"(src|specs|proofs)/[\w/+-]+\.(rt|antt)")
 EXAMPLES = "lasso_shared"
 KEYS = ("file", "function", "old", "new", "test", "case", "example", "gate")
 # What has to refuse a mutant that the gate gives to the prover.
@@ -68,6 +69,8 @@ def edit_of(crate, name, lines):
         values[key].append(rest[1:])
     if len(values["file"]) != 1 or len(values["function"]) > 1 or not values["old"] or len(values["old"]) != len(values["new"]):
         raise Unfit(f"{crate}/{name} is no mutant")
+    if not EDITED.fullmatch(values["file"][0]):
+        raise Unfit(f"{crate}/{name}: this is no file of a crate: {values['file'][0]}")
     function = f"{crate}::{values['function'][0]}" if values["function"] else ""
     tests, cases, examples = ([tuple(words.split(" ")) for words in values[kind]] for kind in ("test", "case", "example"))
     if any(len(words) != 2 for words in tests + cases + examples):
