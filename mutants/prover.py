@@ -122,8 +122,8 @@ def test_as_it_is(crate, edits, folder, proved):
     proved |= functions
 
 
-def try_proofs(crate, edits, folder, rule, is_proved=False):
-    """What the prover says of each of these mutants. Unless the crate is proved, their functions are first proved as they are."""
+def try_proofs(crate, edits, folder, rule, is_proved=False, keep=lambda results: None):
+    """What the prover says of each of these mutants, which goes to `keep` after each round. Unless the crate is proved, their functions are first proved as they are."""
     waiting = sorted(edits, key=lambda edit: not edit.function)
     results, proved = [], set()
     while waiting:
@@ -134,7 +134,9 @@ def try_proofs(crate, edits, folder, rule, is_proved=False):
         waits = [result.edit for result in came if result.outcome is Outcome.WAITS]
         if len(waits) == len(now):
             waits, came = [], tell([Result(edit, Outcome.NOT_TRIED) for edit in now])
-        results += [result for result in came if result.outcome is not Outcome.WAITS]
+        came = [result for result in came if result.outcome is not Outcome.WAITS]
+        keep(came)
+        results += came
         waiting = later + waits
         print(f"{crate}: {len(results)} tried, {len(waiting)} left", flush=True)
     return results

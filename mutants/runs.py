@@ -122,8 +122,8 @@ def try_cases(edit, copy, built, room):
     return Outcome.BY_A_TEST
 
 
-def try_runs(edits, copy, as_it_is=True):
-    """What its test or its case says of each of these mutants. They are first tried without it, if `as_it_is` says so."""
+def try_runs(edits, copy, as_it_is=True, keep=lambda results: None):
+    """What its test or its case says of each of these mutants, which goes to `keep`. They are first tried without it, if `as_it_is` says so."""
     results = []
     tests, built = ({}, {}) if as_it_is else (None, None)
     with tempfile.TemporaryDirectory() as room:
@@ -135,4 +135,5 @@ def try_runs(edits, copy, as_it_is=True):
                 result = Outcome.NOT_TRIED
             named = [f"test {name} of {crate}" for crate, name in edit.tests] or [f"case {name} of {program}" for program, name in edit.cases]
             results += tell([Result(edit, result, ", ".join(named))])
+            keep(results[-1:])
     return results
