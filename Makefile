@@ -133,14 +133,14 @@ check: crate toolchain
 test: python
 	@.ci/test
 
-#: make verify                       the gate: make test; proofs of all libraries and programs from nothing, by rt ci; the wrong bodies that have
-#:                                   to be refused; all cases over the proved programs; and the tools, without proof
+#: make verify                       the gate: make test; proofs of all libraries and programs from nothing, by rt ci; the mutants (wrong
+#:                                   bodies) that have to be refused; all cases over the proved programs; and the tools, without proof
 verify: python
 	@.ci/verify
 
 #: make docs                         checks the documents: links, names of files and clauses, lengths of lines, parts made from the
 #:                                   sources; that manual pages and completions have the options of the programs; that cases find what
-#:                                   is wrong; that each wrong body can be applied; that no command runs from an odd name; and shellcheck
+#:                                   is wrong; that each mutant can be applied; that no command runs from an odd name; and shellcheck
 docs:
 	docs/check --try
 	docs/check
@@ -149,7 +149,7 @@ docs:
 	install/check --try
 	install/check
 	cases/run --try
-	wrong-bodies/run --dry
+	mutants/run --dry
 	docs/shell
 	install/trials
 

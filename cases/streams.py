@@ -162,15 +162,15 @@ def type_lines(case, streams):
     return written, is_answered
 
 
-def run(path, case, shim, seconds):
-    """Runs the program for the case."""
+def run(path, case, shim, seconds, before=()):
+    """Runs the program for the case, by the words of another one if some are given."""
     with tempfile.TemporaryDirectory() as room:
         streams = Streams(case, room)
         environment = dict(os.environ)
         trace = os.open(os.path.join(room, "trace"), os.O_WRONLY | os.O_CREAT | os.O_APPEND)
         if case.words or any(wanted is not None for wanted in (case.calls, case.reads, case.threads)):
             environment.update(case.words, LD_PRELOAD=shim, TRACE=str(trace))
-        words = [path, *(case.args.split() if isinstance(case.args, str) else case.args)]
+        words = [*before, path, *(case.args.split() if isinstance(case.args, str) else case.args)]
         if streams.closed:
             words = ["sh", "-c", 'exec "$0" "$@" ' + " ".join(streams.closed), *words]
         stdin, stdout, stderr = streams.given

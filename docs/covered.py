@@ -1,7 +1,7 @@
 """Rules of `docs/check` on the code: a mutant for each public function, and what `lasso` passes on.
 
-- A public function with an `ensures` has a mutant (a wrong body): an edit that names it in its `function:` line, or, if
-  it has no such line, that changes it first. A function of a trait without a body needs one of some `impl` of that
+- A public function with an `ensures` has a mutant (`mutants/*.edits`) that names it in its `function:` line, or, if it has
+  no such line, that changes it first. A function of a trait without a body needs one of some `impl` of that
   trait. A law, whose body is empty, has no code that could be wrong, and needs none.
 - docs/untried.txt lists the functions that have none yet. It may only get shorter: one that has a mutant, or does
   not exist, has to go from it.
@@ -35,10 +35,10 @@ def load(path, name):
     return module
 
 
-sys.path.insert(0, os.path.join(HERE, "wrong-bodies"))
+sys.path.insert(0, os.path.join(HERE, "mutants"))
 contracts = load("docs/contracts", "contracts")
-edits = load("wrong-bodies/edits.py", "edits")
-functions = load("wrong-bodies/functions.py", "functions")
+edits = load("mutants/edits.py", "edits")
+functions = load("mutants/functions.py", "functions")
 
 
 class Function:
@@ -92,7 +92,7 @@ def tried(root):
     """The file and the place of each function that a mutant is of."""
     edits.HERE = root
     found = set()
-    for _, edit in edits.every_edit():
+    for edit in edits.every_edit():
         if not isinstance(edit, edits.Unfit) and edit.file.startswith("src/"):
             path = f"crates/{edit.crate}/{edit.file}"
             found |= {(path, start) for start in changed_by(root, edit)}
@@ -118,7 +118,7 @@ def mutant_faults(root):
     lacking = list(untried(root))
     for line in lacking:
         if line not in listed:
-            yield f"{line}: no mutant names this function (wrong-bodies/README.md)"
+            yield f"{line}: no mutant names this function (mutants/README.md)"
     for line in listed:
         if line not in lacking or listed.count(line) > 1:
             yield f"{UNTRIED}: has a mutant, or does not exist, or is there twice: {line}"
@@ -193,15 +193,27 @@ pub fn admits() -> bool
     true
 }
 """,
-    "crates/lasso_low/wrong-bodies/size.edit": "file: src/arena.rt\nfunction: arena::U8Sized::size\nold:         1\nnew:         2\n",
-    "crates/lasso_low/wrong-bodies/admits.edit": "file: src/arena.rt\nfunction: arena::admits\nold:     true\nnew:     false\n",
+    "mutants/lasso_low.edits": """# Two.
+
+mutant: size
+file: src/arena.rt
+function: arena::U8Sized::size
+old:         1
+new:         2
+
+mutant: admits
+file: src/arena.rt
+function: arena::admits
+old:     true
+new:     false
+""",
     "crates/lasso/src/lib.rt": "//! All.\npub use lasso_low::{arena, more};\n",
     "crates/lasso/specs/Lib.antt": "pub use Rattle.lasso_low.specs.Places\n",
     "docs/untried.txt": "# None.\n",
 }
 CHANGES = (
-    ("crates/lasso_low/wrong-bodies/admits.edit", "arena::admits", "arena::law", "arena.rt admits: no mutant"),
-    ("crates/lasso_low/wrong-bodies/size.edit", "U8Sized::size", "law", "Sized::size: no mutant"),
+    ("mutants/lasso_low.edits", "arena::admits", "arena::law", "arena.rt admits: no mutant"),
+    ("mutants/lasso_low.edits", "U8Sized::size", "law", "Sized::size: no mutant"),
     ("docs/untried.txt", "# None.", "lasso_low src/arena.rt admits", "has a mutant"),
     ("docs/untried.txt", "# None.", "lasso_low src/arena.rt none", "does not exist"),
     ("crates/lasso/specs/Lib.antt", "Places", "Texts", "does not pass on lasso_low.specs.Places"),

@@ -1,4 +1,4 @@
-//! Texts that are interned while memory is out. `bench/refused-tests` refuses the requests for memory. If
+//! Texts that are interned while memory is out. `trials/refused-tests` refuses the requests for memory. If
 //! none is refused, the first call interns each text.
 use crate::checks::is_so;
 use lasso_parts::util::LassoErrorKind;

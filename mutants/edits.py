@@ -1,0 +1,251 @@
+"""The mutants of `mutants/CRATE.edits`, as `run` reads them, and whether each can be applied to the code as it is."""
+import glob
+import os
+import re
+from dataclasses import dataclass, field
+
+from functions import functions_of
+
+HERE = os.path.dirname(os.path.dirname(os.path.abspath(__file__)))
+BY_SOME_HISTORY = re.compile(r"\bIsPlain(?:Call|Filling)\b")
+FUNCTION = re.compile(r"\bfn (\w+)")
+CLOSURE = re.compile(r"(.*::|)fn::(.*)::(\w+)")
+TYPE_OR_CRATE = re.compile(r"(?<![\w:])(?:([A-Z]\w*)(?=::|\(| \{)|(lasso\w*)::)")
+KNOWN_EVERYWHERE = ("Some", "Ok", "Err", "Vec", "String", "Box", "Option")
+EDITED = re.compile(r"(src|specs|proofs)/[\w/+-]+\.(rt|antt)")
+EXAMPLES = "lasso_shared"
+KEYS = ("file", "function", "old", "new", "test", "case", "example", "gate")
+# What has to refuse a mutant that the gate gives to the prover.
+BY_A_GOAL, BY_THE_PROVER = "a goal", "the prover"
+GATE = re.compile(rf"(\w+)(?:, ({BY_A_GOAL}|{BY_THE_PROVER}))?")
+
+
+class Unfit(Exception):
+    """An edit that cannot be applied, or a tree that cannot be checked."""
+
+
+@dataclass
+class Edit:
+    """A mutant: what it changes in which file, the path of its function, as rt says it, where it is of one, and what refuses it."""
+
+    crate: str
+    name: str
+    file: str
+    function: str
+    changes: list
+    tests: list = field(default_factory=list)
+    cases: list = field(default_factory=list)
+    examples: list = field(default_factory=list)
+    gate: str = ""  # what the gate asks of it: `a goal` or `the prover`, or `a run`; nothing if it doesn't try it
+
+
+def path_of(crate):
+    """The file with the mutants of a crate."""
+    return f"{HERE}/mutants/{crate}.edits"
+
+
+def sections_of(crate):
+    """Of each mutant of the crate its name and the lines of its section."""
+    found = []
+    with open(path_of(crate), encoding="utf-8") as source:
+        for line in source.read().split("\n"):
+            key, _, rest = line.partition(": ")
+            if key == "mutant":
+                found.append((rest, []))
+            elif line and not line.startswith("#"):
+                if not found:
+                    raise Unfit(f"{crate}.edits: a line before the first mutant: {line}")
+                found[-1][1].append(line)
+    return found
+
+
+def edit_of(crate, name, lines):
+    """The mutant that a section has."""
+    values = {key: [] for key in KEYS}
+    for line in lines:
+        key, mark, rest = line.partition(":")
+        if not mark or key not in values or rest and not rest.startswith(" "):
+            raise Unfit(f"{crate}/{name}: this is no line of a mutant: {line}")
+        values[key].append(rest[1:])
+    if len(values["file"]) != 1 or len(values["function"]) > 1 or not values["old"] or len(values["old"]) != len(values["new"]):
+        raise Unfit(f"{crate}/{name} is no mutant")
+    if not EDITED.fullmatch(values["file"][0]):
+        raise Unfit(f"{crate}/{name}: this is no file of a crate: {values['file'][0]}")
+    function = f"{crate}::{values['function'][0]}" if values["function"] else ""
+    tests, cases, examples = ([tuple(words.split(" ")) for words in values[kind]] for kind in ("test", "case", "example"))
+    if any(len(words) != 2 for words in tests + cases + examples):
+        raise Unfit(f"{crate}/{name}: a test, a case and an example have two words each")
+    gate = gate_of(f"{crate}/{name}", values["gate"], bool(tests or cases))
+    return Edit(crate, name, values["file"][0], function, list(zip(values["old"], values["new"])), tests, cases, examples, gate)
+
+
+def gate_of(name, lines, is_run):
+    """What the gate asks of a mutant with these lines `gate:`, of which `is_run` says whether a test or a case refuses it."""
+    if not lines:
+        return ""
+    told = GATE.fullmatch(lines[0])
+    if len(lines) > 1 or not told or bool(told.group(2)) == is_run:
+        raise Unfit(f"{name}: a line `gate:` has a name, and for the prover also `, {BY_A_GOAL}` or `, {BY_THE_PROVER}`: {lines[0]}")
+    return told.group(2) or "a run"
+
+
+def edits_of(crate):
+    """The mutants of a crate. Raises Unfit for the first that can't be read."""
+    return [edit_of(crate, name, lines) for name, lines in sections_of(crate)]
+
+
+def crates_with_edits():
+    """The crates that have mutants."""
+    return sorted(os.path.basename(path).removesuffix(".edits") for path in glob.glob(path_of("*")))
+
+
+def every_edit():
+    """Each mutant of each crate, or the fault of one that cannot be read."""
+    for crate in crates_with_edits():
+        names = set()
+        for name, lines in sections_of(crate):
+            try:
+                yield Unfit(f"{crate}/{name} comes twice") if name in names else edit_of(crate, name, lines)
+            except Unfit as fault:
+                yield fault
+            names.add(name)
+
+
+def places(edit, text):
+    """Where in the file's text the edit puts what: (start, end, new text) of each change."""
+    found = []
+    for old, new in edit.changes:
+        if text.count(old) != 1:
+            raise Unfit(f"{edit.crate}/{edit.name}: in {edit.file} this stands {text.count(old)} times: {old}")
+        start = text.index(old)
+        found.append((start, start + len(old), new))
+    return found
+
+
+def contract_before(edit, text):
+    """What stands from the head of the function that the edit is of up to its first change."""
+    end = places(edit, text)[0][0] + len(edit.changes[0][0])
+    return text[max(text.rfind("fn ", 0, end), 0) : end]
+
+
+def test_grounds(edit):
+    """Refuses an edit of a clause that some history explains where it names neither an example nor a test; and an example that does not exist."""
+    with open(os.path.join(HERE, "crates", edit.crate, edit.file), encoding="utf-8") as source:
+        contract = contract_before(edit, source.read()) if edit.file.startswith("src/") else ""
+    if BY_SOME_HISTORY.search(contract) and not edit.examples and not edit.tests and not edit.cases:
+        raise Unfit(f"{edit.crate}/{edit.name}: some history may explain this reply too: name an example that refutes it, a test or a case")
+    for file, name in edit.examples:
+        with open(os.path.join(HERE, "crates", EXAMPLES, "specs", f"{file}.antt"), encoding="utf-8") as source:
+            if not re.search(rf"^  pub {re.escape(name)} :", source.read(), re.MULTILINE):
+                raise Unfit(f"{edit.crate}/{edit.name}: there is no example {file}.{name}")
+
+
+def used_by(crate):
+    """The crates that this one uses."""
+    with open(os.path.join(HERE, "crates.txt"), encoding="utf-8") as source:
+        return re.search(rf"^{crate}\b[^:]*:(.*)$", source.read(), re.MULTILINE).group(1).split()
+
+
+def test_compiles(edit, text):
+    """Refuses an edit that can't compile, since its new text names a type that its file does not, or a crate that its own does not use."""
+    for _, new in edit.changes:
+        for kind, crate in TYPE_OR_CRATE.findall(new):
+            known = crate in used_by(edit.crate) if crate else kind in KNOWN_EVERYWHERE or re.search(rf"\b{kind}\b", text)
+            if not known:
+                raise Unfit(f"{edit.crate}/{edit.name}: {edit.file} knows no {kind or crate}")
+
+
+def test_fit(edit):
+    """Refuses an edit that cannot be applied."""
+    with open(os.path.join(HERE, "crates", edit.crate, edit.file), encoding="utf-8") as source:
+        text = source.read()
+    if edit.file.startswith("src/"):
+        test_compiles(edit, text)
+    places(edit, text)
+
+
+def function_and_closure(named):
+    """The path of the function that has the closure of this path, and the closure's name; of a function its own path and no name."""
+    found = CLOSURE.fullmatch(named)
+    return (found.group(1) + found.group(2), found.group(3)) if found else (named, "")
+
+
+def test_function(edit):
+    """Refuses an edit of a function or closure that its file does not have, and one of another than it names."""
+    folder = os.path.join(HERE, "crates", edit.crate)
+    with open(os.path.join(folder, edit.file), encoding="utf-8") as source:
+        text = source.read()
+    named, closure = function_and_closure(edit.function.removeprefix(f"{edit.crate}::"))
+    (_, end, new), *_ = places(edit, text)
+    before, after = [], []
+    for start, path in functions_of(folder, edit.file, text):
+        (before if start < end else after).append((start, re.fullmatch(path, named) is not None))
+    if not any(fits for _, fits in before + after):
+        raise Unfit(f"{edit.crate}/{edit.name}: {edit.file} has no function {named}")
+    last, is_in = before[-1] if before else (0, False)
+    if not is_in and named.rsplit("::", 1)[-1] not in FUNCTION.findall(new):
+        raise Unfit(f"{edit.crate}/{edit.name}: in {edit.file} its first change is not one of {named}")
+    if closure and not re.search(rf"\blet (?:mut )?{closure} = (?:move )?\|", text[last:end]):
+        raise Unfit(f"{edit.crate}/{edit.name}: {named} has no closure {closure} before its first change")
+
+
+def test_names(edit):
+    """Refuses an edit that names a function, a test or a case which does not exist."""
+    if edit.function and edit.file.startswith("src/"):
+        test_function(edit)
+    for crate, test in edit.tests:
+        *modules, name = test.split("::")
+        named = [path for path in files_with_tests(HERE, crate) if has_function(path, name)]
+        if not any(module in path for path in named for module in modules[:1] or [""]):
+            raise Unfit(f"{edit.crate}/{edit.name}: {crate} has no test {test}")
+    for program, case in edit.cases:
+        if program == "tool_replay" and has_script(case):
+            continue
+        if not any(has_line(path, f"case {case}") for path in glob.glob(f"{HERE}/cases/{program}/*.txt")):
+            raise Unfit(f"{edit.crate}/{edit.name}: {program} has no case {case}")
+
+
+def files_with_tests(tree, crate):
+    """The files that may have tests of the crate: its sources, and those that cases/modules adds to a program."""
+    return glob.glob(f"{tree}/crates/{crate}/src/**/*.rt", recursive=True) + glob.glob(f"{tree}/cases/{crate}/modules/*.rt.in")
+
+
+def has_script(name):
+    """Whether the stored input of tool_replay has a script of this name."""
+    with open(f"{HERE}/crates/tool_replay/stdin", encoding="utf-8") as scripts:
+        return any(line.startswith(f"script {name} ") for line in scripts)
+
+
+def has_line(path, line):
+    """Whether the file has this line."""
+    with open(path, encoding="utf-8") as source:
+        return line in source.read().split("\n")
+
+
+def has_function(path, name):
+    """Whether the file has a function of this name."""
+    with open(path, encoding="utf-8") as source:
+        return re.search(rf"\bfn {name}\b", source.read()) is not None
+
+
+def fault_of(edit):
+    """Why the mutant cannot be applied, or None."""
+    try:
+        if isinstance(edit, Unfit):
+            raise edit
+        test_fit(edit)
+        test_names(edit)
+        test_grounds(edit)
+    except (Unfit, OSError) as fault:
+        return fault
+    return None
+
+
+def look():
+    """Prints each mutant that cannot be applied, and how many there are."""
+    every = list(every_edit())
+    faults = [fault for fault in map(fault_of, every) if fault]
+    print(*faults, sep="\n", end="\n" if faults else "")
+    in_gate = sum(bool(edit.gate) for edit in every if not isinstance(edit, Unfit))
+    print(f"mutants: {len(every)}, of which the gate tries {in_gate}; {len(faults)} cannot be applied")
+    return 1 if faults or not in_gate else 0
