@@ -18,8 +18,8 @@
  * - The caller owns all memory. No pointer is kept after a call returns.
  * - A pointer is aligned for its elements. It may be NULL if its length is 0. A handle, a report and each other
  *   pointer without a length is never NULL, except that lasso_free(NULL) and lasso_shared_free(NULL) do nothing.
- *   (Inline functions of this header take NULL. A caller without the header, as ctypes, never passes NULL to any
- *   call.)
+ *   (For an array of no elements, inline functions of this header pass another pointer than NULL. A caller without
+ *   the header, as ctypes, never passes NULL to any call.)
  * - An array has at least as many elements as its length says, and at most 2^63 - 1 bytes.
  * - Outputs, *report included, must not overlap other arguments.
  * - A refused call, whose status is not LASSO_DONE, writes only *report and leaves its interner as it was. Only the
@@ -501,10 +501,11 @@ void lasso_free(struct lasso *lasso);
  * One growing list of distinct texts explains every reply of a handle: it is the same list for all handles of the
  * interner, and a code is a position in it. So a text has one code in all threads, and keeps it.
  *
- * Each thread has a handle of its own, which lasso_shared_join makes from any handle of the interner. One call at a
- * time uses a handle, even to read; ordering the calls of two threads with one handle is the caller's, by a lock or a
+ * Each thread has a handle of its own, which lasso_shared_join makes from any handle of the interner. Join in the
+ * thread that owns that handle, before the other thread starts. One call at a time uses a handle, even to read; ordering the calls of two threads with one handle is the caller's, by a lock or a
  * thread's start or join. Calls with different handles may run at once, and need no order. memcpy may move a handle if
- * the old copy is never passed to a call again. The interner lasts until its last handle is freed, in any order.
+ * the old copy is never passed to a call again. The interner lasts until its last handle is freed, in any order. A
+ * program with threads is linked with -pthread, too.
  *
  * No call waits. lasso_shared_intern and lasso_shared_get return LASSO_BUSY if another thread is inside a step of the
  * interner, after they looked about a hundred times. The caller tries again, as lasso_shared_intern_wait and
@@ -586,7 +587,10 @@ uint32_t lasso_shared_see(struct lasso_shared *shared);
  */
 uint32_t lasso_shared_text(struct lasso_shared *shared, uint32_t code, struct lasso_text *text);
 
-/* How many texts the interner has. 0 without an interner. */
+/*
+ * How many texts the interner has, without lasso_shared_see. 0 without an interner. That it counts what other handles
+ * added before is tested, not proved.
+ */
 size_t lasso_shared_len(struct lasso_shared *shared);
 
 /*
