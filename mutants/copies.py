@@ -48,7 +48,7 @@ def copy_of_room(room):
         for name in ("HANDLES", "crates.txt"):
             shutil.copy2(f"{room}/{name}", copy)
         for part in ("src", "specs", "proofs"):
-            for path in glob.glob(f"{room}/crates/*/{part}"):
+            for path in glob.glob(f"{glob.escape(room)}/crates/*/{part}"):
                 shutil.copytree(path, os.path.join(copy, os.path.relpath(path, room)))
         copy_libraries(room, copy)
         yield copy
@@ -56,7 +56,7 @@ def copy_of_room(room):
 
 def copy_libraries(tree, copy):
     """Gives the libraries that were built in a tree to its copy."""
-    for stamp in glob.glob(f"{tree}/crates/*/out/rlib/stamp"):
+    for stamp in glob.glob(f"{glob.escape(tree)}/crates/*/out/rlib/stamp"):
         built = os.path.dirname(stamp)
         shutil.copytree(built, os.path.join(copy, os.path.relpath(built, tree)), copy_function=link)
 

@@ -201,13 +201,13 @@ def test_names(edit):
     for program, case in edit.cases:
         if program == "tool_replay" and has_script(case):
             continue
-        if not any(has_line(path, f"case {case}") for path in glob.glob(f"{HERE}/cases/{program}/*.txt")):
+        if not any(has_line(path, f"case {case}") for path in glob.glob(f"{glob.escape(HERE)}/cases/{program}/*.txt")):
             raise Unfit(f"{edit.crate}/{edit.name}: {program} has no case {case}")
 
 
 def files_with_tests(tree, crate):
     """The files that may have tests of the crate: its sources, and those that cases/modules adds to a program."""
-    return glob.glob(f"{tree}/crates/{crate}/src/**/*.rt", recursive=True) + glob.glob(f"{tree}/cases/{crate}/modules/*.rt.in")
+    return glob.glob(f"{glob.escape(tree)}/crates/{crate}/src/**/*.rt", recursive=True) + glob.glob(f"{glob.escape(tree)}/cases/{crate}/modules/*.rt.in")
 
 
 def has_script(name):

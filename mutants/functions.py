@@ -21,7 +21,7 @@ def module_of(file):
 def homes(crate):
     """The modules in which the crate, named by its folder, has a type of each name."""
     found = {}
-    for path in glob.glob(f"{crate}/src/**/*.rt", recursive=True):
+    for path in glob.glob(f"{glob.escape(crate)}/src/**/*.rt", recursive=True):
         with open(path, encoding="utf-8") as source:
             for name in TYPE.findall(source.read()):
                 found.setdefault(name, []).append(module_of(path[len(crate) + 1 :]))
