@@ -46,7 +46,7 @@ help:
 #: make try FILE=path [ARGS=..]      builds lasso_lines without proof and runs it on the file, in a minute or two
 #:                                   (rt try: at most 1 MiB of output and 60 seconds; 20 million steps if it interprets)
 try: input toolchain
-	@printf '%s\n' "make try proves nothing. make run FILE='$$FILE' proves lasso_lines first: once, 18 minutes on four cores." >&2
+	@printf '%s\n' "make try proves nothing. make run FILE='$$FILE' proves lasso_lines first: once, about 35 minutes on four cores." >&2
 	@said=$$(mktemp) && trap 'rm -f "$$said"' EXIT && (cd crates/lasso_lines && set -f && rt try -- $$ARGS) < "$$FILE" 2> "$$said"; status=$$?; \
 	if grep -q '^checked: no-answer: .* wrote more than' "$$said"; then \
 		echo "make try: the output is more than 1 MiB (1048576 bytes), the most that rt try hands on." >&2; \
