@@ -1,7 +1,7 @@
 //! Two threads that use one shared interner through its interfaces.
-use crate::answers::is_so;
+use crate::checks::is_so;
+use crate::shared::{fresh, hello};
 use crate::shared_interfaces::by_reference;
-use crate::shared_plain::{fresh, hello};
 use crate::steps::Step::{Finds, Interns, Keeps};
 use crate::steps::{Step, Way, finds};
 use lasso::{LassoResult, MemoryLimits, Spur, SpurThreadedRodeo};

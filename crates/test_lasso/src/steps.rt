@@ -1,6 +1,6 @@
 //! Calls of the interfaces as rows, each with what it has to return. One function makes the calls of all rows,
 //! so a test that is a list of rows is proved as fast as one of a single call.
-use crate::answers::{Answer, LIMIT, NO_KEY, is_answer, is_text, number_of};
+use crate::checks::{Answer, LIMIT, NO_KEY, is_answer, is_text, number_of};
 use crate::laws::{finds_what_resolves, interns_as_one, looks_up_alike};
 use lasso::interface::{Interner, Reader, Resolver};
 use lasso::{Key, LassoResult};

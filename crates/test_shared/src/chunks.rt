@@ -1,5 +1,4 @@
 //! Worked chunks and offsets of positions, and cells that one and two threads fill.
-
 ghost use Rattle.std.specs.Prelude.{◌<◌};
 
 use crate::checks::is_so;

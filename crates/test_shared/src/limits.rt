@@ -8,11 +8,11 @@ use std::alloc::{AllocError, Global};
 use std::sync::Wait;
 use std::test::*;
 use std::thread::{Threads, join};
-use test_shared_common::calls::{Shared, limit, made, pass_of, set_limit_as, sums_as, usage};
-use test_shared_common::cases::SIZE;
-use test_shared_common::makers::Maker;
-use test_shared_common::steps::{Call, FULL, Step, Way};
-use test_shared_common::texts::LENGTHS;
+use test_steps::calls::{Shared, limit, made, pass_of, set_limit_as, sums_as, usage};
+use test_steps::cases::SIZE;
+use test_steps::makers::Maker;
+use test_steps::steps::{Call, FULL, Step, Way};
+use test_steps::texts::LENGTHS;
 
 #[test]
 fn a_limit_is_what_was_set_last(rt: HostRuntime) -> Result<(), Fail> {

@@ -14,14 +14,14 @@ use std::alloc::{AllocError, Global};
 use std::sync::Wait;
 use std::test::*;
 use std::thread::{Threads, join};
-use test_shared_common::calls::{
+use test_steps::calls::{
     Shared, copied_as, len, limit, limited, pass_of, seen_by, set_limit, set_limit_as, sums_as,
     usage,
 };
-use test_shared_common::cases::SIZE;
-use test_shared_common::makers::Maker;
-use test_shared_common::steps::{Call, FULL, Step, Way};
-use test_shared_common::texts::LENGTHS;
+use test_steps::cases::SIZE;
+use test_steps::makers::Maker;
+use test_steps::steps::{Call, FULL, Step, Way};
+use test_steps::texts::LENGTHS;
 
 // The number of each text, of five bytes. The bucket has their bytes alone.
 static NUMBERS: [usize; 16] = [0, 1, 2, 3, 4, 5, 6, 7, 8, 9, 10, 11, 12, 13, 14, 15];

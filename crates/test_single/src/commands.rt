@@ -1,7 +1,7 @@
 //! Runs of commands, with replies worked out by hand.
-
-use crate::checks::{LIMIT, MEMORY, is_so, is_so_at, key_at};
-use crate::interners::{Small, has_limit, holds, interner, of_texts};
+use crate::interners::{
+    LIMIT, MEMORY, Small, has_limit, holds, interner, is_so, is_so_at, key_at, of_texts,
+};
 use lasso_parts::keys::{Key, Spur};
 use lasso_parts::util::{FixedState, LassoErrorKind, MemoryLimits};
 use lasso_single::commands::{Command, Reply, run_commands};

@@ -1,5 +1,4 @@
 //! Writes replies, each as a line.
-
 use lasso::{Iter, JsonError, Key, LassoErrorKind, LassoResult, Strings};
 use serde_json::Value;
 use std::alloc::Global;

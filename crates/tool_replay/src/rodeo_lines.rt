@@ -1,6 +1,5 @@
 //! One line of a script of a `Rodeo`: a command with its arguments.
-
-use crate::json_lines::parse_value;
+use crate::json::parse_value;
 use crate::lines::{Call, parse_call, parse_number, parse_text, parse_texts};
 use serde_json::Value;
 use std::alloc::{AllocError, Global};

@@ -7,7 +7,7 @@ use lasso::log::Pass;
 use lasso::{FixedState, Key, LassoErrorKind, LassoResult, MemoryLimits, ThreadedRodeo};
 use std::alloc::AllocError;
 use std::sync::Wait;
-use test_common::draws::Draws;
+use test_common::texts::Draws;
 
 // A limit that is set a little above a usage is less than this number of bytes above it.
 const LITTLE: usize = 64;

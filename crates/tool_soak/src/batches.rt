@@ -7,7 +7,7 @@ use lasso::log::Pass;
 use lasso::{FixedState, Key, LassoErrorKind, ThreadedRodeo};
 use std::alloc::{AllocError, Global};
 use std::sync::Wait;
-use test_common::draws::Draws;
+use test_common::texts::Draws;
 
 // A batch has fewer texts than this.
 const MOST: usize = 150;

@@ -1,14 +1,15 @@
-//! Walks over lists of buckets, with the spine and without it.
+//! Lists of buckets: walks, with the spine and without it; buckets of exact, doubled and remnant size; and charges that
+//! the limit refuses.
 ghost use Rattle.std.specs.Prelude.{◌≡◌};
 ghost use Rattle.lasso_log.specs.SharedBuckets.{names_with_book};
 ghost use Rattle.lasso_log.specs.Views.{InternerId, PassView, SpineView};
 
 use crate::checks::is_so;
-use crate::shared_memory::steps::Step::{
-    Finds, Fits, FitsAnywhere, HasBucket, HasBuckets, HasCounted, Stores, Walks,
+use crate::shared_memory::Step::{
+    Finds, Fits, FitsAnywhere, HasBucket, HasBuckets, HasCounted, Refuses, SetsLimit, Stores,
+    StoresAgain, Uses, Walks,
 };
-use crate::shared_memory::steps::{Step, run_steps};
-use crate::shared_memory::storing::{bucket_at, fits_anywhere, opens, stores};
+use crate::shared_memory::{Step, bucket_at, fits_anywhere, opens, run_steps, stores};
 use lasso_log::log::bucket_list::BucketList;
 use lasso_log::log::{Log, Spine};
 use lasso_parts::keys::Spur;
@@ -159,4 +160,65 @@ fn walk_beside_adding<R: Abort + Threads + Wait + Sync>(
 fn a_thread_walks_while_another_adds_buckets(rt: HostRuntime) -> Result<(), Fail> {
     let (log, mut spine, list) = opens(rt.alloc(), 4, u64::MAX)?;
     walk_beside_adding(&rt, rt.alloc(), &log, &list, &mut spine)
+}
+
+// Buckets of exact, doubled and remnant size, and charges that the limit refuses.
+
+#[test]
+fn a_long_text_gets_a_bucket_of_its_size(rt: HostRuntime) -> Result<(), Fail> {
+    static STEPS: [Step; 6] = [
+        Uses(4),
+        Stores("123456789"),
+        Uses(13),
+        HasBuckets(2),
+        HasBucket(0, 4, 0),
+        HasBucket(1, 9, 9),
+    ];
+    run_steps(&rt, 4, u64::MAX, &STEPS)
+}
+
+#[test]
+fn buckets_are_doubled_and_then_what_the_limit_leaves(rt: HostRuntime) -> Result<(), Fail> {
+    static STEPS: [Step; 12] = [
+        Stores("abc"),
+        Uses(4),
+        Stores("defghijk"),
+        Uses(12),
+        // the first bucket has room for one byte still
+        Stores("x"),
+        Uses(12),
+        SetsLimit(14),
+        Stores("yz"),
+        Uses(14),
+        HasBuckets(3),
+        HasBucket(0, 4, 4),
+        HasBucket(2, 2, 2),
+    ];
+    run_steps(&rt, 4, 12, &STEPS)
+}
+
+#[test]
+fn a_charge_that_the_limit_refuses_leaves_no_event(rt: HostRuntime) -> Result<(), Fail> {
+    static STEPS: [Step; 6] = [
+        Refuses("123456789"),
+        Uses(4),
+        HasBuckets(1),
+        HasBucket(0, 4, 0),
+        // what fits is taken as before
+        Stores("abcd"),
+        HasBucket(0, 4, 4),
+    ];
+    run_steps(&rt, 4, 12, &STEPS)
+}
+
+#[test]
+fn a_charge_that_was_refused_once_is_made_later(rt: HostRuntime) -> Result<(), Fail> {
+    static STEPS: [Step; 5] = [
+        StoresAgain("defghijk"),
+        StoresAgain("0123456789abcdef"),
+        Uses(28),
+        HasBucket(1, 8, 8),
+        HasBucket(2, 16, 16),
+    ];
+    run_steps(&rt, 4, u64::MAX, &STEPS)
 }
