@@ -1,5 +1,5 @@
 //! Names that are declared with values, and the code that small programs are compiled to.
-use crate::checks::{ends_so, is_so};
+use crate::steps::{ends_so, is_so};
 use lasso::{Key, LassoErrorKind, LassoResult, MemoryLimits, Rodeo, Spur, SpurRodeo};
 use lasso_guide::compiler::{CompileError, Instruction, Token, compile};
 use lasso_guide::errors::{DeclareError, declare};

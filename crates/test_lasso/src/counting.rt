@@ -1,7 +1,7 @@
 //! Source texts and their tokens, words that are counted, and sets of texts.
 ghost use Rattle.std.specs.Prelude.{◌≡◌};
 
-use crate::checks::{ends_so, has_seen, is_by_the_limit, is_so, limit_to_zero, shared};
+use crate::steps::{ends_so, has_seen, is_by_the_limit, is_so, limit_to_zero, shared};
 use lasso::{
     FixedState, Key, LassoErrorKind, LassoResult, Pass, Rodeo, Spur, SpurRodeo, SpurThreadedRodeo,
 };

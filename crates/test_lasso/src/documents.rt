@@ -1,15 +1,112 @@
-//! The examples in the documents of what makes an interner, of lists that are looked up, of runs of commands, and of
-//! keys, capacities, limits and errors, in tests. The other ones are scripts of `tool_replay`.
-use crate::checks::{is_number, is_so, number_of};
+//! The examples of the front page, each copied as it is into a test. The examples in the documents of what makes an
+//! interner, of lists that are looked up, of runs of commands, and of keys, capacities, limits and errors, in tests.
+//! The other ones are scripts of `tool_replay`.
 use crate::owning::of_texts;
+use crate::steps::{is_number, is_so, number_of};
+use lasso::interface::Interner;
 use lasso::{
     Capacity, Command, FixedState, JsonKey, Key, LassoError, LassoErrorKind, LassoResult,
-    MemoryLimits, MicroSpur, Reply, Rodeo, Spur, SpurRodeo, run_commands,
+    MemoryLimits, MicroSpur, Reply, Rodeo, Spur, SpurRodeo, SpurRodeoReader, SpurRodeoResolver,
+    run_commands,
 };
 use serde_json::Value;
 use std::alloc::Global;
 use std::process::Abort;
+use std::sync::Wait;
 use std::test::Fail;
+use std::thread;
+
+#[test]
+fn one_interner(rt: HostRuntime) -> Result<(), Fail> {
+    let mut rodeo = Rodeo::default(rt.alloc())?;
+    let hello = rodeo.try_get_or_intern("Hello, world!")?;
+    let again = rodeo.try_get_or_intern("Hello, world!")?;
+    assert!(rt; hello == again);
+    assert!(rt; hello.into_usize() == 0);
+    assert!(rt; rodeo.try_resolve(hello) == Some("Hello, world!"));
+    Ok(())
+}
+
+#[test]
+fn freezing_to_a_reader(rt: HostRuntime) -> Result<(), Fail> {
+    let mut rodeo = Rodeo::default(rt.alloc())?;
+    let hello = rodeo.try_get_or_intern("Hello, world!")?;
+    let reader: SpurRodeoReader = rodeo.into_reader();
+    assert!(rt; reader.try_resolve(hello) == Some("Hello, world!"));
+    let found = reader.get("Hello, world!").ok_or("not there")?;
+    assert!(rt; found == hello);
+    assert!(rt; reader.get("Goodbye!").is_none());
+    Ok(())
+}
+
+#[test]
+fn freezing_to_a_resolver(rt: HostRuntime) -> Result<(), Fail> {
+    let mut rodeo = Rodeo::default(rt.alloc())?;
+    let hello = rodeo.try_get_or_intern("Hello, world!")?;
+    let resolver: SpurRodeoResolver = rodeo.into_resolver();
+    assert!(rt; resolver.try_resolve(hello) == Some("Hello, world!"));
+    assert!(rt; resolver.len() == 1);
+    Ok(())
+}
+
+#[test]
+fn from_an_iterator(rt: HostRuntime) -> Result<(), Fail> {
+    let colours = ["red", "green", "red", "blue"];
+    let rodeo: SpurRodeo = Rodeo::from_iter(rt.alloc(), colours)?;
+    assert!(rt; rodeo.len() == 3);
+    Ok(())
+}
+
+#[test]
+fn sharing_a_reader_between_two_threads(rt: HostRuntime) -> Result<(), Fail> {
+    let mut rodeo = Rodeo::default(rt.alloc())?;
+    let hello = rodeo.try_get_or_intern("Hello, world!")?;
+    let reader = rodeo.into_reader();
+    let (here, there) = thread::join(
+        &rt,
+        || reader.try_resolve(hello) == Some("Hello, world!"),
+        || reader.get("Hello, world!").is_some() && reader.get("Goodbye!").is_none(),
+    );
+    assert!(rt; here);
+    assert!(rt; there);
+    Ok(())
+}
+
+/// How many different words the line has.
+fn count_words<K: Key, R: Wait, I: Interner<K>>(
+    rt: &R,
+    interner: &mut I,
+    line: &str,
+) -> LassoResult<usize> {
+    for word in line.split_whitespace() {
+        interner.try_get_or_intern(rt, word)?;
+    }
+    Ok(interner.len())
+}
+
+#[test]
+fn taking_any_interner(rt: HostRuntime) -> Result<(), Fail> {
+    let mut rodeo: SpurRodeo = Rodeo::new(rt.alloc())?;
+    assert!(rt; count_words::<Spur, _, _>(&rt, &mut rodeo, "to be or not to be")? == 4);
+    let mut boxed = Box::new(rt.alloc(), rodeo)?;
+    assert!(rt; count_words::<Spur, _, _>(&rt, &mut boxed, "that is the question")? == 8);
+    Ok(())
+}
+
+#[test]
+fn saved_and_loaded(rt: HostRuntime) -> Result<(), Fail> {
+    let mut rodeo = SpurRodeo::default(rt.alloc())?;
+    rodeo.extend(["red", "green", "blue"])?;
+    let saved = rodeo.serialize(rt.alloc())?.to_string(rt.alloc())?;
+
+    let value = Value::from_str(rt.alloc(), saved.as_str())?;
+    let loaded = SpurRodeo::deserialize(rt.alloc(), &value)?;
+    assert!(rt; loaded.get("green") == rodeo.get("green"));
+    Ok(())
+}
+
+// The examples in the documents of what makes an interner, of lists that are looked up, of runs of commands, and of
+// keys, capacities, limits and errors, in tests. The other ones are scripts of `tool_replay`.
 
 // A maker of an interner.
 #[derive(Clone, Copy)]

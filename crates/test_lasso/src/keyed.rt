@@ -1,6 +1,6 @@
 //! Texts that collide under the fixed seed, in an interner with keys of its own; and the keyed hash against vectors of
 //! its authors.
-use crate::checks::is_so;
+use crate::steps::is_so;
 use lasso::index::hash_text;
 use lasso::keyed::{KeyedState, keyed_by};
 use lasso::{FixedState, Key, LassoResult, Rodeo, Spur, ThreadedRodeo};

@@ -5,15 +5,11 @@
 #![tactic(auto)]
 
 #[cfg(test)]
-mod checks;
-#[cfg(test)]
 mod compiling;
 #[cfg(test)]
 mod counting;
 #[cfg(test)]
 mod documents;
-#[cfg(test)]
-mod front_page;
 #[cfg(test)]
 mod interfaces;
 #[cfg(test)]

@@ -1,11 +1,10 @@
 //! Interners and frozen forms whose type is not known where they are used, and what frozen ones have to show.
-use crate::checks::{Answer, LIMIT, is_answer, is_number, is_so, is_text, number_of};
 use crate::interfaces::made_for;
 use crate::laws::{
     boxed_object_interns_as_one, boxed_rodeo_object_interns_as_one, object_interns_as_one,
 };
 use crate::owning::of_hello;
-use crate::steps::Case;
+use crate::steps::{Answer, Case, LIMIT, is_answer, is_number, is_so, is_text, number_of};
 use lasso::interface::{SpurInterner, SpurReader, SpurResolver};
 use lasso::{Key, LassoResult, Spur, SpurRodeo, SpurRodeoReader, SpurRodeoResolver};
 use std::process::Abort;

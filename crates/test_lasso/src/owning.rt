@@ -2,7 +2,9 @@
 //! saved.
 ghost use Rattle.std.specs.Prelude.{◌≡◌};
 
-use crate::checks::{ends_so, has_seen, is_by_the_limit, is_so, limit_to_zero, shared, stands_for};
+use crate::steps::{
+    ends_so, has_seen, is_by_the_limit, is_so, limit_to_zero, shared, stands_by_pass,
+};
 use lasso::{
     FixedState, JsonError, Key, LassoErrorKind, LassoResult, Pass, Rodeo, Spur, SpurRodeo,
     SpurThreadedRodeo, ThreadedRodeo,
@@ -76,7 +78,8 @@ fn two_names<R: Wait>(rt: &R, rodeo: &SpurThreadedRodeo, pass: &mut Pass<Spur>) 
 {
     let width = declared(rt, rodeo, pass, "width")?;
     let height = declared(rt, rodeo, pass, "height")?;
-    let both = stands_for(rodeo, pass, width, "width") && stands_for(rodeo, pass, height, "height");
+    let both = stands_by_pass(rodeo, pass, width, "width")
+        && stands_by_pass(rodeo, pass, height, "height");
     let again = declared(rt, rodeo, pass, "width")?;
     Ok(both && are_numbered(width, height) && again == width)
 }
@@ -116,7 +119,8 @@ fn names_of_both<R: Threads + Wait + Sync>(
     requires { pass.old.of ≡ rodeo.now }
 {
     let (left, right) = pair(rt, rodeo, pass, "width", "height")?;
-    let both = stands_for(rodeo, pass, left, "width") && stands_for(rodeo, pass, right, "height");
+    let both = stands_by_pass(rodeo, pass, left, "width")
+        && stands_by_pass(rodeo, pass, right, "height");
     let (same, again) = pair(rt, rodeo, pass, "width", "width")?;
     Ok(both && left != right && same == left && again == left && has_seen(rodeo, pass, 2))
 }

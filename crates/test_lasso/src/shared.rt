@@ -2,7 +2,7 @@
 //! is a script of `tool_replay`.
 ghost use Rattle.std.specs.Prelude.{◌≡◌};
 
-use crate::checks::{all_right, is_so, is_text};
+use crate::steps::{all_right, is_so, is_text};
 use lasso::log::Pass;
 use lasso::{
     Capacity, FixedState, Key, LassoResult, MemoryLimits, MicroSpur, Spur, SpurThreadedRodeo,

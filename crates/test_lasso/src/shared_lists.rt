@@ -1,9 +1,9 @@
 //! The examples in the documents of filling, freezing, comparing, writing and reading an interner that threads
 //! share, in tests.
-use crate::checks::is_so;
 use crate::objects::{ends_with, has_alone};
 use crate::owning::of_texts;
 use crate::shared::{fresh, hello, runs, runs_on};
+use crate::steps::is_so;
 use lasso::{
     Capacity, LassoResult, MemoryLimits, SpurRodeoReader, SpurThreadedRodeo, ThreadedRodeo,
 };

@@ -10,8 +10,6 @@ mod callers;
 #[cfg(test)]
 mod checks;
 #[cfg(test)]
-mod chunks;
-#[cfg(test)]
 mod comparing;
 #[cfg(test)]
 mod counted;
@@ -54,7 +52,5 @@ mod shared_memory;
 mod showing;
 #[cfg(test)]
 mod threaded;
-#[cfg(test)]
-mod unseen;
 #[cfg(test)]
 mod walking;

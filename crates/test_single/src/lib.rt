@@ -5,8 +5,6 @@
 #[cfg(test)]
 mod arena;
 #[cfg(test)]
-mod coding;
-#[cfg(test)]
 mod commands;
 #[cfg(test)]
 mod frozen;

@@ -1,5 +1,5 @@
 use Rattle.std.proofs.Common.{◌≡◌}
-use Rattle.test_shared.proofs.unseen.refused_of.Given as goal
+use Rattle.test_shared.proofs.limits.refused_of.Given as goal
 
 -- the pass stays a pass of this interner
 abbrev pub invariant-loop-text : goal.invariant-loop-text

@@ -1,5 +1,5 @@
 use Rattle.std.proofs.Common.{◌≡◌}
-use Rattle.test_shared.proofs.unseen.raised.Given as goal
+use Rattle.test_shared.proofs.limits.raised.Given as goal
 
 -- the pass stays a pass of this interner
 abbrev pub invariant-loop-raised : goal.invariant-loop-raised
