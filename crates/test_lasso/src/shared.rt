@@ -3,11 +3,11 @@
 ghost use Rattle.std.specs.Prelude.{◌≡◌};
 
 use crate::steps::{all_right, is_so, is_text};
-use lasso::log::Pass;
 use lasso::{
     Capacity, FixedState, Key, LassoResult, MemoryLimits, MicroSpur, Spur, SpurThreadedRodeo,
     ThreadedRodeo,
 };
+use lasso::log::Pass;
 use std::alloc::Global;
 use std::process::Abort;
 use std::sync::Wait;
@@ -17,8 +17,8 @@ use test_steps::calls::{
     stands_for, sums_as,
 };
 use test_steps::steps::Step::{Counts, Finds, Interns, IsLimited, Reads, Uses};
-use test_steps::steps::Way::{Copied, Static, TryCopied, TryStatic};
 use test_steps::steps::{Step, first_wrong};
+use test_steps::steps::Way::{Copied, Static, TryCopied, TryStatic};
 
 // What a test does with a pass.
 #[derive(Clone, Copy)]
