@@ -3,12 +3,12 @@
 //! The other ones are scripts of `tool_replay`.
 use crate::owning::of_texts;
 use crate::steps::{is_number, is_so, number_of};
+use lasso::interface::Interner;
 use lasso::{
     Capacity, Command, FixedState, JsonKey, Key, LassoError, LassoErrorKind, LassoResult,
     MemoryLimits, MicroSpur, Reply, Rodeo, Spur, SpurRodeo, SpurRodeoReader, SpurRodeoResolver,
     run_commands,
 };
-use lasso::interface::Interner;
 use serde_json::Value;
 use std::alloc::Global;
 use std::process::Abort;

@@ -7,11 +7,11 @@ use crate::laws::{
 use crate::objects::{ends_with, has_alone};
 use crate::owning::of_hello;
 use crate::steps::{Case, Step, all_right, first_wrong, gives_hello, is_so, reads_hello, steps_of};
+use lasso::interface::{IntoReader, IntoReaderAndResolver, IntoResolver};
 use lasso::{
     Capacity, Key, LassoResult, MemoryLimits, Rodeo, Spur, SpurRodeo, SpurRodeoReader,
     SpurRodeoResolver,
 };
-use lasso::interface::{IntoReader, IntoReaderAndResolver, IntoResolver};
 use std::alloc::Global;
 use std::process::Abort;
 use std::sync::Wait;

@@ -1,9 +1,9 @@
 //! Texts that collide under the fixed seed, in an interner with keys of its own; and the keyed hash against vectors of
 //! its authors.
 use crate::steps::is_so;
-use lasso::{FixedState, Key, LassoResult, Rodeo, Spur, ThreadedRodeo};
 use lasso::index::hash_text;
 use lasso::keyed::{KeyedState, keyed_by};
+use lasso::{FixedState, Key, LassoResult, Rodeo, Spur, ThreadedRodeo};
 use std::alloc::{AllocError, Global};
 use std::hash::BuildHasher;
 use std::sync::Wait;

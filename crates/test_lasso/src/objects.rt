@@ -5,8 +5,8 @@ use crate::laws::{
 };
 use crate::owning::of_hello;
 use crate::steps::{Answer, Case, LIMIT, is_answer, is_number, is_so, is_text, number_of};
-use lasso::{Key, LassoResult, Spur, SpurRodeo, SpurRodeoReader, SpurRodeoResolver};
 use lasso::interface::{SpurInterner, SpurReader, SpurResolver};
+use lasso::{Key, LassoResult, Spur, SpurRodeo, SpurRodeoReader, SpurRodeoResolver};
 use std::process::Abort;
 use std::test::Fail;
 

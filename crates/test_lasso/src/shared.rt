@@ -1,125 +1,41 @@
 //! The examples in the documents of the interner that threads share, in tests. That of its maker with limits
 //! is a script of `tool_replay`.
-ghost use Rattle.std.specs.Prelude.{◌≡◌};
 
 use crate::steps::{all_right, is_so, is_text};
 use lasso::{
     Capacity, FixedState, Key, LassoResult, MemoryLimits, MicroSpur, Spur, SpurThreadedRodeo,
     ThreadedRodeo,
 };
-use lasso::log::Pass;
 use std::alloc::Global;
 use std::process::Abort;
 use std::sync::Wait;
 use std::test::Fail;
-use test_steps::calls::{
-    copied, copied_as, found_as, hinted_pass_of, kept_as, pass_of, seen_by, set_limit_as,
-    stands_for, sums_as,
+use test_steps::calls::{copied, pass_of};
+use test_steps::cases::{Case, HINTED, PLAIN};
+use test_steps::passes::first_wrong_of;
+use test_steps::steps::Call::{self, Copies, Resolves};
+use test_steps::steps::Step::{
+    ByOne, ByOther, Counts, Finds, Interns, IsLimited, Meets, Reads, Uses,
 };
-use test_steps::steps::Step::{Counts, Finds, Interns, IsLimited, Reads, Uses};
-use test_steps::steps::{Step, first_wrong};
 use test_steps::steps::Way::{Copied, Static, TryCopied, TryStatic};
+use test_steps::steps::{Step, first_wrong};
+use test_steps::texts::List::Texts;
 
-// What a test does with a pass.
-#[derive(Clone, Copy)]
-enum Calls {
-    Kept,
-    Copied,
-    LookedUp,
-    Met,
-    Hinted,
-    Limited,
-}
-
-// Whether the static text's key resolves to it.
-fn keeps<R: Wait>(rt: &R, shared: &SpurThreadedRodeo) -> LassoResult<bool> {
-    let mut pass = pass_of(shared);
-    let key = kept_as(rt, shared, &mut pass, "Hello, world!")?;
-    Ok(stands_for(shared, &mut pass, key, "Hello, world!"))
-}
-
-// Whether the copied text's key resolves to it.
-fn copies<R: Wait>(rt: &R, shared: &SpurThreadedRodeo) -> LassoResult<bool> {
-    let mut pass = pass_of(shared);
-    let key = copied_as(rt, shared, &mut pass, "Hello, world!")?;
-    Ok(stands_for(shared, &mut pass, key, "Hello, world!"))
-}
-
-// Whether the text is found, with its key, and is the only one.
-fn looks_up<R: Wait>(rt: &R, shared: &SpurThreadedRodeo) -> LassoResult<bool> {
-    let mut pass = pass_of(shared);
-    let key = copied_as(rt, shared, &mut pass, "Hello, world!")?;
-    Ok(
-        found_as(rt, shared, &mut pass, "Hello, world!") == Some(key.into_usize())
-            && shared.contains_key_as(&mut pass, key)
-            && seen_by(shared, &mut pass) == 1,
-    )
-}
-
-// Whether a pass that meets another one resolves its key.
-fn meets<R: Wait>(rt: &R, shared: &SpurThreadedRodeo) -> LassoResult<bool> {
-    let mut first = pass_of(shared);
-    let key = copied_as(rt, shared, &mut first, "Hello, world!")?;
-    let mut second = pass_of(shared);
-    second.meet(&first);
-    Ok(stands_for(shared, &mut second, key, "Hello, world!"))
-}
-
-// Whether the text's key by the pass resolves to it.
-fn resolves_by<R: Wait>(
+// Makes the calls in order, by two passes. Fails unless each returns what it has to.
+fn runs_by_passes<R: AllocGlobal + Abort + Wait>(
     rt: &R,
-    shared: &SpurThreadedRodeo,
-    pass: &mut Pass<Spur>,
-    text: &str,
-) -> LassoResult<bool>
-    requires { pass.old.of ≡ shared.now }
-    ensures { pass.new.of ≡ pass.old.of }
-{
-    let key = copied_as(rt, shared, pass, text)?;
-    Ok(stands_for(shared, pass, key, text))
-}
-
-// Whether a pass with hints resolves each key, of texts that come again.
-fn hints<R: AllocGlobal + Wait>(rt: &R, shared: &SpurThreadedRodeo) -> LassoResult<bool> {
-    let mut pass = hinted_pass_of(rt.alloc(), shared);
-    let red = resolves_by(rt, shared, &mut pass, "red")?;
-    let green = resolves_by(rt, shared, &mut pass, "green")?;
-    let again = resolves_by(rt, shared, &mut pass, "red")?;
-    let hinted = resolves_by(rt, shared, &mut pass, "red")?;
-    Ok(red && green && again && hinted && seen_by(shared, &mut pass) == 2)
-}
-
-// Whether the limit that is set is read, and the usage stays.
-fn limits<R: Wait>(rt: &R, shared: &SpurThreadedRodeo) -> bool {
-    let mut pass = pass_of(shared);
-    set_limit_as(rt, shared, &mut pass, 10);
-    sums_as(rt, shared, &mut pass) == (10, 4096)
-}
-
-fn are_right<R: AllocGlobal + Wait>(
-    rt: &R,
-    shared: &SpurThreadedRodeo,
-    calls: Calls,
-) -> LassoResult<bool> {
-    match calls {
-        Calls::Kept => keeps(rt, shared),
-        Calls::Copied => copies(rt, shared),
-        Calls::LookedUp => looks_up(rt, shared),
-        Calls::Met => meets(rt, shared),
-        Calls::Hinted => hints(rt, shared),
-        Calls::Limited => Ok(limits(rt, shared)),
-    }
-}
-
-fn runs_as<R: AllocGlobal + Abort + Wait>(rt: &R, calls: Calls) -> Result<(), Fail> {
+    steps: &[Step],
+    case: Case,
+) -> Result<(), Fail> {
     let shared = fresh(rt.alloc())?;
-    is_so(rt, are_right(rt, &shared, calls)?, "the calls with a pass");
+    all_right(rt, first_wrong_of(rt, &shared, steps, case)?, steps.len());
     Ok(())
 }
 
 #[test]
 fn shared_by_default(rt: HostRuntime) -> Result<(), Fail> {
-    runs_as(&rt, Calls::Kept)
+    static STEPS: [Step; 1] = [ByOne(Resolves(Texts(&["Hello, world!"])))];
+    runs_by_passes(&rt, &STEPS, PLAIN)
 }
 
 // Whether the first key resolves to no text.
@@ -137,7 +53,11 @@ fn shared_with_a_hasher(rt: HostRuntime) -> Result<(), Fail> {
 
 #[test]
 fn shared_copied_with_a_pass(rt: HostRuntime) -> Result<(), Fail> {
-    runs_as(&rt, Calls::Copied)
+    static STEPS: [Step; 2] = [
+        ByOne(Copies("Hello, world!", Ok(0))),
+        ByOne(Call::Reads(0, Some("Hello, world!"))),
+    ];
+    runs_by_passes(&rt, &STEPS, PLAIN)
 }
 
 #[test]
@@ -151,17 +71,36 @@ fn shared_copied(rt: HostRuntime) -> Result<(), Fail> {
 
 #[test]
 fn shared_with_a_pass(rt: HostRuntime) -> Result<(), Fail> {
-    runs_as(&rt, Calls::LookedUp)
+    static STEPS: [Step; 4] = [
+        ByOne(Copies("Hello, world!", Ok(0))),
+        ByOne(Call::Finds("Hello, world!", Some(0))),
+        ByOne(Call::Reads(0, Some("Hello, world!"))),
+        ByOne(Call::Counts(1)),
+    ];
+    runs_by_passes(&rt, &STEPS, PLAIN)
 }
 
 #[test]
 fn shared_by_passes_that_meet(rt: HostRuntime) -> Result<(), Fail> {
-    runs_as(&rt, Calls::Met)
+    static STEPS: [Step; 3] = [
+        ByOther(Copies("Hello, world!", Ok(0))),
+        Meets,
+        ByOne(Call::Reads(0, Some("Hello, world!"))),
+    ];
+    runs_by_passes(&rt, &STEPS, PLAIN)
 }
 
 #[test]
 fn shared_by_a_pass_with_hints(rt: HostRuntime) -> Result<(), Fail> {
-    runs_as(&rt, Calls::Hinted)
+    static STEPS: [Step; 6] = [
+        ByOne(Copies("red", Ok(0))),
+        ByOne(Copies("green", Ok(1))),
+        ByOne(Call::Reads(0, Some("red"))),
+        ByOne(Call::Reads(1, Some("green"))),
+        ByOne(Copies("red", Ok(0))),
+        ByOne(Call::Counts(2)),
+    ];
+    runs_by_passes(&rt, &STEPS, HINTED)
 }
 
 #[test]
@@ -177,7 +116,8 @@ fn shared_looked_up(rt: HostRuntime) -> Result<(), Fail> {
 
 #[test]
 fn shared_with_a_new_limit(rt: HostRuntime) -> Result<(), Fail> {
-    runs_as(&rt, Calls::Limited)
+    static STEPS: [Step; 2] = [ByOne(Call::Limits(10)), ByOne(Call::Sums(10, 4096))];
+    runs_by_passes(&rt, &STEPS, PLAIN)
 }
 
 // Whether a walk sees the text that was there when it began, and no later one.

@@ -5,11 +5,11 @@ use crate::interfaces::{Freezing, freezes, shows_reader, shows_resolver};
 use crate::laws::{reader_knows, resolver_knows};
 use crate::shared::{fresh, hello};
 use crate::steps::{Case, NO_KEY_LEFT, Step, all_right, first_wrong, is_so, steps_of};
+use lasso::interface::{IntoReader, IntoResolver};
 use lasso::{
     Capacity, FixedState, LassoResult, MemoryLimits, MicroSpur, Spur, SpurRodeoReader,
     SpurRodeoResolver, SpurThreadedRodeo, ThreadedRodeo,
 };
-use lasso::interface::{IntoReader, IntoResolver};
 use std::alloc::Global;
 use std::process::Abort;
 use std::sync::Wait;

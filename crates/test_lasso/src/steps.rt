@@ -3,11 +3,11 @@
 ghost use Rattle.std.specs.Prelude.{◌≡◌};
 
 use crate::laws::{finds_what_resolves, interns_as_one, looks_up_alike};
+use lasso::interface::{Interner, Reader, Resolver};
 use lasso::{
     Key, LassoError, LassoErrorKind, LassoResult, MemoryLimits, Pass, Spur, SpurThreadedRodeo,
     ThreadedRodeo,
 };
-use lasso::interface::{Interner, Reader, Resolver};
 use std::alloc::Global;
 use std::process::Abort;
 use std::sync::Wait;

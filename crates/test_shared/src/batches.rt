@@ -15,8 +15,8 @@ use test_steps::makers::{Maker, maker_for};
 use test_steps::steps::Call::{self, FindsAll, TakesAll};
 use test_steps::steps::{FULL, Step};
 use test_steps::texts::KeyNumbers::{Any, Are, From};
-use test_steps::texts::{LENGTHS, items_of};
 use test_steps::texts::List::{Numbers, Texts};
+use test_steps::texts::{LENGTHS, items_of};
 
 // Makes the calls by passes without hints, and three times each by passes with hints.
 fn runs_both<K: Key, S: BuildHasher + Default + Drop, R: AllocGlobal + Wait + Abort>(

@@ -16,8 +16,8 @@ use std::sync::Wait;
 use std::test::*;
 use test_steps::calls::{Shared, made, pass_of};
 use test_steps::makers::Maker;
-use test_steps::steps::{Call, Step};
 use test_steps::steps::Step::ByOne;
+use test_steps::steps::{Call, Step};
 
 // Interns the text by one pass, and resolves its key by another, which has met the first.
 fn resolved_by_another<'a, R: Wait>(

@@ -18,8 +18,8 @@ use test_steps::calls::{Shared, limit, usage};
 use test_steps::cases::{PLAIN, SIZE, sized};
 use test_steps::makers::{Maker, make, of_items};
 use test_steps::steps::{FULL, Step, Way, extends, interned, is_reply};
-use test_steps::texts::{LENGTHS, items_of};
 use test_steps::texts::List::{Numbers, Texts};
+use test_steps::texts::{LENGTHS, items_of};
 
 #[test]
 fn four_forms_of_one_list(rt: HostRuntime) -> Result<(), Fail> {

@@ -1,17 +1,15 @@
 //! Threads that intern texts of their own and texts that all of them intern, and threads that call two interners
 //! alternately.
-ghost use Rattle.std.specs.Prelude.{◌≡◌};
 
 use crate::checks::{is_so, runs_in, runs_in_two};
 use Step::{Counts, Fills, IsLimited, Shows, Uses, UsesAtMost};
-use lasso_log::log::Pass;
-use lasso_parts::keys::{Key, Spur};
+use lasso_parts::keys::Key;
 use lasso_parts::util::LassoResult;
 use std::process::Abort;
 use std::sync::Wait;
 use std::test::*;
 use std::thread::{Threads, join, map_indices};
-use test_steps::calls::{Shared, copied_as, len, limited, made, pass_of};
+use test_steps::calls::{Caller, DefaultCaller, Shared, len, limited, made};
 use test_steps::cases::PLAIN;
 use test_steps::passes::are_right_beside;
 use test_steps::steps::{Step, Way, resolves};
@@ -91,11 +89,8 @@ static FEW: [&str; 16] = [
 ];
 
 // Interns a copied text by the pass. Returns its number, if it was not refused.
-fn number_as<R: Wait>(rt: &R, shared: &Shared, pass: &mut Pass<Spur>, text: &str) -> Option<usize>
-    requires { pass.old.of ≡ shared.now }
-    ensures { pass.new.of ≡ pass.old.of }
-{
-    match copied_as(rt, shared, pass, text) {
+fn number_as<R: Wait>(rt: &R, caller: &mut DefaultCaller<'_>, text: &str) -> Option<usize> {
+    match caller.copied(rt, text) {
         Ok(key) => Some(key.into_usize()),
         Err(_) => None,
     }
@@ -104,11 +99,11 @@ fn number_as<R: Wait>(rt: &R, shared: &Shared, pass: &mut Pass<Spur>, text: &str
 // Interns each of the few texts 1000 times, starting with the text at `first`, and returns their numbers.
 // `None` if a text was refused or had two numbers.
 fn numbers_of_few<R: Wait>(rt: &R, shared: &Shared, first: usize) -> Option<[usize; 16]> {
-    let mut pass = pass_of(shared);
+    let mut caller = Caller::new(shared);
     let mut numbers = [usize::MAX; 16];
     for call in 0..16_000usize {
         let at = first.wrapping_add(call) % 16;
-        let number = number_as(rt, shared, &mut pass, FEW[at])?;
+        let number = number_as(rt, &mut caller, FEW[at])?;
         if numbers[at] != usize::MAX && numbers[at] != number {
             return None;
         }

@@ -21,8 +21,8 @@ use test_common::keys::{WithoutTwo, WithoutZero};
 use test_steps::calls::Shared;
 use test_steps::cases::{HINTED, PLAIN};
 use test_steps::steps::{Call, Step, Way};
-use test_steps::texts::{KeyNumbers, List};
 use test_steps::texts::List::{Numbers, Texts};
+use test_steps::texts::{KeyNumbers, List};
 
 /// The error of reading a JSON value, if any.
 type Wrong = Option<JsonError>;

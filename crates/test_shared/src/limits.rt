@@ -1,22 +1,19 @@
 //! Setting and reading limits. Changes that a call may not hide under a pass of its own: a call that reads takes no bytes,
 //! one that interns takes only the bytes of its text, and one that raises the limit never lowers it on the way.
-ghost use Rattle.std.specs.Prelude.{◌≡◌};
 
 use crate::checks::{is_so, runs, runs_each, runs_in_one};
 use Step::{
     AllocatesOver, ByNew, ByOne, ByOther, Counts, EachCopies, Finds, Interns, IsLimited, Limits,
     Reads, Takes, Uses,
 };
-use lasso_log::log::Pass;
 use lasso_parts::keys::Spur;
-use lasso_parts::util::LassoErrorKind;
+use lasso_parts::util::{LassoErrorKind, MemoryLimits};
 use std::alloc::{AllocError, Global};
 use std::sync::Wait;
 use std::test::*;
 use std::thread::{Threads, join};
 use test_steps::calls::{
-    Shared, copied_as, len, limit, limited, made, pass_of, seen_by, set_limit, set_limit_as,
-    sums_as, usage,
+    Caller, DefaultCaller, Shared, len, limit, limited, made, set_limit, usage,
 };
 use test_steps::cases::SIZE;
 use test_steps::makers::Maker;
@@ -136,12 +133,12 @@ fn no_static_text_sets_a_limit(rt: HostRuntime) -> Result<(), Fail> {
 
 // Sets the limits from 0 to 99 and then `last`. Returns the limit that it reads then.
 fn set_often<R: Wait>(rt: &R, shared: &Shared, last: usize) -> usize {
-    let mut pass = pass_of(shared);
+    let mut caller = Caller::new(shared);
     for limit in 0..100usize {
-        set_limit_as(rt, shared, &mut pass, limit);
+        caller.set_limits(rt, MemoryLimits::new(limit));
     }
-    set_limit_as(rt, shared, &mut pass, last);
-    sums_as(rt, shared, &mut pass).0
+    caller.set_limits(rt, MemoryLimits::new(last));
+    caller.sums(rt).0
 }
 
 // Whether a thread that set `own` last read its own limit, or one that the other thread set later, the last of
@@ -256,23 +253,17 @@ fn eights(alloc: Global) -> Result<Vec<String>, AllocError> {
 }
 
 // Waits until the limit is raised, but not for ever.
-fn await_raise<R: Wait>(rt: &R, shared: &Shared, pass: &mut Pass<Spur>)
-    requires { pass.old.of ≡ shared.now }
-    ensures { pass.new.of ≡ pass.old.of }
-{
+fn await_raise<R: Wait>(rt: &R, caller: &mut DefaultCaller<'_>) {
     for _ in 0..TURNS {
-        if sums_as(rt, shared, pass).0 > NEEDED {
+        if caller.sums(rt).0 > NEEDED {
             break;
         }
     }
 }
 
 // Interns the text by the pass. Returns whether the limit refuses it. `None` if it is refused otherwise.
-fn is_refused<R: Wait>(rt: &R, shared: &Shared, pass: &mut Pass<Spur>, text: &str) -> Option<bool>
-    requires { pass.old.of ≡ shared.now }
-    ensures { pass.new.of ≡ pass.old.of }
-{
-    match copied_as(rt, shared, pass, text) {
+fn is_refused<R: Wait>(rt: &R, caller: &mut DefaultCaller<'_>, text: &str) -> Option<bool> {
+    match caller.copied(rt, text) {
         Ok(_key) => Some(false),
         Err(error) if error.kind() == LassoErrorKind::MemoryLimitReached => Some(true),
         Err(_) => None,
@@ -282,11 +273,11 @@ fn is_refused<R: Wait>(rt: &R, shared: &Shared, pass: &mut Pass<Spur>, text: &st
 // Waits until the limit is raised, interns the texts, and returns how many the limit refused. `None` if one
 // failed otherwise.
 fn refused_of<R: Wait>(rt: &R, shared: &Shared, texts: &[String]) -> Option<usize> {
-    let mut pass = pass_of(shared);
-    await_raise(rt, shared, &mut pass);
+    let mut caller = Caller::new(shared);
+    await_raise(rt, &mut caller);
     let mut refused: usize = 0;
     for text in texts.iter() {
-        if is_refused(rt, shared, &mut pass, text.as_str())? {
+        if is_refused(rt, &mut caller, text.as_str())? {
             refused = refused.saturating_add(1);
         }
     }
@@ -294,26 +285,23 @@ fn refused_of<R: Wait>(rt: &R, shared: &Shared, texts: &[String]) -> Option<usiz
 }
 
 // Sets the limit with the pass, or without one.
-fn raise<R: Wait>(rt: &R, shared: &Shared, pass: &mut Pass<Spur>, bytes: usize, plainly: bool)
-    requires { pass.old.of ≡ shared.now }
-    ensures { pass.new.of ≡ pass.old.of }
-{
+fn raise<R: Wait>(rt: &R, caller: &mut DefaultCaller<'_>, bytes: usize, plainly: bool) {
     if plainly {
-        set_limit(rt, shared, bytes);
+        set_limit(rt, caller.shared, bytes);
     } else {
-        set_limit_as(rt, shared, pass, bytes);
+        caller.set_limits(rt, MemoryLimits::new(bytes));
     }
 }
 
 // Raises the limit byte by byte until all texts are seen, but not for ever. Returns how many times.
 fn raised<R: Wait>(rt: &R, shared: &Shared, plainly: bool) -> usize {
-    let mut pass = pass_of(shared);
+    let mut caller = Caller::new(shared);
     for raised in 0..TURNS {
-        if seen_by(shared, &mut pass) >= EACH as usize {
+        if caller.seen() >= EACH as usize {
             return raised;
         }
         let bytes = NEEDED.saturating_add(raised);
-        raise(rt, shared, &mut pass, bytes, plainly);
+        raise(rt, &mut caller, bytes, plainly);
     }
     TURNS
 }

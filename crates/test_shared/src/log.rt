@@ -10,9 +10,9 @@ mod hints;
 
 use crate::checks::is_so;
 use crate::shared_memory::range_for;
-use lasso_log::log::{KeptCell, Log, NewLog, Opened, OpeningTexts, Pass, Spine};
 use lasso_log::log::bucket::SharedBucket;
 use lasso_log::log::bucket_list::BucketList;
+use lasso_log::log::{KeptCell, Log, NewLog, Opened, OpeningTexts, Pass, Spine};
 use lasso_log::shared_memory::piece::Piece;
 use lasso_parts::keys::{Key, Spur};
 use lasso_parts::util::{LassoError, LassoErrorKind, LassoResult};

@@ -1,10 +1,8 @@
 //! A thread that sets one limit after another, or lets it fall to 0, beside a thread that makes every other call that
 //! may wait: none of these sets a limit, and no limit is in force that was never set.
-ghost use Rattle.std.specs.Prelude.{◌≡◌};
 
 use crate::checks::{is_so, is_so_at, runs_in};
 use Step::{AllocatesOver, ByOne, Counts, EachCopies, EqualsItself, Finds, Interns, Uses};
-use lasso_log::log::Pass;
 use lasso_parts::keys::{Key, Spur};
 use lasso_parts::util::{FixedState, LassoErrorKind, LassoResult, MemoryLimits};
 use lasso_single::rodeo::Rodeo;
@@ -16,8 +14,7 @@ use std::test::*;
 use std::thread::{Threads, join};
 use test_common::texts::lettered;
 use test_steps::calls::{
-    Reader, Shared, answered, copied, copied_as, kept, len, limited, pass_of, seen_by, usage,
-    with_bytes,
+    Caller, DefaultCaller, Reader, Shared, answered, copied, kept, len, limited, usage, with_bytes,
 };
 use test_steps::cases::{PLAIN, SIZE, sized};
 use test_steps::makers::reads_what_it_sets;
@@ -215,17 +212,13 @@ struct Taken {
 // refused otherwise than by the limit.
 fn takes_next<R: Wait>(
     rt: &R,
-    shared: &Shared,
-    pass: &mut Pass<Spur>,
+    caller: &mut DefaultCaller<'_>,
     text: &str,
     before: Taken,
-) -> Option<Taken>
-    requires { pass.old.of ≡ shared.now }
-    ensures { pass.new.of ≡ pass.old.of }
-{
+) -> Option<Taken> {
     let Taken { position, taken } = before;
     let next = position.saturating_add(1);
-    match copied_as(rt, shared, pass, text) {
+    match caller.copied(rt, text) {
         Ok(key) if key.into_usize() == position && taken == position => {
             Some(Taken {
                 position: next,
@@ -245,34 +238,27 @@ fn takes_next<R: Wait>(
 // Interns the texts in order, and returns how many got their position as their number. `None` unless the
 // limit refused all texts after these.
 fn keys_before_refusals<R: Wait>(rt: &R, shared: &Shared, texts: &[String]) -> Option<usize> {
-    let mut pass = pass_of(shared);
+    let mut caller = Caller::new(shared);
     let mut seen = Taken {
         position: 0,
         taken: 0,
     };
     for text in texts.iter() {
-        seen = takes_next(rt, shared, &mut pass, text.as_str(), seen)?;
+        seen = takes_next(rt, &mut caller, text.as_str(), seen)?;
     }
     Some(seen.taken)
 }
 
-// Sets the limit to 0, and returns the usage then.
-fn let_fall<R: Wait>(rt: &R, shared: &Shared, pass: &mut Pass<Spur>) -> usize
-    requires { pass.old.of ≡ shared.now }
-{
-    shared.set_memory_limits_as(rt, pass, MemoryLimits::new(0));
-    shared.current_memory_usage_as(rt, pass)
-}
-
 // Waits for `awaited` texts, but not for ever. Then sets the limit to 0, and returns the usage.
 fn usage_after_fall<R: Wait>(rt: &R, shared: &Shared, awaited: usize) -> usize {
-    let mut pass = pass_of(shared);
+    let mut caller = Caller::new(shared);
     for _ in 0..1_000_000usize {
-        if seen_by(shared, &mut pass) >= awaited {
+        if caller.seen() >= awaited {
             break;
         }
     }
-    let_fall(rt, shared, &mut pass)
+    caller.set_limits(rt, MemoryLimits::new(0));
+    caller.sums(rt).1
 }
 
 // Whether the reader has exactly the first `count` texts, in order.

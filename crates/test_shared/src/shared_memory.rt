@@ -10,9 +10,9 @@ mod filling;
 mod lists;
 
 use crate::checks::is_so;
-use lasso_log::log::{Log, NewLog, OpeningTexts, Pass, Spine};
 use lasso_log::log::bucket::SharedBucket;
 use lasso_log::log::bucket_list::BucketList;
+use lasso_log::log::{Log, NewLog, OpeningTexts, Pass, Spine};
 use lasso_log::shared_memory::era::Era;
 use lasso_log::shared_memory::piece::{Piece, Range};
 use lasso_parts::keys::Spur;

@@ -20,8 +20,8 @@ use test_steps::calls::{Shared, pass_of};
 use test_steps::cases::{Case, PLAIN, SIZE};
 use test_steps::makers::Maker;
 use test_steps::steps::{Step, Way};
-use test_steps::texts::{LENGTHS, lasting};
 use test_steps::texts::List::Texts;
+use test_steps::texts::{LENGTHS, lasting};
 
 // A copied text and a static one. The bucket is the bytes of the copied text, and the limit is one byte more: a call
 // that interned a text of one byte would change the usage and the texts.

@@ -1,20 +1,17 @@
 //! Threads that intern texts in one interner, and calls that read, with a pass and without one. Texts that are interned
 //! while memory is out: `trials/refused-tests` refuses the requests for memory.
-ghost use Rattle.std.specs.Prelude.{◌≡◌};
 
 use crate::checks::{is_so, runs, runs_as, runs_beside, runs_in, runs_in_two};
 use Step::{ByNew, ByOne, Counts, Finds, Interns, Reads, Resolves};
-use lasso_log::log::Pass;
-use lasso_parts::keys::{Key, Spur};
-use lasso_parts::util::{FixedState, LassoErrorKind, LassoResult};
+use lasso_parts::keys::Key;
+use lasso_parts::util::{FixedState, LassoErrorKind};
 use std::process::Abort;
 use std::sync::Wait;
 use std::test::*;
 use std::thread::Threads;
 use test_common::keys::BelowTwo;
 use test_steps::calls::{
-    Shared, answered, contains, found, kept_as, len, limited, made, pass_of, seen_by, text_at,
-    usage,
+    Caller, DefaultCaller, Shared, answered, contains, found, len, limited, made, text_at, usage,
 };
 use test_steps::cases::PLAIN;
 use test_steps::makers::Maker;
@@ -66,14 +63,10 @@ fn two_threads_append(rt: HostRuntime) -> Result<(), Fail> {
 // Interns the text. Returns its number, or why it was refused.
 fn number<R: Wait>(
     rt: &R,
-    shared: &Shared,
-    pass: &mut Pass<Spur>,
+    caller: &mut DefaultCaller<'_>,
     text: &'static str,
-) -> Result<usize, LassoErrorKind>
-    requires { pass.old.of ≡ shared.now }
-    ensures { pass.new.of ≡ pass.old.of }
-{
-    match kept_as(rt, shared, pass, text) {
+) -> Result<usize, LassoErrorKind> {
+    match caller.kept(rt, text) {
         Ok(key) => Ok(key.into_usize()),
         Err(error) => Err(error.kind()),
     }
@@ -83,27 +76,23 @@ fn number<R: Wait>(
 // the text got this number.
 fn takes_next<R: Wait>(
     rt: &R,
-    shared: &Shared,
-    pass: &mut Pass<Spur>,
+    caller: &mut DefaultCaller<'_>,
     text: &'static str,
     position: usize,
-) -> bool
-    requires { pass.old.of ≡ shared.now }
-    ensures { pass.new.of ≡ pass.old.of }
-{
-    let found = number(rt, shared, pass, text);
+) -> bool {
+    let found = number(rt, caller, text);
     if found != Err(LassoErrorKind::FailedAllocation) {
         return found == Ok(position);
     }
-    seen_by(shared, pass) == position && number(rt, shared, pass, text) == Ok(position)
+    caller.seen() == position && number(rt, caller, text) == Ok(position)
 }
 
 // Interns the texts, and again each whose first call runs out of memory. Returns whether such a call left the
 // list as it was, and whether each text got the next number.
 fn takes_all<R: Wait>(rt: &R, shared: &Shared, texts: &[&'static str]) -> bool {
-    let mut pass = pass_of(shared);
+    let mut caller = Caller::new(shared);
     for position in 0..texts.len() {
-        if !takes_next(rt, shared, &mut pass, texts[position], position) {
+        if !takes_next(rt, &mut caller, texts[position], position) {
             return false;
         }
     }

@@ -9,6 +9,7 @@ use lasso_shared::threaded::ThreadedRodeo;
 use lasso_single::reader::RodeoReader;
 use std::alloc::Global;
 use std::hash::BuildHasher;
+use std::mem::swap;
 use std::sync::Wait;
 use std::test::*;
 
@@ -187,27 +188,6 @@ pub fn pass_of<K: Key, S: BuildHasher + Drop>(shared: &ThreadedRodeo<K, S>) -> P
     shared.pass()
 }
 
-/// A new pass of the interner that keeps hints. Out of memory it keeps none.
-pub fn hinted_pass_of<K: Key, S: BuildHasher + Drop>(
-    alloc: Global,
-    shared: &ThreadedRodeo<K, S>,
-) -> Pass<K>
-    ensures { result.of ≡ shared.now }
-{
-    shared.pass_with_hints(alloc)
-}
-
-/// How many texts the pass has seen after this call, which is `len_as`.
-pub fn seen_by<K: Key, S: BuildHasher + Drop>(
-    shared: &ThreadedRodeo<K, S>,
-    pass: &mut Pass<K>,
-) -> usize
-    requires { pass.old.of ≡ shared.now }
-    ensures { pass.new.of ≡ pass.old.of }
-{
-    shared.len_as(pass)
-}
-
 /// Interns a static text by the pass.
 pub fn kept_as<K: Key, S: BuildHasher + Drop, R: Wait>(
     rt: &R,
@@ -234,85 +214,120 @@ pub fn copied_as<K: Key, S: BuildHasher + Drop, R: Wait>(
     shared.try_get_or_intern_as(rt, pass, text)
 }
 
-/// The number of the text by the pass, if it is present.
-pub fn found_as<K: Key, S: BuildHasher + Drop, R: Wait>(
-    rt: &R,
-    shared: &ThreadedRodeo<K, S>,
-    pass: &mut Pass<K>,
-    text: &str,
-) -> Option<usize>
-    requires { pass.old.of ≡ shared.now }
-    ensures { pass.new.of ≡ pass.old.of }
-{
-    match shared.get_as(rt, pass, text) {
-        Some(key) => Some(key.into_usize()),
-        None => None,
+/// An interner with a pass of it, which its calls are made by, and with another pass.
+#[derive(Drop)]
+pub struct Caller<'a, K: Key, S: BuildHasher + Drop> {
+    /// The interner.
+    pub shared: &'a ThreadedRodeo<K, S>,
+    pass: Pass<K>,
+    other: Pass<K>,
+    ghost of: { pass.of ≡ shared.now },
+    ghost others: { other.of ≡ shared.now },
+}
+
+/// Of an interner with the default keys and hasher.
+pub type DefaultCaller<'a> = Caller<'a, Spur, FixedState>;
+
+impl<'a, K: Key, S: BuildHasher + Drop> Caller<'a, K, S> {
+    /// Two new passes of the interner.
+    pub fn new(shared: &'a ThreadedRodeo<K, S>) -> Self {
+        Caller {
+            shared,
+            pass: shared.pass(),
+            other: shared.pass(),
+        }
     }
-}
 
-/// Interns the texts by one call with the pass, and appends their keys.
-pub fn interned_all_as<K: Key, S: BuildHasher + Drop, R: Wait>(
-    rt: &R,
-    shared: &ThreadedRodeo<K, S>,
-    pass: &mut Pass<K>,
-    texts: &[&str],
-    keys: &mut Vec<K>,
-) -> LassoResult<()>
-    requires { pass.old.of ≡ shared.now }
-    ensures { pass.new.of ≡ pass.old.of }
-{
-    shared.try_get_or_intern_all_as(rt, pass, texts, keys)
-}
+    /// Two new passes that keep hints. Out of memory they keep none.
+    pub fn hinted(alloc: Global, shared: &'a ThreadedRodeo<K, S>) -> Self {
+        Caller {
+            shared,
+            pass: shared.pass_with_hints(alloc),
+            other: shared.pass_with_hints(alloc),
+        }
+    }
 
-/// Looks the texts up by one call with the pass, and appends what is found.
-pub fn found_all_as<K: Key, S: BuildHasher + Drop, R: Wait>(
-    rt: &R,
-    shared: &ThreadedRodeo<K, S>,
-    pass: &mut Pass<K>,
-    texts: &[&str],
-    keys: &mut Vec<Option<K>>,
-) -> LassoResult<()>
-    requires { pass.old.of ≡ shared.now }
-    ensures { pass.new.of ≡ pass.old.of }
-{
-    shared.get_all_as(rt, pass, texts, keys)
-}
+    /// Calls go by the other pass from now on, until this is called again.
+    pub fn change(&mut self) {
+        swap(&mut self.pass, &mut self.other);
+    }
 
-/// Whether the key resolves to the text by the pass.
-pub fn stands_for<K: Key, S: BuildHasher + Drop>(
-    shared: &ThreadedRodeo<K, S>,
-    pass: &mut Pass<K>,
-    key: K,
-    text: &str,
-) -> bool
-    requires { pass.old.of ≡ shared.now }
-    ensures { pass.new.of ≡ pass.old.of }
-{
-    shared.try_resolve_as(pass, key) == Some(text)
-}
+    /// The pass sees what the other one has seen.
+    pub fn meet(&mut self) {
+        self.pass.meet(&self.other);
+    }
 
-/// The limit and the usage by the pass.
-pub fn sums_as<K: Key, S: BuildHasher + Drop, R: Wait>(
-    rt: &R,
-    shared: &ThreadedRodeo<K, S>,
-    pass: &mut Pass<K>,
-) -> (usize, usize)
-    requires { pass.old.of ≡ shared.now }
-    ensures { pass.new.of ≡ pass.old.of }
-{
-    let limit = shared.max_memory_usage_as(rt, pass);
-    (limit, shared.current_memory_usage_as(rt, pass))
-}
+    /// Whether the pass takes texts one by one, since its hints serve.
+    pub fn hints_serve(&self) -> bool {
+        self.pass.hints_serve()
+    }
 
-/// Sets the limit by the pass.
-pub fn set_limit_as<K: Key, S: BuildHasher + Drop, R: Wait>(
-    rt: &R,
-    shared: &ThreadedRodeo<K, S>,
-    pass: &mut Pass<K>,
-    bytes: usize,
-)
-    requires { pass.old.of ≡ shared.now }
-    ensures { pass.new.of ≡ pass.old.of }
-{
-    shared.set_memory_limits_as(rt, pass, MemoryLimits::new(bytes));
+    /// How many texts the pass has seen after this call, which is `len_as`.
+    pub fn seen(&mut self) -> usize {
+        self.shared.len_as(&mut self.pass)
+    }
+
+    /// Interns a static text.
+    pub fn kept<R: Wait>(&mut self, rt: &R, text: &'static str) -> LassoResult<K> {
+        self.shared
+            .try_get_or_intern_static_as(rt, &mut self.pass, text)
+    }
+
+    /// Interns a copied text.
+    pub fn copied<R: Wait>(&mut self, rt: &R, text: &str) -> LassoResult<K> {
+        self.shared.try_get_or_intern_as(rt, &mut self.pass, text)
+    }
+
+    /// The number of the text, if it is present.
+    pub fn found<R: Wait>(&mut self, rt: &R, text: &str) -> Option<usize> {
+        match self.shared.get_as(rt, &mut self.pass, text) {
+            Some(key) => Some(key.into_usize()),
+            None => None,
+        }
+    }
+
+    /// Interns the texts by one call, and appends their keys.
+    pub fn interned_all<R: Wait>(
+        &mut self,
+        rt: &R,
+        texts: &[&str],
+        keys: &mut Vec<K>,
+    ) -> LassoResult<()> {
+        self.shared
+            .try_get_or_intern_all_as(rt, &mut self.pass, texts, keys)
+    }
+
+    /// Looks the texts up by one call, and appends what is found.
+    pub fn found_all<R: Wait>(
+        &mut self,
+        rt: &R,
+        texts: &[&str],
+        keys: &mut Vec<Option<K>>,
+    ) -> LassoResult<()> {
+        self.shared.get_all_as(rt, &mut self.pass, texts, keys)
+    }
+
+    /// Whether there is a text of this key.
+    pub fn has(&mut self, key: K) -> bool {
+        self.shared.contains_key_as(&mut self.pass, key)
+    }
+
+    /// Whether the key resolves to this text, or to none.
+    pub fn resolves(&mut self, key: K, text: Option<&str>) -> bool {
+        self.shared.try_resolve_as(&mut self.pass, key) == text
+    }
+
+    /// The limit and the usage.
+    pub fn sums<R: Wait>(&mut self, rt: &R) -> (usize, usize) {
+        let limit = self.shared.max_memory_usage_as(rt, &mut self.pass);
+        (
+            limit,
+            self.shared.current_memory_usage_as(rt, &mut self.pass),
+        )
+    }
+
+    /// Sets the limit.
+    pub fn set_limits<R: Wait>(&mut self, rt: &R, limits: MemoryLimits) {
+        self.shared.set_memory_limits_as(rt, &mut self.pass, limits);
+    }
 }

@@ -1,14 +1,8 @@
 //! Rows that passes make, also of calls that take a list of texts.
-ghost use Rattle.std.specs.Prelude.{◌≡◌};
-
-use crate::calls::{
-    Shared, copied_as, found_all_as, found_as, hinted_pass_of, interned_all_as, kept_as, pass_of,
-    seen_by, set_limit_as, stands_for, sums_as,
-};
+use crate::calls::{Caller, Shared};
 use crate::cases::{Case, step_of};
 use crate::steps::{Call, Reply, Step, holds, is_reply};
 use crate::texts::{KeyNumbers, count_of, items_of, may_have};
-use lasso_log::log::Pass;
 use lasso_parts::keys::Key;
 use lasso_parts::util::{LassoErrorKind, LassoResult, MemoryLimits};
 use lasso_shared::threaded::ThreadedRodeo;
@@ -28,37 +22,29 @@ fn number_of<K: Key>(reply: LassoResult<K>) -> LassoResult<usize> {
 // Interns a text by the pass, as a copied or as a static one. Returns whether it returns this.
 fn interns_by<K: Key, S: BuildHasher + Drop, R: Wait>(
     rt: &R,
-    shared: &ThreadedRodeo<K, S>,
-    pass: &mut Pass<K>,
+    caller: &mut Caller<'_, K, S>,
     is_copied: bool,
     text: &'static str,
     wanted: Reply,
-) -> LassoResult<bool>
-    requires { pass.old.of ≡ shared.now }
-    ensures { pass.new.of ≡ pass.old.of }
-{
+) -> LassoResult<bool> {
     let reply = if is_copied {
-        copied_as(rt, shared, pass, text)
+        caller.copied(rt, text)
     } else {
-        kept_as(rt, shared, pass, text)
+        caller.kept(rt, text)
     };
     is_reply(number_of(reply), wanted)
 }
 
 // Whether the key with this number stands for the text, or for none, by each call with the pass.
 fn reads_by<K: Key, S: BuildHasher + Drop>(
-    shared: &ThreadedRodeo<K, S>,
-    pass: &mut Pass<K>,
+    caller: &mut Caller<'_, K, S>,
     number: usize,
     text: Option<&str>,
-) -> LassoResult<bool>
-    requires { pass.old.of ≡ shared.now }
-    ensures { pass.new.of ≡ pass.old.of }
-{
+) -> LassoResult<bool> {
     match K::try_from_usize(number) {
         Some(key) => {
-            let is_key = shared.contains_key_as(pass, key) == text.is_some();
-            Ok(shared.try_resolve_as(pass, key) == text && is_key)
+            let is_key = caller.has(key) == text.is_some();
+            Ok(caller.resolves(key, text) && is_key)
         }
         None => Ok(text.is_none()),
     }
@@ -67,19 +53,15 @@ fn reads_by<K: Key, S: BuildHasher + Drop>(
 // Interns the static texts by the pass, and looks each up. Returns whether they have these numbers.
 fn takes_by<K: Key, S: BuildHasher + Drop, R: Wait>(
     rt: &R,
-    shared: &ThreadedRodeo<K, S>,
-    pass: &mut Pass<K>,
+    caller: &mut Caller<'_, K, S>,
     items: &[&'static str],
     first: usize,
-) -> LassoResult<bool>
-    requires { pass.old.of ≡ shared.now }
-    ensures { pass.new.of ≡ pass.old.of }
-{
+) -> LassoResult<bool> {
     let mut all = true;
     for position in 0..items.len() {
         let number = position.saturating_add(first);
-        all &= interns_by(rt, shared, pass, false, items[position], Ok(number))?;
-        all &= found_as(rt, shared, pass, items[position]) == Some(number);
+        all &= interns_by(rt, caller, false, items[position], Ok(number))?;
+        all &= caller.found(rt, items[position]) == Some(number);
     }
     Ok(all)
 }
@@ -87,17 +69,13 @@ fn takes_by<K: Key, S: BuildHasher + Drop, R: Wait>(
 // Interns the static texts by the pass. Returns whether each key resolves to its text.
 fn resolves_by<K: Key, S: BuildHasher + Drop, R: Wait>(
     rt: &R,
-    shared: &ThreadedRodeo<K, S>,
-    pass: &mut Pass<K>,
+    caller: &mut Caller<'_, K, S>,
     items: &[&'static str],
-) -> LassoResult<bool>
-    requires { pass.old.of ≡ shared.now }
-    ensures { pass.new.of ≡ pass.old.of }
-{
+) -> LassoResult<bool> {
     let mut all = true;
     for position in 0..items.len() {
-        let key = kept_as(rt, shared, pass, items[position])?;
-        all &= stands_for(shared, pass, key, items[position]);
+        let key = caller.kept(rt, items[position])?;
+        all &= caller.resolves(key, Some(items[position]));
     }
     Ok(all)
 }
@@ -108,56 +86,39 @@ const ROUND: usize = 70_000;
 // Looks the text up until hints serve. Returns whether they do.
 fn serves_by<K: Key, S: BuildHasher + Drop, R: Wait>(
     rt: &R,
-    shared: &ThreadedRodeo<K, S>,
-    pass: &mut Pass<K>,
+    caller: &mut Caller<'_, K, S>,
     text: &str,
-) -> bool
-    requires { pass.old.of ≡ shared.now }
-    ensures { pass.new.of ≡ pass.old.of }
-{
+) -> bool {
     for _ in 0..ROUND {
-        if pass.hints_serve() || found_as(rt, shared, pass, text).is_none() {
-            return pass.hints_serve();
+        if caller.hints_serve() || caller.found(rt, text).is_none() {
+            return caller.hints_serve();
         }
     }
-    pass.hints_serve()
+    caller.hints_serve()
 }
 
 // Makes a call that sets the limit, or one that is about a list. Returns whether it returned what it has to.
 fn holds_more_by<K: Key, S: BuildHasher + Drop, R: AllocGlobal + Wait>(
     rt: &R,
-    shared: &ThreadedRodeo<K, S>,
-    pass: &mut Pass<K>,
+    caller: &mut Caller<'_, K, S>,
     call: Call,
-) -> LassoResult<bool>
-    requires { pass.old.of ≡ shared.now }
-    ensures { pass.new.of ≡ pass.old.of }
-{
+) -> LassoResult<bool> {
     match call {
         Call::Limits(bytes) => {
-            set_limit_as(rt, shared, pass, bytes);
+            caller.set_limits(rt, MemoryLimits::new(bytes));
             Ok(true)
         }
         Call::Lifts => {
-            shared.set_memory_limits_as(rt, pass, MemoryLimits::default());
+            caller.set_limits(rt, MemoryLimits::default());
             Ok(true)
         }
-        Call::Takes(list, first) => {
-            takes_by(rt, shared, pass, &items_of(rt.alloc(), list)?, first)
-        }
-        Call::Resolves(list) => resolves_by(rt, shared, pass, &items_of(rt.alloc(), list)?),
+        Call::Takes(list, first) => { takes_by(rt, caller, &items_of(rt.alloc(), list)?, first) }
+        Call::Resolves(list) => resolves_by(rt, caller, &items_of(rt.alloc(), list)?),
         Call::TakesAll(list, numbers, wanted) => {
-            takes_all_by(
-                rt,
-                shared,
-                pass,
-                &items_of(rt.alloc(), list)?,
-                numbers,
-                wanted,
-            )
+            takes_all_by(rt, caller, &items_of(rt.alloc(), list)?, numbers, wanted)
         }
-        Call::FindsAll(texts, numbers) => finds_all_by(rt, shared, pass, texts, numbers),
-        Call::Serves(text) => Ok(serves_by(rt, shared, pass, text)),
+        Call::FindsAll(texts, numbers) => finds_all_by(rt, caller, texts, numbers),
+        Call::Serves(text) => Ok(serves_by(rt, caller, text)),
         _ => Ok(false),
     }
 }
@@ -165,72 +126,53 @@ fn holds_more_by<K: Key, S: BuildHasher + Drop, R: AllocGlobal + Wait>(
 // Makes the call by the pass. Returns whether it returned what it has to.
 fn holds_by<K: Key, S: BuildHasher + Drop, R: AllocGlobal + Wait>(
     rt: &R,
-    shared: &ThreadedRodeo<K, S>,
-    pass: &mut Pass<K>,
-    call: Call,
-) -> LassoResult<bool>
-    requires { pass.old.of ≡ shared.now }
-    ensures { pass.new.of ≡ pass.old.of }
-{
-    match call {
-        Call::Copies(text, wanted) => interns_by(rt, shared, pass, true, text, wanted),
-        Call::Keeps(text, wanted) => interns_by(rt, shared, pass, false, text, wanted),
-        Call::Finds(text, number) => Ok(found_as(rt, shared, pass, text) == number),
-        Call::Reads(number, text) => reads_by(shared, pass, number, text),
-        Call::Counts(count) => Ok(seen_by(shared, pass) == count),
-        Call::Sums(limit, usage) => Ok(sums_as(rt, shared, pass) == (limit, usage)),
-        Call::Uses(usage) => Ok(sums_as(rt, shared, pass).1 == usage),
-        _ => holds_more_by(rt, shared, pass, call),
-    }
-}
-
-// The same by a new pass.
-fn holds_by_new<K: Key, S: BuildHasher + Drop, R: AllocGlobal + Wait>(
-    rt: &R,
-    shared: &ThreadedRodeo<K, S>,
+    caller: &mut Caller<'_, K, S>,
     call: Call,
 ) -> LassoResult<bool> {
-    let mut pass = pass_of(shared);
-    holds_by(rt, shared, &mut pass, call)
+    match call {
+        Call::Copies(text, wanted) => interns_by(rt, caller, true, text, wanted),
+        Call::Keeps(text, wanted) => interns_by(rt, caller, false, text, wanted),
+        Call::Finds(text, number) => Ok(caller.found(rt, text) == number),
+        Call::Reads(number, text) => reads_by(caller, number, text),
+        Call::Counts(count) => Ok(caller.seen() == count),
+        Call::Sums(limit, usage) => Ok(caller.sums(rt) == (limit, usage)),
+        Call::Uses(usage) => Ok(caller.sums(rt).1 == usage),
+        _ => holds_more_by(rt, caller, call),
+    }
 }
 
 // Makes the call, by one of the passes or without them. Returns whether it returned what it has to.
 fn holds_with<K: Key, S: BuildHasher + Drop, R: AllocGlobal + Wait>(
     rt: &R,
-    shared: &ThreadedRodeo<K, S>,
-    one: &mut Pass<K>,
-    other: &mut Pass<K>,
+    caller: &mut Caller<'_, K, S>,
     step: Step,
-) -> LassoResult<bool>
-    requires of { (one.old.of ≡ shared.now) × (other.old.of ≡ shared.now) }
-    ensures of { (one.new.of ≡ shared.now) × (other.new.of ≡ shared.now) }
-{
+) -> LassoResult<bool> {
     match step {
-        Step::ByNew(call) => holds_by_new(rt, shared, call),
-        Step::ByOne(call) => holds_by(rt, shared, one, call),
-        Step::ByOther(call) => holds_by(rt, shared, other, call),
+        Step::ByNew(call) => holds_by(rt, &mut Caller::new(caller.shared), call),
+        Step::ByOne(call) => holds_by(rt, caller, call),
+        Step::ByOther(call) => {
+            caller.change();
+            let is_right = holds_by(rt, caller, call);
+            caller.change();
+            is_right
+        }
         Step::Meets => {
-            one.meet(other);
+            caller.meet();
             Ok(true)
         }
-        _ => holds(rt, shared, step),
+        _ => holds(rt, caller.shared, step),
     }
 }
 
 // Makes the call so many times, up to the first that returns something else. Returns whether none did.
 fn holds_each_time<K: Key, S: BuildHasher + Drop, R: AllocGlobal + Wait>(
     rt: &R,
-    shared: &ThreadedRodeo<K, S>,
-    one: &mut Pass<K>,
-    other: &mut Pass<K>,
+    caller: &mut Caller<'_, K, S>,
     step: Step,
     times: usize,
-) -> LassoResult<bool>
-    requires of { (one.old.of ≡ shared.now) × (other.old.of ≡ shared.now) }
-    ensures of { (one.new.of ≡ shared.now) × (other.new.of ≡ shared.now) }
-{
+) -> LassoResult<bool> {
     for _ in 0..times {
-        if !holds_with(rt, shared, one, other, step)? {
+        if !holds_with(rt, caller, step)? {
             return Ok(false);
         }
     }
@@ -241,37 +183,18 @@ fn holds_each_time<K: Key, S: BuildHasher + Drop, R: AllocGlobal + Wait>(
 // Returns how many returned what they have to.
 fn first_wrong_with<K: Key, S: BuildHasher + Drop, R: AllocGlobal + Wait>(
     rt: &R,
-    shared: &ThreadedRodeo<K, S>,
-    one: &mut Pass<K>,
-    other: &mut Pass<K>,
+    caller: &mut Caller<'_, K, S>,
     steps: &[Step],
     case: Case,
-) -> LassoResult<usize>
-    requires of { (one.old.of ≡ shared.now) × (other.old.of ≡ shared.now) }
-{
+) -> LassoResult<usize> {
     let mut formed = Vec::new(rt.alloc());
     for index in 0..steps.len() {
         let step = step_of(rt.alloc(), &mut formed, case, steps[index])?;
-        if !holds_each_time(rt, shared, one, other, step, case.times)? {
+        if !holds_each_time(rt, caller, step, case.times)? {
             return Ok(index);
         }
     }
     Ok(steps.len())
-}
-
-// A new pass of the interner, with hints or without them.
-fn new_pass<K: Key, S: BuildHasher + Drop>(
-    alloc: Global,
-    shared: &ThreadedRodeo<K, S>,
-    case: Case,
-) -> Pass<K>
-    ensures { result.of ≡ shared.now }
-{
-    if case.is_hinted {
-        hinted_pass_of(alloc, shared)
-    } else {
-        pass_of(shared)
-    }
 }
 
 /// Makes the calls in order, without a pass or by two new ones, up to the first that returns something else than
@@ -282,9 +205,12 @@ pub fn first_wrong_of<K: Key, S: BuildHasher + Drop, R: AllocGlobal + Wait>(
     steps: &[Step],
     case: Case,
 ) -> LassoResult<usize> {
-    let mut one = new_pass(rt.alloc(), shared, case);
-    let mut other = new_pass(rt.alloc(), shared, case);
-    first_wrong_with(rt, shared, &mut one, &mut other, steps, case)
+    let mut caller = if case.is_hinted {
+        Caller::hinted(rt.alloc(), shared)
+    } else {
+        Caller::new(shared)
+    };
+    first_wrong_with(rt, &mut caller, steps, case)
 }
 
 /// The same in two threads, of which each makes other calls. Returns whether all returned what they have to.
@@ -316,19 +242,15 @@ fn refusal_of(reply: LassoResult<()>) -> LassoResult<Option<LassoErrorKind>> {
 
 // Whether the keys are those of the first texts: with these numbers, and each resolves to its text.
 fn are_keys_of<K: Key, S: BuildHasher + Drop>(
-    shared: &ThreadedRodeo<K, S>,
-    pass: &mut Pass<K>,
+    caller: &mut Caller<'_, K, S>,
     keys: &[K],
     items: &[&'static str],
     numbers: KeyNumbers,
-) -> bool
-    requires { pass.old.of ≡ shared.now }
-    ensures { pass.new.of ≡ pass.old.of }
-{
+) -> bool {
     let mut all = keys.len() == count_of(numbers, items.len());
     for place in 0..keys.len().min(items.len()) {
         all &= may_have(numbers, place, keys[place].into_usize());
-        all &= stands_for(shared, pass, keys[place], items[place]);
+        all &= caller.resolves(keys[place], Some(items[place]));
     }
     all
 }
@@ -345,25 +267,21 @@ fn first_keys<K: Key>(alloc: Global) -> LassoResult<Vec<K>> {
     }
 }
 
-/// Interns the texts by one call of the pass. Returns whether it was refused for this reason, if one is given,
-/// and the other texts got keys with these numbers. A key that was there before has to stay.
-pub fn takes_all_by<K: Key, S: BuildHasher + Drop, R: AllocGlobal + Wait>(
+// Interns the texts by one call of the pass. Returns whether it was refused for this reason, if one is given,
+// and the other texts got keys with these numbers. A key that was there before has to stay.
+fn takes_all_by<K: Key, S: BuildHasher + Drop, R: AllocGlobal + Wait>(
     rt: &R,
-    shared: &ThreadedRodeo<K, S>,
-    pass: &mut Pass<K>,
+    caller: &mut Caller<'_, K, S>,
     items: &[&'static str],
     numbers: KeyNumbers,
     wanted: Option<LassoErrorKind>,
-) -> LassoResult<bool>
-    requires { pass.old.of ≡ shared.now }
-    ensures { pass.new.of ≡ pass.old.of }
-{
+) -> LassoResult<bool> {
     let mut keys = first_keys(rt.alloc())?;
     let (first, earlier) = (keys.len(), keys.first().copied());
-    let refusal = refusal_of(interned_all_as(rt, shared, pass, items, &mut keys))?;
+    let refusal = refusal_of(caller.interned_all(rt, items, &mut keys))?;
     let are_kept = first == 0 || keys.first().copied() == earlier;
     let added = keys.get(first..).unwrap_or(&[]);
-    let are_right = are_keys_of(shared, pass, added, items, numbers);
+    let are_right = are_keys_of(caller, added, items, numbers);
     Ok(refusal == wanted && are_kept && are_right)
 }
 
@@ -380,22 +298,18 @@ fn are_numbers_of<K: Key>(keys: &[Option<K>], numbers: &[Option<usize>]) -> bool
     all
 }
 
-/// Looks the texts up by one call of the pass. Returns whether they have these numbers. What was there before has
-/// to stay.
-pub fn finds_all_by<K: Key, S: BuildHasher + Drop, R: AllocGlobal + Wait>(
+// Looks the texts up by one call of the pass. Returns whether they have these numbers. What was there before has
+// to stay.
+fn finds_all_by<K: Key, S: BuildHasher + Drop, R: AllocGlobal + Wait>(
     rt: &R,
-    shared: &ThreadedRodeo<K, S>,
-    pass: &mut Pass<K>,
+    caller: &mut Caller<'_, K, S>,
     texts: &[&'static str],
     numbers: &[Option<usize>],
-) -> LassoResult<bool>
-    requires { pass.old.of ≡ shared.now }
-    ensures { pass.new.of ≡ pass.old.of }
-{
+) -> LassoResult<bool> {
     let mut keys = Vec::new(rt.alloc());
     let earlier = K::try_from_usize(0);
     keys.push(earlier)?;
-    found_all_as(rt, shared, pass, texts, &mut keys)?;
+    caller.found_all(rt, texts, &mut keys)?;
     let are_kept = keys.first().copied() == Some(earlier);
     let added = keys.get(1..).unwrap_or(&[]);
     Ok(are_kept && are_numbers_of(added, numbers))

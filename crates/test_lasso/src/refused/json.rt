@@ -2,10 +2,10 @@
 //! and a refused text is not met.
 ghost use Rattle.std.specs.Prelude.{◌≡◌};
 
-use crate::refused::{Refused, is_so, retried, second_value};
 use crate::refused::makers::{Interner, Scenario, State, Way, shows};
-use lasso::{JsonError, Key, LassoResult, Spur, ThreadedRodeo};
+use crate::refused::{Refused, is_so, retried, second_value};
 use lasso::log::Pass;
+use lasso::{JsonError, Key, LassoResult, Spur, ThreadedRodeo};
 use serde_json::Value;
 use std::alloc::Global;
 use std::process::Abort;

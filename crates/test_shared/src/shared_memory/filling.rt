@@ -9,8 +9,8 @@ ghost use Rattle.lasso_log.specs.Views.{InternerId, PassView};
 
 use crate::checks::is_so;
 use crate::shared_memory::one_bucket;
-use lasso_log::log::{Log, Pass};
 use lasso_log::log::bucket::SharedBucket;
+use lasso_log::log::{Log, Pass};
 use lasso_log::shared_memory::piece::Piece;
 use lasso_parts::keys::Spur;
 use lasso_parts::util::LassoResult;
