@@ -38,7 +38,6 @@ def load(path, name):
 sys.path.insert(0, os.path.join(HERE, "mutants"))
 contracts = load("docs/contracts", "contracts")
 edits = load("mutants/edits.py", "edits")
-functions = load("mutants/functions.py", "functions")
 
 
 class Function:
@@ -80,7 +79,7 @@ def changed_by(root, edit):
     """Where in its file the functions are that an edit names, or that it changes first."""
     with open(os.path.join(root, "crates", edit.crate, edit.file), encoding="utf-8") as source:
         text = source.read()
-    found = list(functions.functions_of(os.path.join(root, "crates", edit.crate), edit.file, text))
+    found = list(edits.functions_of(os.path.join(root, "crates", edit.crate), edit.file, text))
     if edit.function:
         named, _ = edits.function_and_closure(edit.function.removeprefix(f"{edit.crate}::"))
         return [start for start, path in found if re.fullmatch(path, named)]

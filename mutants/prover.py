@@ -4,7 +4,7 @@ import re
 import subprocess
 
 from edits import Unfit, places
-from outcomes import Outcome, Result, applied, end_of, tell
+from copies import Outcome, Result, applied, end_of, tell
 
 VERDICT = re.compile(r"^fn (\S+): (.*)$", re.MULTILINE)
 PROOF_ERROR = re.compile(r"^\./proofs/(\S+)/(?:Answers|Proof)\.antt:\d+:\d+: error: ", re.MULTILINE)

@@ -6,7 +6,7 @@ import subprocess
 import tempfile
 
 from edits import Unfit, files_with_tests
-from outcomes import Outcome, Result, applied, end_of, tell
+from copies import Outcome, Result, applied, end_of, tell
 
 REPLAY = "tool_replay"
 # A program without proof is slow: a run of a case may take longer than its minute.

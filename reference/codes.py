@@ -3,8 +3,7 @@ import collections
 import re
 import unicodedata
 
-from account import Account
-from lines import is_utf8, lines_of
+from lines import Account, is_utf8, lines_of
 
 NO_CODE = 4294967295
 OPTIONS = {

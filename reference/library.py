@@ -2,8 +2,7 @@
 
 An output is a list of the elements that are written to its front. A refused call has only a status and a report.
 """
-from account import Account
-from lines import is_utf8
+from lines import Account, is_utf8
 
 (
     DONE,

@@ -1,10 +1,12 @@
-"""What trials and timings share: built programs, packages of the system, libraries in C that are loaded first, and runs under valgrind."""
+"""What trials and timings share: built programs, packages of the system, libraries in C that are loaded first, runs under valgrind, and runs
+with requests for memory refused in turn."""
 import os
 import re
 import shutil
 import subprocess
 import sys
 import tempfile
+from dataclasses import dataclass
 
 HERE = os.path.dirname(os.path.dirname(os.path.abspath(__file__)))
 OUT = f"{HERE}/trials/out"
@@ -15,6 +17,9 @@ WATCH = ("valgrind", "--leak-check=full", "--show-leak-kinds=all")
 NOTHING_LEFT = "in use at exit: 0 bytes in 0 blocks"
 WRONG = re.compile(r"ERROR SUMMARY: [1-9]")
 USED = re.compile(r"total heap usage: ([\d,]+) allocs")
+HALT = 60
+NONE_LEFT = "0 blocks, 0 bytes"
+KEEPS_ONE = "#include <stdlib.h>\nint main(void) { return malloc(7) == NULL; }\n"
 
 
 class Fault(Exception):
@@ -75,3 +80,54 @@ def first_difference(found, wanted):
     at = next((at for at, (one, other) in enumerate(zip(found, wanted)) if one != other), min(len(found), len(wanted)))
     start = max(at - 40, 0)
     return f"from byte {at} on, of {len(found)} and {len(wanted)}: {found[start:at + 80]!r}, not {wanted[start:at + 80]!r}"
+
+
+@dataclass
+class Ran:
+    """What came of a run: its status, what it wrote and said, whether a request was refused, and what it left."""
+
+    status: int
+    written: bytes
+    said: str
+    is_refused: bool
+    left: str
+
+
+class Refuser:
+    """Runs programs with a request refused. It tries its count of blocks on a program that keeps one."""
+
+    def __init__(self, room):
+        self.room, self.runs = room, 0
+        self.shim = shim_of("trials/refuse.c", room)
+        keeps = os.path.join(room, "keeps")
+        subprocess.run(["cc", "-O0", "-fno-builtin", "-o", keeps, "-x", "c", "-"], input=KEEPS_ONE.encode(), check=True)
+        if self.run([keeps], 0).left != "1 blocks, 7 bytes":
+            raise Fault("a block that is left is not counted")
+
+    def run(self, words, number, data=b""):
+        """Runs the words on an input with the request of this number refused, or with none for 0."""
+        self.runs += 1
+        left = os.path.join(self.room, "left")
+        if os.path.exists(left):
+            os.remove(left)
+        with tempfile.TemporaryFile(dir=self.room) as source, tempfile.TemporaryFile(dir=self.room) as told:
+            source.write(data)
+            source.seek(0)
+            environment = {**os.environ, "REFUSE": str(number), "HALT": str(HALT), "LEFT": left, "TOLD": str(told.fileno()), "LD_PRELOAD": self.shim}
+            done = subprocess.run(words, stdin=source, capture_output=True, env=environment, pass_fds=[told.fileno()], check=False)
+            is_refused = told.seek(0, os.SEEK_END) > 0
+        found = ""
+        if os.path.exists(left):
+            with open(left, encoding="ascii") as file:
+                found = file.read().strip()
+        return Ran(done.returncode, done.stdout, done.stderr.decode("utf-8", "replace"), is_refused, found)
+
+    def in_turn(self, words, data=b"", most=None):
+        """The runs with the first request refused, the second and so on, each with its number: up to one that makes no request of that number, or this number of them."""
+        number = 1
+        while most is None or number <= most:
+            ran = self.run(words, number, data)
+            yield number, ran
+            if not ran.is_refused:
+                return
+            number += 1

@@ -1,9 +1,46 @@
-/* A column of texts in Arrow's layout: what its schema says, and where each text of an array is. */
+/* The structs of the Arrow C data interface and the C stream interface, as their specification publishes them; and a column of texts in
+ * Arrow's layout: what its schema says, and where each text of an array is. */
 #ifndef LASSO_COLUMN_H
 #define LASSO_COLUMN_H
 
 #include "core.h"
-#include "interface.h"
+
+#include <stdint.h>
+
+#define ARROW_FLAG_NULLABLE 2
+
+struct ArrowSchema {
+    const char *format;
+    const char *name;
+    const char *metadata;
+    int64_t flags;
+    int64_t n_children;
+    struct ArrowSchema **children;
+    struct ArrowSchema *dictionary;
+    void (*release)(struct ArrowSchema *);
+    void *private_data;
+};
+
+struct ArrowArray {
+    int64_t length;
+    int64_t null_count;
+    int64_t offset;
+    int64_t n_buffers;
+    int64_t n_children;
+    const void **buffers;
+    struct ArrowArray **children;
+    struct ArrowArray *dictionary;
+    void (*release)(struct ArrowArray *);
+    void *private_data;
+};
+
+struct ArrowArrayStream {
+    int (*get_schema)(struct ArrowArrayStream *, struct ArrowSchema *out);
+    int (*get_next)(struct ArrowArrayStream *, struct ArrowArray *out);
+    const char *(*get_last_error)(struct ArrowArrayStream *);
+    void (*release)(struct ArrowArrayStream *);
+    void *private_data;
+};
 
 /* How texts are laid out: by 32-bit offsets, by 64-bit offsets, by views, or not at all, as all rows are nulls. */
 enum layout { LAYOUT_SMALL, LAYOUT_LARGE, LAYOUT_VIEWS, LAYOUT_NULLS };

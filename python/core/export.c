@@ -1,6 +1,5 @@
 /* Codes as an Arrow dictionary array, whose buffers are copies: what happens to the codes and the interner later doesn't change it. */
-#include "core.h"
-#include "interface.h"
+#include "column.h"
 
 #include <stdlib.h>
 #include <string.h>

@@ -11,11 +11,10 @@ The extension module ``lasso._core`` has the library in it. Free-threaded Python
 
 from __future__ import annotations
 
-from lasso.codes import NULL, Codes
 from lasso.errors import (
     CodesExhausted, InternerClosed, LassoError, LimitReached, NotUtf8, OutOfMemory, WrongLayout,
 )
-from lasso.interner import Interner
+from lasso.interner import NULL, Codes, Interner
 from lasso.sources import ArrowArray, ArrowStream, ArrowStrings
 
 __all__ = [

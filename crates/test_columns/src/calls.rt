@@ -1,11 +1,15 @@
-//! The calls that the tests make, each in a function without a contract. So the prover knows nothing of
-//! their results, and the tests check them. Types are chosen here once.
+//! The calls and assertions of the tests, each in a function without a contract. So the prover knows nothing of
+//! their results, and a test which makes many is proved fast. Types are chosen here once.
+ghost use Rattle.std.specs.Prelude.{map};
+ghost use Rattle.std.proofs.Common.{refl};
+
 use lasso::{
-    FixedState, LassoResult, MemoryLimits, Rodeo, SpurRodeo, SpurRodeoReader, SpurThreadedRodeo,
-    ThreadedRodeo,
+    FixedState, Key, LassoError, LassoResult, MemoryLimits, Rodeo, Spur, SpurRodeo,
+    SpurRodeoReader, SpurThreadedRodeo, ThreadedRodeo,
 };
-use lasso_columns::{DecodeError, Layout, LineError, ReadError, WriteError};
-use std::alloc::Global;
+use lasso_columns::{DecodeError, Layout, LineError, Offset, ReadError, WriteError};
+use std::alloc::{Allocator, Global};
+use std::process::Abort;
 use std::sync::Wait;
 use std::test::Fail;
 use std::thread::Threads;
@@ -170,4 +174,157 @@ pub(super) fn read_wide(
 ) -> Result<SpurRodeo, ReadError> {
     let limits = MemoryLimits::new(limit);
     lasso_columns::read_dictionary(alloc, limits, FixedState::new(), bytes, offsets)
+}
+
+// The assertions of these tests, and comparisons that they share. Each is a function of its own without a
+// contract, so that a test which makes many is proved fast.
+
+// Fails the test unless this holds. `what` names what was checked.
+pub(super) fn is_so(rt: &impl Abort, holds: bool, what: &str) {
+    assert!(rt; holds, "{what}");
+}
+
+// The same for a row of a table.
+pub(super) fn is_so_at(rt: &impl Abort, holds: bool, row: usize) {
+    assert!(rt; holds, "row {row}");
+}
+
+// Fails the test unless the calls ended well and this holds.
+pub(super) fn ends_so(rt: &impl Abort, ended: Result<bool, Fail>, what: &str) -> Result<(), Fail> {
+    match ended {
+        Ok(holds) => {
+            is_so(rt, holds, what);
+            Ok(())
+        }
+        Err(fault) => Err(fault),
+    }
+}
+
+// Fails the test unless the calls of a table ended well and all its rows are right.
+pub(super) fn all_right(
+    rt: &impl Abort,
+    right: Result<usize, Fail>,
+    rows: usize,
+) -> Result<(), Fail> {
+    match right {
+        Ok(row) => {
+            is_so_at(rt, row == rows, row);
+            Ok(())
+        }
+        Err(fault) => Err(fault),
+    }
+}
+
+// Whether the refusal is by the memory limit. Out of memory is an error.
+pub(super) fn is_by_the_limit(error: LassoError) -> Result<bool, Fail> {
+    if error.kind().is_failed_alloc() {
+        return Err(Fail::from(error));
+    }
+    Ok(error.kind().is_memory_limit())
+}
+
+// Whether these are the texts, in order.
+pub(super) fn are_texts(found: &[&str], texts: &[&str]) -> bool {
+    if found.len() != texts.len() {
+        return false;
+    }
+    for position in 0..texts.len() {
+        if found[position] != texts[position] {
+            return false;
+        }
+    }
+    true
+}
+
+// How many different texts have these codes. Codes are given in order, from 0.
+pub(super) fn distinct_of(codes: &[u32]) -> usize {
+    let mut count: usize = 0;
+    for at in 0..codes.len() {
+        count = count.max((codes[at] as usize).saturating_add(1));
+    }
+    count
+}
+
+// Whether the text has the key of this number.
+fn has_at<A: Allocator>(rodeo: &Rodeo<Spur, FixedState, A>, text: &str, number: usize) -> bool {
+    match rodeo.get(text) {
+        Some(key) => key.into_usize() == number,
+        None => false,
+    }
+}
+
+// Whether the interner has just these texts, in this order.
+pub(super) fn has_texts<A: Allocator>(rodeo: &Rodeo<Spur, FixedState, A>, texts: &[&str]) -> bool {
+    if rodeo.len() != texts.len() {
+        return false;
+    }
+    for number in 0..texts.len() {
+        if !has_at(rodeo, texts[number], number) {
+            return false;
+        }
+    }
+    true
+}
+
+// Whether the code resolves to the text.
+pub(super) fn resolves<A: Allocator>(
+    rodeo: &Rodeo<Spur, FixedState, A>,
+    code: u32,
+    text: &str,
+) -> bool {
+    match Spur::try_from_usize(code as usize) {
+        Some(key) => rodeo.try_resolve(key) == Some(text),
+        None => false,
+    }
+}
+
+// Whether there are no more codes than texts, and each code resolves to its text.
+pub(super) fn stand_for<A: Allocator>(
+    rodeo: &Rodeo<Spur, FixedState, A>,
+    codes: &[u32],
+    texts: &[&str],
+) -> bool {
+    if codes.len() > texts.len() {
+        return false;
+    }
+    for at in 0..codes.len() {
+        if !resolves(rodeo, codes[at], texts[at]) {
+            return false;
+        }
+    }
+    true
+}
+
+// A type of offsets for the tests, whose greatest offset is 9.
+
+#[derive(Clone, Copy)]
+pub(super) struct Narrow {
+    number: usize,
+}
+
+/// An offset past the greatest one.
+pub(super) fn past_greatest() -> Narrow {
+    Narrow { number: 10 }
+}
+
+impl Offset for Narrow {
+    const GREATEST: usize = 9;
+
+    ghost GREATEST = { 9 };
+
+    ghost number = { λ offset. offset.number };
+
+    ghost numbers = { map (λ offset. offset.number) };
+
+    ghost each = { λ offsets. refl };
+
+    fn into_usize(self) -> usize {
+        self.number
+    }
+
+    fn from_usize(number_of_bytes: usize) -> Self {
+        Narrow {
+            number: number_of_bytes,
+        }
+    }
 }

@@ -1,10 +1,16 @@
-//! Tests that each call succeeds when memory is available, which no contract can state; and whole columns,
-//! with values worked out by hand.
-use crate::calls::{decode, encode, encode_lines, interner, merge};
-use crate::checks::{all_right, are_texts, ends_so, is_by_the_limit, is_so};
+//! Tests that each call succeeds when memory is available, which no contract can state; whole columns, with values
+//! worked out by hand; and the examples in the doc comments of the calls.
+use crate::calls::{
+    all_right, append_dictionary, are_texts, decode, encode, encode_in_parts, encode_lines,
+    encode_shared, ends_so, interner, is_by_the_limit, is_so, merge, read_dictionary,
+    write_dictionary,
+};
 use crate::limited::limited;
-use lasso::{LassoError, LassoResult, SpurRodeo, SpurRodeoReader};
-use lasso_columns::{DecodeError, LineError};
+use lasso::{
+    FixedState, Key, LassoError, LassoResult, MemoryLimits, Rodeo, SpurRodeo, SpurRodeoReader,
+    SpurThreadedRodeo, ThreadedRodeo,
+};
+use lasso_columns::{DecodeError, Layout, LineError, ReadError};
 use std::alloc::Global;
 use std::process::Abort;
 use std::test::Fail;
@@ -301,4 +307,97 @@ fn a_first_new_text_is_refused_by_the_limit(rt: HostRuntime) -> Result<(), Fail>
         &["first", "other"],
     );
     column(&rt, limited_interner(rt.alloc()), COLUMN)
+}
+
+// The examples in the doc comments of the calls, as tests.
+
+#[test]
+fn texts_encoded(rt: HostRuntime) -> Result<(), Fail> {
+    let mut rodeo: SpurRodeo = Rodeo::default(rt.alloc())?;
+    let mut codes = Vec::new(rt.alloc());
+    encode(&mut rodeo, &["red", "green", "red"], &mut codes)?;
+    assert!(rt; codes.as_slice() == [0, 1, 0].as_slice());
+    Ok(())
+}
+
+#[test]
+fn texts_encoded_in_parts(rt: HostRuntime) -> Result<(), Fail> {
+    let mut rodeo: SpurRodeo = Rodeo::default(rt.alloc())?;
+    let mut codes = Vec::new(rt.alloc());
+    encode_in_parts(&rt, &mut rodeo, &["red", "green", "red"], &mut codes, 2)?;
+    assert!(rt; codes.as_slice() == [0, 1, 0].as_slice());
+    Ok(())
+}
+
+#[test]
+fn lines_encoded(rt: HostRuntime) -> Result<(), Fail> {
+    let mut rodeo: SpurRodeo = Rodeo::default(rt.alloc())?;
+    let mut codes = Vec::new(rt.alloc());
+    encode_lines(&mut rodeo, b"to be\nor not\nto be\n", &mut codes)?;
+    assert!(rt; codes.as_slice() == [0, 1, 0].as_slice());
+    Ok(())
+}
+
+#[test]
+fn codes_decoded(rt: HostRuntime) -> Result<(), Fail> {
+    let mut rodeo: SpurRodeo = Rodeo::default(rt.alloc())?;
+    rodeo.extend(["red", "green"])?;
+    let reader = rodeo.into_reader();
+    let mut texts = Vec::new(rt.alloc());
+    decode(&reader, &[1, 0, 1], &mut texts)?;
+    assert!(rt; texts.as_slice() == ["green", "red", "green"].as_slice());
+    Ok(())
+}
+
+#[test]
+fn dictionaries_merged(rt: HostRuntime) -> Result<(), Fail> {
+    let mut into: SpurRodeo = Rodeo::default(rt.alloc())?;
+    into.extend(["red", "green"])?;
+    let mut from: SpurRodeo = Rodeo::default(rt.alloc())?;
+    from.extend(["blue", "green"])?;
+    let merged = merge(rt.alloc(), &mut into, &from.into_reader())?;
+    assert!(rt; merged.as_slice() == [2, 1].as_slice());
+    Ok(())
+}
+
+#[test]
+fn texts_encoded_by_threads(rt: HostRuntime) -> Result<(), Fail> {
+    let rodeo: SpurThreadedRodeo = ThreadedRodeo::default(rt.alloc())?;
+    let mut codes = Vec::new(rt.alloc());
+    encode_shared(&rt, &rodeo, &["red", "green", "red"], &mut codes, 2)?;
+    assert!(rt; codes.first() == codes.last());
+    assert!(rt; rodeo.len() == 2);
+    Ok(())
+}
+
+#[test]
+fn dictionary_written(rt: HostRuntime) -> Result<(), Fail> {
+    let rodeo = SpurRodeo::from_iter(rt.alloc(), ["red", "", "blue"])?;
+    let layout: Layout<u32> = write_dictionary(rt.alloc(), &rodeo, 1)?;
+    assert!(rt; layout.bytes.as_slice() == b"blue".as_slice());
+    assert!(rt; layout.offsets.as_slice() == [0, 0, 4].as_slice());
+    Ok(())
+}
+
+#[test]
+fn dictionary_read(rt: HostRuntime) -> Result<(), Fail> {
+    let limits = MemoryLimits::default();
+    let hasher = FixedState::new();
+    let read = read_dictionary(rt.alloc(), limits, hasher, b"redblue", &[0u32, 3, 3, 7])?;
+    let rodeo: SpurRodeo = read;
+    assert!(rt; rodeo.len() == 3);
+    let blue = rodeo.get("blue").ok_or("not there")?;
+    assert!(rt; blue.into_usize() == 2);
+    Ok(())
+}
+
+#[test]
+fn dictionary_appended(rt: HostRuntime) -> Result<(), Fail> {
+    let mut rodeo = SpurRodeo::from_iter(rt.alloc(), ["red"])?;
+    append_dictionary(&mut rodeo, b"blue", &[0u32, 0, 4])?;
+    assert!(rt; rodeo.len() == 3);
+    let doubled = append_dictionary(&mut rodeo, b"greenred", &[0u32, 5, 8]);
+    assert!(rt; doubled == Err(ReadError::Doubled(1)));
+    assert!(rt; rodeo.contains("green"));
+    Ok(())
 }

@@ -1,14 +1,12 @@
 //! Dictionaries that are written as bytes and offsets, and read again. The expected values are worked out by
 //! hand, or computed from numbers.
 use crate::calls::{
-    append_dictionary, append_wide, interner, read_dictionary, read_wide, write_dictionary,
-    write_wide,
+    Narrow, all_right, append_dictionary, append_wide, ends_so, has_texts, interner, past_greatest,
+    read_dictionary, read_wide, write_dictionary, write_wide,
 };
-use crate::checks::{all_right, ends_so, has_texts};
 use crate::limited::limited;
-use crate::narrow::{Narrow, past_greatest};
-use crate::numbered::{COUNT, Numbers, first_of, printed, slices};
-use crate::refused::{Script, with_each_refused};
+use crate::long_columns::{COUNT, Numbers, first_of, printed, slices};
+use crate::parts::{Script, with_each_refused};
 use lasso::{FixedState, LassoErrorKind, MemoryLimits, MicroSpur, Rodeo, SpurRodeo};
 use lasso_columns::{Dictionary, Layout, Offset, ReadError, WriteError};
 use std::alloc::Global;

@@ -6,41 +6,23 @@
 #[cfg(test)]
 mod calls;
 #[cfg(test)]
-mod checks;
-#[cfg(test)]
 mod columns;
 #[cfg(test)]
 mod counts;
 #[cfg(test)]
 mod dictionaries;
-#[cfg(test)]
-mod examples;
-#[cfg(test)]
-mod hashers;
 pub mod limited;
 #[cfg(test)]
 mod long_columns;
 #[cfg(test)]
 mod long_shared;
 #[cfg(test)]
-mod many_counts;
-#[cfg(test)]
-mod narrow;
-#[cfg(test)]
-mod numbered;
-#[cfg(test)]
 mod parts;
-#[cfg(test)]
-mod refused;
-#[cfg(test)]
-mod rounds;
 #[cfg(test)]
 mod shared;
 #[cfg(test)]
 mod shared_columns;
 #[cfg(test)]
 mod streams;
-#[cfg(test)]
-mod two_users;
 #[cfg(test)]
 mod uniform;

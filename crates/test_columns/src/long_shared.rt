@@ -3,9 +3,8 @@
 //! there are afterwards is the same whatever the order of the texts.
 ghost use Rattle.std.specs.Prelude.{◌<◌};
 
-use crate::calls::{CALLS, Call};
-use crate::checks::ends_so;
-use crate::numbered::{COUNT, Column, Numbers, codes_of, first_of, printed, slices};
+use crate::calls::{CALLS, Call, ends_so};
+use crate::long_columns::{COUNT, Column, Numbers, codes_of, first_of, printed, slices};
 use crate::shared::{are_codes, encoded, has_from, is_kept, refuses};
 use lasso::{Capacity, LassoResult, MemoryLimits, SpurThreadedRodeo, ThreadedRodeo};
 use std::alloc::Global;

@@ -1,7 +1,6 @@
 //! Columns that several threads encode. Their turns may differ from run to run; the tests check what is
 //! the same in each run.
-use crate::calls::{Call, shared_interner};
-use crate::checks::{all_right, ends_so};
+use crate::calls::{Call, all_right, ends_so, shared_interner};
 use crate::columns::limit_refuses;
 use crate::limited::limited_shared;
 use lasso::{Key, LassoResult, MemoryLimits, Spur, SpurThreadedRodeo, ThreadedRodeo};

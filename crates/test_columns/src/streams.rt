@@ -1,6 +1,6 @@
 //! Streams that are encoded by rounds, with blocks of every size from one byte on and with any number of
 //! workers. The entries were worked out by hand, or are what `encode_rows` leaves of all bytes.
-use crate::checks::{all_right, is_by_the_limit, is_so};
+use crate::calls::{all_right, is_by_the_limit, is_so};
 use lasso::{Capacity, LassoResult, MemoryLimits, Rodeo, SpurRodeo};
 use lasso_columns::{LineError, LineTexts, NULL, Rounds, StreamEncoder, StreamError, encode_rows};
 use lasso_parts::hasher::TextState;
@@ -558,5 +558,60 @@ fn a_stream_is_encoded_round_by_round(rt: HostRuntime) -> Result<(), Fail> {
         entries.as_slice() == [0, NULL, 1, 0, 1, 0, 2].as_slice(),
         "entries",
     );
+    Ok(())
+}
+
+// Streams that take thousands of rounds, and blocks that take thousands of reads.
+
+// The call without its contract.
+fn encode_rounds<R: AllocGlobal + Threads + Sync, I: BufRead>(
+    rt: &R,
+    input: &mut I,
+    rodeo: &mut SpurRodeo,
+    entries: &mut Vec<u32>,
+    rounds: Rounds,
+) -> Result<(), StreamError> {
+    lasso_columns::encode_stream(rt, input, rodeo, None, entries, rounds)
+}
+
+// Whether all of this number of empty lines are encoded, by reads of a byte.
+fn are_encoded<R: AllocGlobal + Threads + Sync>(
+    rt: &R,
+    lines: usize,
+    rounds: Rounds,
+) -> Result<bool, Fail> {
+    let mut bytes = Vec::new(rt.alloc());
+    bytes.resize(lines, b'\n')?;
+    let mut rodeo: SpurRodeo = Rodeo::default(rt.alloc())?;
+    let mut entries = Vec::new(rt.alloc());
+    let mut input = BufReader::with_capacity(rt.alloc(), 1, bytes.as_slice())?;
+    let ended = encode_rounds(rt, &mut input, &mut rodeo, &mut entries, rounds);
+    Ok(ended.is_ok() && entries.len() == lines)
+}
+
+// Blocks of two lines: that of the byte, and one more.
+fn blocks_of_two(workers: usize, alone: usize) -> Rounds {
+    Rounds {
+        workers,
+        alone,
+        smallest: 1,
+        largest: 1,
+        hasher: TextState::with_seed(5, 6),
+    }
+}
+
+#[test]
+fn thousands_of_rounds(rt: HostRuntime) -> Result<(), Fail> {
+    let alone = are_encoded(&rt, 4000, blocks_of_two(1, 1))?;
+    is_so(&rt, alone, "one thread");
+    let shared = are_encoded(&rt, 400, blocks_of_two(2, 1))?;
+    is_so(&rt, shared, "two threads");
+    Ok(())
+}
+
+#[test]
+fn a_block_of_thousands_of_reads(rt: HostRuntime) -> Result<(), Fail> {
+    let alone = are_encoded(&rt, 15_000, blocks_of_two(1, 12_000))?;
+    is_so(&rt, alone, "one block");
     Ok(())
 }

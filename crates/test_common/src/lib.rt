@@ -3,8 +3,6 @@
 //! pseudorandom numbers.
 #![tactic(auto)]
 
-pub mod collisions;
-pub mod draws;
 pub mod hashers;
 pub mod keys;
 pub mod refusing;

@@ -1,4 +1,7 @@
-//! Lists of texts, and texts that are never freed.
+//! Lists of texts, texts that are never freed, texts that have one hash under the fixed seed, and pseudorandom
+//! numbers.
+ghost use Rattle.std.specs.Prelude.{◌<◌};
+
 use std::alloc::{AllocError, Global};
 use std::test::Fail;
 
@@ -62,3 +65,56 @@ pub const OF_EACH_LENGTH: [&str; 33] = [
     "abcdefghijklmnopqrstuvwxyzABCDE",
     "abcdefghijklmnopqrstuvwxyzABCDEF",
 ];
+
+// Texts that have one hash under the fixed seed.
+
+// The hasher multiplies 16 bytes at a time, and carries the result over by xor with the next 8 bytes. For a text of 32
+// bytes, the first 16 of these give a result under the fixed seed that is equal to the last 8 of these. So the second product has
+// a factor 0, whatever 8 bytes follow. The letters were tried at random until the result was of letters and digits too.
+const COLLIDES: &str = "ojzwhcinehxilittzUxcXGS6";
+
+/// Different texts of 32 bytes, `count` of them, that have one hash under the fixed seed. They show what a keyed hasher is for.
+pub fn colliding(alloc: Global, count: u32) -> Result<Vec<String>, AllocError> {
+    let mut texts = Vec::new(alloc);
+    for number in 0..count {
+        texts.push(format!(in alloc; "{COLLIDES}{number:08}")?)?;
+    }
+    Ok(texts)
+}
+
+/// Different texts of 32 bytes, `count` of them, that are not known to collide under any seed.
+pub fn not_colliding(alloc: Global, count: u32) -> Result<Vec<String>, AllocError> {
+    let mut texts = Vec::new(alloc);
+    for number in 0..count {
+        texts.push(format!(in alloc; "{number:08}{COLLIDES}")?)?;
+    }
+    Ok(texts)
+}
+
+// Pseudorandom numbers.
+
+/// A generator of pseudorandom numbers. From the same seed it draws the same numbers.
+#[derive(Clone, Copy, Debug)]
+pub struct Draws {
+    state: u64,
+}
+
+impl Draws {
+    /// A generator that starts from the seed.
+    pub fn new(seed: u64) -> Self {
+        Draws {
+            state: seed.wrapping_mul(0x9e37_79b9_7f4a_7c15),
+        }
+    }
+
+    /// Draws a number below `count`, or 0 if `count` is 0.
+    pub fn below(&mut self, count: usize) -> usize
+        ensures { 0 < count → result < count }
+    {
+        self.state = self
+            .state
+            .wrapping_mul(6_364_136_223_846_793_005)
+            .wrapping_add(1_442_695_040_888_963_407);
+        (self.state >> 33) as usize % count.max(1)
+    }
+}

@@ -1,13 +1,12 @@
 //! Each call of the interfaces at each type that has it, and rows of answers through generic code.
-use crate::answers::{all_right, is_so};
-use crate::frozen::{ends_with, has_alone};
-use crate::holders::{
+use crate::laws::{
     boxed_rodeo_interns_as_one, lent_rodeo_interns_as_one, reader_finds_what_resolves,
     reader_of_boxed_rodeo_knows, reader_of_rodeo_knows, resolver_looks_up_alike,
     resolver_of_boxed_rodeo_knows, resolver_of_rodeo_knows, rodeo_interns_as_one,
 };
-use crate::rodeos::of_hello;
-use crate::steps::{Case, Step, first_wrong, gives_hello, reads_hello, steps_of};
+use crate::objects::{ends_with, has_alone};
+use crate::owning::of_hello;
+use crate::steps::{Case, Step, all_right, first_wrong, gives_hello, is_so, reads_hello, steps_of};
 use lasso::interface::{IntoReader, IntoReaderAndResolver, IntoResolver};
 use lasso::{
     Capacity, Key, LassoResult, MemoryLimits, Rodeo, Spur, SpurRodeo, SpurRodeoReader,

@@ -5,52 +5,22 @@
 #![tactic(auto)]
 
 #[cfg(test)]
-mod answers;
+mod compiling;
 #[cfg(test)]
-mod any;
+mod counting;
 #[cfg(test)]
-mod checks;
-#[cfg(test)]
-mod closures;
-#[cfg(test)]
-mod compiler;
-#[cfg(test)]
-mod errors;
-#[cfg(test)]
-mod front_page;
-#[cfg(test)]
-mod frozen;
-pub mod holders;
+mod documents;
 #[cfg(test)]
 mod interfaces;
 #[cfg(test)]
 mod keyed;
 pub mod laws;
 #[cfg(test)]
-mod lexer;
-#[cfg(test)]
-mod looking_up;
-#[cfg(test)]
-mod making;
-pub mod object_laws;
-#[cfg(test)]
 mod objects;
 #[cfg(test)]
-mod own_key;
-#[cfg(test)]
-mod pairs;
-#[cfg(test)]
-mod parts;
-#[cfg(test)]
-mod passes;
+mod owning;
 #[cfg(test)]
 mod refused;
-#[cfg(test)]
-mod rodeos;
-#[cfg(test)]
-mod saving;
-#[cfg(test)]
-mod scopes;
 #[cfg(test)]
 mod shared;
 #[cfg(test)]
@@ -58,18 +28,6 @@ mod shared_interfaces;
 #[cfg(test)]
 mod shared_lists;
 #[cfg(test)]
-mod shared_plain;
-#[cfg(test)]
 mod shared_threads;
 #[cfg(test)]
-mod sip_vectors;
-#[cfg(test)]
-mod spurs;
-#[cfg(test)]
 mod steps;
-#[cfg(test)]
-mod symbols;
-#[cfg(test)]
-mod text_set;
-#[cfg(test)]
-mod word_counts;

@@ -1,13 +1,12 @@
-//! Interners and frozen forms whose type is not known where they are used.
-use crate::answers::{Answer, LIMIT, is_answer, is_so, is_text};
+//! Interners and frozen forms whose type is not known where they are used, and what frozen ones have to show.
 use crate::interfaces::made_for;
-use crate::object_laws::{
+use crate::laws::{
     boxed_object_interns_as_one, boxed_rodeo_object_interns_as_one, object_interns_as_one,
 };
-use crate::rodeos::of_hello;
-use crate::steps::Case;
+use crate::owning::of_hello;
+use crate::steps::{Answer, Case, LIMIT, is_answer, is_number, is_so, is_text, number_of};
 use lasso::interface::{SpurInterner, SpurReader, SpurResolver};
-use lasso::{LassoResult, Spur, SpurRodeo};
+use lasso::{Key, LassoResult, Spur, SpurRodeo, SpurRodeoReader, SpurRodeoResolver};
 use std::process::Abort;
 use std::test::Fail;
 
@@ -200,5 +199,43 @@ fn gives_hello(resolver: &dyn SpurResolver) -> bool {
 fn a_frozen_resolver(rt: HostRuntime) -> Result<(), Fail> {
     let frozen = of_hello(rt.alloc())?.into_resolver();
     is_so(&rt, gives_hello(&frozen), "the resolver");
+    Ok(())
+}
+
+// What frozen interners of the tests have to show. Their examples are scripts of `tool_replay`.
+
+// Whether the key with this number stands for the text.
+fn is_key_of(reader: &SpurRodeoReader, number: usize, text: &str) -> bool {
+    match Spur::try_from_usize(number) {
+        Some(key) => is_text(reader.try_resolve(key), text),
+        None => false,
+    }
+}
+
+/// Fails the test unless the reader that was made has this number of texts, and the last is this one.
+pub fn ends_with(
+    rt: &impl Abort,
+    made: LassoResult<SpurRodeoReader>,
+    count: usize,
+    text: &str,
+) -> Result<(), Fail> {
+    let reader = made?;
+    let last = count.saturating_sub(1);
+    is_so(rt, reader.len() == count, "the number of texts");
+    is_so(rt, is_number(number_of(reader.get(text)), last), "the key");
+    is_so(rt, is_key_of(&reader, last, text), "the text");
+    Ok(())
+}
+
+/// Fails the test unless the resolver that was made has this text alone.
+pub fn has_alone(
+    rt: &impl Abort,
+    made: LassoResult<SpurRodeoResolver>,
+    text: &str,
+) -> Result<(), Fail> {
+    let resolver = made?;
+    is_so(rt, resolver.len() == 1, "the number of texts");
+    let is_there = is_text(resolver.try_resolve(Spur::default()), text);
+    is_so(rt, is_there, "the text");
     Ok(())
 }

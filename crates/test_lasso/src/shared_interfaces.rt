@@ -1,11 +1,10 @@
 //! Each call of the interfaces at an interner that threads share: on its own, lent and in a box. It has no
 //! list of its own, so the clauses of the interfaces leave it alone: that they answer as its own calls do,
 //! and refuse and copy no more than these, is tested here.
-use crate::answers::{all_right, is_so};
 use crate::interfaces::{Freezing, freezes, shows_reader, shows_resolver};
 use crate::laws::{reader_knows, resolver_knows};
-use crate::shared_plain::{fresh, hello};
-use crate::steps::{Case, NO_KEY_LEFT, Step, first_wrong, steps_of};
+use crate::shared::{fresh, hello};
+use crate::steps::{Case, NO_KEY_LEFT, Step, all_right, first_wrong, is_so, steps_of};
 use lasso::interface::{IntoReader, IntoResolver};
 use lasso::{
     Capacity, FixedState, LassoResult, MemoryLimits, MicroSpur, Spur, SpurRodeoReader,

@@ -1,9 +1,9 @@
 //! The examples in the documents of filling, freezing, comparing, writing and reading an interner that threads
 //! share, in tests.
-use crate::answers::is_so;
-use crate::frozen::{ends_with, has_alone};
-use crate::rodeos::of_texts;
-use crate::shared_plain::{fresh, hello, runs, runs_on};
+use crate::objects::{ends_with, has_alone};
+use crate::owning::of_texts;
+use crate::shared::{fresh, hello, runs, runs_on};
+use crate::steps::is_so;
 use lasso::{
     Capacity, LassoResult, MemoryLimits, SpurRodeoReader, SpurThreadedRodeo, ThreadedRodeo,
 };
@@ -12,10 +12,10 @@ use std::alloc::Global;
 use std::process::Abort;
 use std::sync::Wait;
 use std::test::Fail;
-use test_shared_common::calls::{copied_as, pass_of};
-use test_shared_common::steps::Step;
-use test_shared_common::steps::Step::{Counts, Finds, Interns, IsLimited, Limits, Reads};
-use test_shared_common::steps::Way::{Copied, TryCopied};
+use test_steps::calls::{copied_as, pass_of};
+use test_steps::steps::Step;
+use test_steps::steps::Step::{Counts, Finds, Interns, IsLimited, Limits, Reads};
+use test_steps::steps::Way::{Copied, TryCopied};
 
 // A shared interner of these texts.
 fn of_items<R: Wait>(rt: &R, alloc: Global, texts: &[&str]) -> LassoResult<SpurThreadedRodeo> {

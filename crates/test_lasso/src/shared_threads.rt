@@ -1,9 +1,8 @@
 //! Two threads that use one shared interner through its interfaces.
-use crate::answers::is_so;
+use crate::shared::{fresh, hello};
 use crate::shared_interfaces::by_reference;
-use crate::shared_plain::{fresh, hello};
 use crate::steps::Step::{Finds, Interns, Keeps};
-use crate::steps::{Step, Way, finds};
+use crate::steps::{Step, Way, finds, is_so};
 use lasso::{LassoResult, MemoryLimits, Spur, SpurThreadedRodeo};
 use std::alloc::Global;
 use std::sync::Wait;

@@ -7,11 +7,11 @@ use std::process::Abort;
 use std::sync::Wait;
 use std::test::*;
 use std::thread::Threads;
-use test_shared_common::calls::Shared;
-use test_shared_common::cases::{Case, PLAIN, of_way, sized, steps_of};
-use test_shared_common::makers::{Maker, make, maker_for};
-use test_shared_common::passes::{are_right_beside, first_wrong_of};
-use test_shared_common::steps::{Step, Way};
+use test_steps::calls::Shared;
+use test_steps::cases::{Case, PLAIN, of_way, sized, steps_of};
+use test_steps::makers::{Maker, make, maker_for};
+use test_steps::passes::{are_right_beside, first_wrong_of};
+use test_steps::steps::{Step, Way};
 
 // Fails unless this holds.
 pub fn is_so(rt: &impl Abort, holds: bool, what: &str) {

@@ -10,10 +10,10 @@ use Step::{Allocates, Copies, Interns, Keeps, Reads, Uses};
 use lasso_parts::keys::{MicroSpur, Spur};
 use std::test::*;
 use test_common::hashers::{FirstState, LowState, SameState};
-use test_shared_common::cases::PLAIN;
-use test_shared_common::makers::Maker;
-use test_shared_common::steps::{Step, Way};
-use test_shared_common::texts::List::Numbers;
+use test_steps::cases::PLAIN;
+use test_steps::makers::Maker;
+use test_steps::steps::{Step, Way};
+use test_steps::texts::List::Numbers;
 
 // No room for texts, and ten bytes in the first bucket, which is the only one as static texts take no bytes.
 static ROOMLESS: Maker = Maker::Sized(0, 10, usize::MAX);

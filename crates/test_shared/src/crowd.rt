@@ -1,15 +1,19 @@
-//! Threads that intern texts of their own, and texts that all of them intern.
+//! Threads that intern texts of their own and texts that all of them intern, and threads that call two interners
+//! alternately.
+
 use crate::checks::{is_so, runs_in, runs_in_two};
-use Step::{Counts, Fills, Shows, UsesAtMost};
+use Step::{Counts, Fills, IsLimited, Shows, Uses, UsesAtMost};
+use lasso_parts::keys::Key;
 use lasso_parts::util::LassoResult;
 use std::process::Abort;
 use std::sync::Wait;
 use std::test::*;
-use std::thread::{Threads, join};
-use test_shared_common::calls::{Shared, made};
-use test_shared_common::cases::PLAIN;
-use test_shared_common::passes::are_right_beside;
-use test_shared_common::steps::{Step, Way};
+use std::thread::{Threads, join, map_indices};
+use test_steps::calls::{Caller, DefaultCaller, Shared, len, limited, made};
+use test_steps::cases::PLAIN;
+use test_steps::passes::are_right_beside;
+use test_steps::steps::{Step, Way, resolves};
+use test_steps::texts::counted;
 
 #[test]
 fn two_threads_intern_by_each_call(rt: HostRuntime) -> Result<(), Fail> {
@@ -75,4 +79,155 @@ fn share_half<R: AllocGlobal + Threads + Wait + Sync + Abort>(
 fn four_threads_share_half_of_their_texts(rt: HostRuntime) -> Result<(), Fail> {
     let shared = made(rt.alloc())?;
     share_half(&rt, &shared)
+}
+
+// Threads that intern the same few texts, and threads that call two interners alternately.
+
+static FEW: [&str; 16] = [
+    "a", "bb", "ccc", "dddd", "e", "ff", "ggg", "hhhh", "i", "jj", "kkk", "llll", "m", "nn", "ooo",
+    "pppp",
+];
+
+// Interns a copied text by the pass. Returns its number, if it was not refused.
+fn number_as<R: Wait>(rt: &R, caller: &mut DefaultCaller<'_>, text: &str) -> Option<usize> {
+    match caller.copied(rt, text) {
+        Ok(key) => Some(key.into_usize()),
+        Err(_) => None,
+    }
+}
+
+// Interns each of the few texts 1000 times, starting with the text at `first`, and returns their numbers.
+// `None` if a text was refused or had two numbers.
+fn numbers_of_few<R: Wait>(rt: &R, shared: &Shared, first: usize) -> Option<[usize; 16]> {
+    let mut caller = Caller::new(shared);
+    let mut numbers = [usize::MAX; 16];
+    for call in 0..16_000usize {
+        let at = first.wrapping_add(call) % 16;
+        let number = number_as(rt, &mut caller, FEW[at])?;
+        if numbers[at] != usize::MAX && numbers[at] != number {
+            return None;
+        }
+        numbers[at] = number;
+    }
+    Some(numbers)
+}
+
+// Whether these are `count` equal lists, each with all numbers below 16.
+fn are_alike(found: &[Option<[usize; 16]>], count: usize) -> bool {
+    let Some(Some(first)) = found.first() else {
+        return false;
+    };
+    let mut all = found.len() == count;
+    for numbers in found.iter() {
+        if *numbers != Some(*first) {
+            all = false;
+        }
+    }
+    for number in 0..16usize {
+        if !first.contains(&number) {
+            all = false;
+        }
+    }
+    all
+}
+
+// Eight threads intern the few texts. Returns whether they get the same numbers.
+fn eight_intern<R: AllocGlobal + Threads + Wait + Sync>(
+    rt: &R,
+    shared: &Shared,
+) -> Result<bool, Fail> {
+    let found = map_indices(
+        rt,
+        rt.alloc(),
+        8,
+        &|thread| numbers_of_few(rt, shared, thread.wrapping_mul(2)),
+    )?;
+    Ok(are_alike(&found, 8))
+}
+
+#[test]
+fn few_texts(rt: HostRuntime) -> Result<(), Fail> {
+    let shared = made(rt.alloc())?;
+    is_so(&rt, eight_intern(&rt, &shared)?, "the numbers");
+    is_so(&rt, len(&shared) == 16, "the count");
+    Ok(())
+}
+
+// Interns the number of each of 1000 rows in the two interners, as a text of its own. Returns whether each key
+// resolves to its text.
+fn interns_in_turn<R: AllocGlobal + Wait>(
+    rt: &R,
+    one: &Shared,
+    other: &Shared,
+    letters: (&'static str, &'static str),
+) -> LassoResult<bool> {
+    let mut all = true;
+    for number in 1000..2000usize {
+        all &= resolves(
+            rt,
+            one,
+            Way::CopiedByPass,
+            counted(rt.alloc(), letters.0, number)?,
+        )?;
+        all &= resolves(
+            rt,
+            other,
+            Way::CopiedByPass,
+            counted(rt.alloc(), letters.1, number)?,
+        )?;
+    }
+    Ok(all)
+}
+
+// Interns the texts in two threads, which call the interners in opposite order. Returns whether each key
+// resolves to its text.
+fn both_intern<R: AllocGlobal + Threads + Wait + Sync>(
+    rt: &R,
+    one: &Shared,
+    other: &Shared,
+) -> LassoResult<bool> {
+    let (a, b) = join(
+        rt,
+        || interns_in_turn(rt, one, other, ("a", "b")),
+        || interns_in_turn(rt, other, one, ("b", "a")),
+    );
+    let (a, b) = (a?, b?);
+    Ok(a && b)
+}
+
+// Two times two threads intern the texts. Returns whether each key resolves to its text.
+fn four_intern<R: AllocGlobal + Threads + Wait + Sync>(
+    rt: &R,
+    one: &Shared,
+    other: &Shared,
+) -> LassoResult<bool> {
+    let (first, second) = join(
+        rt,
+        || both_intern(rt, one, other),
+        || both_intern(rt, one, other),
+    );
+    let (first, second) = (first?, second?);
+    Ok(first && second)
+}
+
+// Fills the interners, of which one has room for exactly its 1000 texts of 5 bytes. Fails unless both have
+// their texts and limits: interning them again adds none.
+fn fill_both<R: AllocGlobal + Threads + Wait + Sync + Abort>(
+    rt: &R,
+    one: &Shared,
+    other: &Shared,
+) -> Result<(), Fail> {
+    static ONE: [Step; 3] = [Counts(1000), Uses(5000), IsLimited(5000)];
+    static OTHER: [Step; 2] = [Counts(1000), IsLimited(usize::MAX)];
+    is_so(rt, four_intern(rt, one, other)?, "the texts");
+    is_so(rt, interns_in_turn(rt, one, other, ("a", "b"))?, "again");
+    runs_in(rt, one, &ONE, PLAIN)?;
+    runs_in(rt, other, &OTHER, PLAIN)
+}
+
+#[test]
+fn two_interners(rt: HostRuntime) -> Result<(), Fail> {
+    let one = limited(rt.alloc(), 5000, 5000)?;
+    let other = made(rt.alloc())?;
+    fill_both(&rt, &one, &other)
 }

@@ -1,8 +1,7 @@
 //! Texts that are not ASCII through each call, without a pass and with one, for key types of each size and
-//! two hashers.
-use super::looks::Look;
-use super::origins::Origin;
-use super::reading_checks::{freezes_as, runs_as};
+//! two hashers; and key types that lack one number but have the next.
+use crate::checks::{is_so, runs_each};
+use crate::looks::{Look, Origin, freezes_as, shows_as};
 use Look::{Compares, Does, Shows, UsesBytesOf, Writes};
 use Step::{
     AllocatesOver, ByNew, ByOne, Counts, EachInterns, EqualsItself, Finds, Interns, IsLimited,
@@ -15,10 +14,11 @@ use std::process::Abort;
 use std::sync::Wait;
 use std::test::*;
 use test_common::hashers::SameState;
-use test_shared_common::cases::paired;
-use test_shared_common::makers::Maker;
-use test_shared_common::steps::{Call, FULL, KEEPING, Step, WAYS, Way};
-use test_shared_common::texts::List::Texts;
+use test_common::keys::{WithoutTwo, WithoutZero};
+use test_steps::cases::paired;
+use test_steps::makers::Maker;
+use test_steps::steps::{COPYING, Call, FULL, KEEPING, NO_KEY, Step, WAYS, Way};
+use test_steps::texts::List::Texts;
 
 // A text and one that differs from it in its last byte alone. Their characters have 2, 3, 4, and 1 to 4
 // bytes; the last texts have 54.
@@ -169,18 +169,18 @@ fn takes<K: Key, S: BuildHasher + Default + Drop, R: AllocGlobal + Wait + Abort>
 ) -> Result<(), Fail> {
     let (roomy, list) = (Origin::Made(Maker::Sized(50, 300, 777)), Texts(&["@"]));
     for way in WAYS.iter() {
-        runs_as::<K, S, R>(rt, roomy, TAKEN.as_slice(), paired(*way, pair))?;
+        shows_as::<K, S, R>(rt, roomy, TAKEN.as_slice(), paired(*way, pair))?;
         let (made, frozen) = (MADE_BY.as_slice(), (list, "absent"));
         freezes_as::<K, S, R>(rt, roomy, made, frozen, paired(*way, pair))?;
     }
     for way in KEEPING.iter() {
         let full = Origin::Made(Maker::Full(1));
-        runs_as::<K, S, R>(rt, full, REFUSED.as_slice(), paired(*way, pair))?;
+        shows_as::<K, S, R>(rt, full, REFUSED.as_slice(), paired(*way, pair))?;
     }
     let case = paired(Way::TryCopied, pair);
-    runs_as::<K, S, R>(rt, Origin::Items(Texts(&["@", "@"])), MADE.as_slice(), case)?;
-    runs_as::<K, S, R>(rt, Origin::Object(list), READ.as_slice(), case)?;
-    runs_as::<K, S, R>(rt, Origin::Array(list), READ.as_slice(), case)
+    shows_as::<K, S, R>(rt, Origin::Items(Texts(&["@", "@"])), MADE.as_slice(), case)?;
+    shows_as::<K, S, R>(rt, Origin::Object(list), READ.as_slice(), case)?;
+    shows_as::<K, S, R>(rt, Origin::Array(list), READ.as_slice(), case)
 }
 
 // The same of each text, with two hashers.
@@ -210,4 +210,45 @@ fn keys_of_16_bits_take_each_text(rt: HostRuntime) -> Result<(), Fail> {
 #[test]
 fn keys_of_8_bits_take_each_text(rt: HostRuntime) -> Result<(), Fail> {
     takes_each_text::<MicroSpur, HostRuntime>(&rt)
+}
+
+// Key types that lack one number but have the next.
+
+// Whether the key type has this number.
+fn has_key<K: Key>(number: usize) -> bool {
+    K::try_from_usize(number).is_some()
+}
+
+#[test]
+fn no_text_passes_over_a_number_without_a_key(rt: HostRuntime) -> Result<(), Fail> {
+    static STEPS: [Step; 8] = [
+        Interns(Way::Given, "p", Ok(0)),
+        Interns(Way::Given, "q", Ok(1)),
+        // each `r` takes one of the two bytes that `p` and `q` leave
+        Interns(Way::Given, "r", NO_KEY),
+        Interns(Way::Given, "r", NO_KEY),
+        Interns(Way::Given, "r", FULL),
+        Interns(Way::Given, "q", Ok(1)),
+        Counts(2),
+        Uses(4),
+    ];
+    is_so(&rt, has_key::<WithoutTwo>(3), "the next number");
+    runs_each::<WithoutTwo, _>(&rt, Maker::Full(4), &STEPS, &[1], &COPYING)
+}
+
+// The key type lacks number 0. Each of the first two calls takes two of the four bytes, though the text has no key.
+#[test]
+fn no_text_has_a_key(rt: HostRuntime) -> Result<(), Fail> {
+    static STEPS: [Step; 9] = [
+        Interns(Way::Given, "pp", NO_KEY),
+        Uses(4),
+        Counts(0),
+        Interns(Way::Given, "pp", NO_KEY),
+        Uses(4),
+        Counts(0),
+        Interns(Way::Given, "pp", FULL),
+        Uses(4),
+        Counts(0),
+    ];
+    runs_each::<WithoutZero, _>(&rt, Maker::Full(4), &STEPS, &[1], &COPYING)
 }

@@ -1,27 +1,29 @@
-//! Frozen forms of an interner that threads share.
+//! Frozen forms of an interner that threads share, and whether readers and resolvers have a list of texts.
 ghost use Rattle.std.specs.Prelude.{◌≡◌};
 
-use super::frozen::{is_read, reads_just, resolves_just};
-use super::looks::Look;
-use super::origins::Origin;
-use super::reading_checks::{freezes_as, is_so};
+use crate::checks::is_so;
+use crate::looks::{Look, Origin, freezes_as};
 use Look::Does;
 use Step::{Limits, Takes};
 use lasso_log::log::Pass;
-use lasso_parts::keys::Spur;
+use lasso_parts::iter::Strings;
+use lasso_parts::keys::{Key, Spur};
 use lasso_parts::util::{FixedState, LassoResult};
+use lasso_shared::threaded::ThreadedRodeo;
+use lasso_single::reader::RodeoReader;
 use lasso_single::resolver::RodeoResolver;
 use std::alloc::Global;
+use std::hash::BuildHasher;
 use std::process::Abort;
 use std::sync::Wait;
 use std::test::*;
 use std::thread::{Threads, join};
 use test_common::keys::WithoutTwo;
-use test_shared_common::calls::{Reader, Shared, copied, kept_as, made, pass_of};
-use test_shared_common::cases::PLAIN;
-use test_shared_common::makers::Maker;
-use test_shared_common::steps::{FULL, NO_KEY, Step};
-use test_shared_common::texts::List::Texts;
+use test_steps::calls::{Reader, Shared, copied, kept_as, made, pass_of};
+use test_steps::cases::PLAIN;
+use test_steps::makers::Maker;
+use test_steps::steps::{FULL, NO_KEY, Step};
+use test_steps::texts::List::Texts;
 
 type Resolver = RodeoResolver<Spur, Global>;
 
@@ -141,4 +143,112 @@ fn static_texts_and_texts_of_other_passes_are_frozen(rt: HostRuntime) -> Result<
         "three texts",
     );
     Ok(())
+}
+
+// Whether readers and resolvers have a list of texts.
+
+// Whether the walk yields exactly these texts, in order.
+fn yields<K: Key>(mut strings: Strings<'_, K>, texts: &[&str]) -> bool {
+    let mut all = true;
+    for position in 0..texts.len() {
+        all &= strings.next() == Some(texts[position]);
+    }
+    all && strings.next().is_none()
+}
+
+/// Whether the text is in the reader, with this number.
+pub(super) fn is_read<K: Key, S: BuildHasher>(
+    reader: &RodeoReader<K, S, Global>,
+    number: usize,
+    text: &str,
+) -> bool {
+    match reader.get(text) {
+        Some(key) => {
+            key.into_usize() == number
+                && reader.try_resolve(key) == Some(text)
+                && reader.contains(text)
+        }
+        None => false,
+    }
+}
+
+// Whether the key with this number stands for no text in the reader.
+fn reads_none<K: Key, S: BuildHasher>(reader: &RodeoReader<K, S, Global>, number: usize) -> bool {
+    match K::try_from_usize(number) {
+        Some(key) => reader.try_resolve(key).is_none() && !reader.contains_key(key),
+        None => true,
+    }
+}
+
+/// Whether the reader has exactly these texts. `absent` is not one of them.
+pub(super) fn reads_just<K: Key, S: BuildHasher>(
+    reader: &RodeoReader<K, S, Global>,
+    texts: &[&str],
+    absent: &str,
+) -> bool {
+    let mut all = reader.len() == texts.len() && reader.is_empty() == texts.is_empty();
+    for position in 0..texts.len() {
+        all &= is_read(reader, position, texts[position]);
+    }
+    let lacks = reader.get(absent).is_none() && !reader.contains(absent);
+    let past = reads_none(reader, texts.len()) && reads_none(reader, texts.len().saturating_add(9));
+    all && lacks && past && yields(reader.strings(), texts)
+}
+
+// Whether the resolver has the text at this number, or none.
+fn is_resolved<K: Key>(
+    resolver: &RodeoResolver<K, Global>,
+    number: usize,
+    text: Option<&str>,
+) -> bool {
+    match K::try_from_usize(number) {
+        Some(key) => resolver.try_resolve(key) == text,
+        None => text.is_none(),
+    }
+}
+
+/// Whether the resolver has exactly these texts.
+pub(super) fn resolves_just<K: Key>(resolver: &RodeoResolver<K, Global>, texts: &[&str]) -> bool {
+    let mut all = resolver.len() == texts.len();
+    for position in 0..texts.len() {
+        all &= is_resolved(resolver, position, Some(texts[position]));
+    }
+    all && is_resolved(resolver, texts.len(), None)
+        && is_resolved(resolver, texts.len().saturating_add(9), None)
+        && yields(resolver.strings(), texts)
+}
+
+/// How an interner is frozen.
+#[derive(Clone, Copy)]
+pub(super) enum Frozen {
+    Reader,
+    ReaderByPass,
+    Resolver,
+}
+
+/// Each of them.
+pub(super) static FROZEN: [Frozen; 3] = [Frozen::Reader, Frozen::ReaderByPass, Frozen::Resolver];
+
+// The reader of the interner by a new pass.
+fn reader_as<K: Key, S: BuildHasher + Drop, R: Wait>(
+    rt: &R,
+    shared: ThreadedRodeo<K, S>,
+) -> LassoResult<RodeoReader<K, S, Global>> {
+    let mut pass = shared.pass();
+    shared.into_reader_as(rt, &mut pass)
+}
+
+/// Freezes the interner. Returns whether it then has exactly these texts. `absent` is not one of them.
+pub(super) fn is_frozen<K: Key, S: BuildHasher + Drop, R: Wait>(
+    rt: &R,
+    shared: ThreadedRodeo<K, S>,
+    frozen: Frozen,
+    texts: &[&str],
+    absent: &str,
+) -> LassoResult<bool> {
+    match frozen {
+        Frozen::Reader => Ok(reads_just(&shared.into_reader(rt)?, texts, absent)),
+        Frozen::ReaderByPass => Ok(reads_just(&reader_as(rt, shared)?, texts, absent)),
+        Frozen::Resolver => Ok(resolves_just(&shared.into_resolver(rt)?, texts)),
+    }
 }

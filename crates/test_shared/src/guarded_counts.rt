@@ -1,5 +1,4 @@
 //! A number guarded by a lock whose tag it never passes, for tests.
-
 ghost use Rattle.std.specs.Prelude.{◌≡◌, ◌≤◌};
 
 use lasso_lock::latch::Fits;

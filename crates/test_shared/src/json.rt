@@ -1,9 +1,9 @@
 //! Interners that threads share, read from JSON and written as JSON. The lines that are made for `tool_replay` have
 //! values of each kind in each role, also large ones, and those that are wrong.
-
-use super::looks::{Look, first_wrong};
-use super::origins::{Origin, make_from, value_of};
-use super::reading_checks::{freezes_as, is_so, runs, runs_as};
+use crate::checks::is_so;
+use crate::looks::{
+    Look, Origin, first_wrong, freezes_as, make_from, shows_as, shows_rows, value_of,
+};
 use Look::{Compares, Does, Json, Shows};
 use Step::{ByOne, ByOther, Copies, Counts, Finds, Interns, IsLimited, Uses};
 use lasso_parts::json::JsonError;
@@ -18,11 +18,11 @@ use std::test::*;
 use std::thread::{Threads, join};
 use test_common::hashers::{FirstState, SameState};
 use test_common::keys::{WithoutTwo, WithoutZero};
-use test_shared_common::calls::Shared;
-use test_shared_common::cases::{HINTED, PLAIN};
-use test_shared_common::steps::{Call, Step, Way};
-use test_shared_common::texts::List::{Numbers, Texts};
-use test_shared_common::texts::{KeyNumbers, List};
+use test_steps::calls::Shared;
+use test_steps::cases::{HINTED, PLAIN};
+use test_steps::steps::{Call, Step, Way};
+use test_steps::texts::List::{Numbers, Texts};
+use test_steps::texts::{KeyNumbers, List};
 
 /// The error of reading a JSON value, if any.
 type Wrong = Option<JsonError>;
@@ -76,8 +76,8 @@ fn a_new_text_goes_last(rt: HostRuntime) -> Result<(), Fail> {
         Does(&[Interns(Way::TryCopied, "c", Ok(2)), Uses(6)]),
         Json(r#"{"a":2,"b":1,"c":3}"#),
     ];
-    runs(&rt, Origin::Json(r#"{"a":2,"b":1}"#), &LOOKS)?;
-    runs(&rt, Origin::Json(r#"["b","a"]"#), &LOOKS)
+    shows_rows(&rt, Origin::Json(r#"{"a":2,"b":1}"#), &LOOKS)?;
+    shows_rows(&rt, Origin::Json(r#"["b","a"]"#), &LOOKS)
 }
 
 #[test]
@@ -94,10 +94,10 @@ fn no_bytes_make_a_bucket_of_4096(rt: HostRuntime) -> Result<(), Fail> {
         Uses(4096),
         IsLimited(usize::MAX),
     ])];
-    runs(&rt, Origin::Json("[]"), &NONE)?;
-    runs(&rt, Origin::Json("{}"), &NONE)?;
-    runs(&rt, Origin::Json(r#"{"":1}"#), &EMPTY)?;
-    runs(&rt, Origin::Json(r#"[""]"#), &EMPTY)
+    shows_rows(&rt, Origin::Json("[]"), &NONE)?;
+    shows_rows(&rt, Origin::Json("{}"), &NONE)?;
+    shows_rows(&rt, Origin::Json(r#"{"":1}"#), &EMPTY)?;
+    shows_rows(&rt, Origin::Json(r#"[""]"#), &EMPTY)
 }
 
 #[test]
@@ -131,8 +131,8 @@ fn hints_of_an_interner_from_json(rt: HostRuntime) -> Result<(), Fail> {
         Origin::Json(r#"{"a":2,"b":1}"#),
         Origin::Json(r#"["b","a"]"#),
     );
-    runs_as::<Spur, FixedState, _>(&rt, object, &LOOKS, HINTED)?;
-    runs_as::<Spur, FixedState, _>(&rt, array, &LOOKS, HINTED)
+    shows_as::<Spur, FixedState, _>(&rt, object, &LOOKS, HINTED)?;
+    shows_as::<Spur, FixedState, _>(&rt, array, &LOOKS, HINTED)
 }
 
 // Makes the calls by passes without hints, and three times each by passes with hints.
@@ -152,8 +152,8 @@ fn batches_of_an_interner_from_json(rt: HostRuntime) -> Result<(), Fail> {
         Origin::Json(r#"{"a":2,"b":1}"#),
         Origin::Json(r#"["b","a"]"#),
     );
-    runs_as::<Spur, FixedState, _>(&rt, object, &LOOKS, PLAIN)?;
-    runs_as::<Spur, FixedState, _>(&rt, array, &LOOKS, HINTED)
+    shows_as::<Spur, FixedState, _>(&rt, object, &LOOKS, PLAIN)?;
+    shows_as::<Spur, FixedState, _>(&rt, array, &LOOKS, HINTED)
 }
 
 const TEXTS: List = Texts(&[

@@ -7,10 +7,10 @@ use Step::{
 use lasso_parts::keys::Spur;
 use std::test::*;
 use test_common::keys::BelowTwo;
-use test_shared_common::cases::SIZE;
-use test_shared_common::makers::Maker;
-use test_shared_common::steps::{Call, FULL, KEEPING, NO_KEY, Step, WAYS, Way};
-use test_shared_common::texts::LENGTHS;
+use test_steps::cases::SIZE;
+use test_steps::makers::Maker;
+use test_steps::steps::{Call, FULL, KEEPING, NO_KEY, Step, WAYS, Way};
+use test_steps::texts::LENGTHS;
 
 // The only way by which most rows copy.
 static COPY: [Way; 1] = [Way::TryCopied];

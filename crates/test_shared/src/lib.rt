@@ -4,46 +4,28 @@
 #![tactic(auto)]
 
 #[cfg(test)]
+mod batches;
+#[cfg(test)]
+mod callers;
+#[cfg(test)]
 mod checks;
-#[cfg(test)]
-mod chunks;
-#[cfg(test)]
-mod collisions;
 #[cfg(test)]
 mod comparing;
 #[cfg(test)]
 mod counted;
 #[cfg(test)]
-mod counts;
-#[cfg(test)]
 mod crowd;
-#[cfg(test)]
-mod debug;
 #[cfg(test)]
 mod every_call;
 #[cfg(test)]
-mod falling;
-#[cfg(test)]
 mod filling;
 #[cfg(test)]
-mod forms;
-#[cfg(test)]
 mod freezing;
-#[cfg(test)]
-mod from_static;
-#[cfg(test)]
-mod frozen;
-#[cfg(test)]
-mod gaps;
 pub mod guarded_counts;
 #[cfg(test)]
 mod json;
 #[cfg(test)]
-mod latch;
-#[cfg(test)]
 mod lengths;
-#[cfg(test)]
-mod lent_items;
 #[cfg(test)]
 mod limits;
 #[cfg(test)]
@@ -53,11 +35,13 @@ mod log;
 #[cfg(test)]
 mod looks;
 #[cfg(test)]
+mod makers;
+#[cfg(test)]
 mod many;
 #[cfg(test)]
-mod origins;
+mod passes;
 #[cfg(test)]
-mod reading_checks;
+mod serving;
 #[cfg(test)]
 mod setters;
 #[cfg(test)]
@@ -69,8 +53,4 @@ mod showing;
 #[cfg(test)]
 mod threaded;
 #[cfg(test)]
-mod unseen;
-#[cfg(test)]
 mod walking;
-#[cfg(test)]
-mod writing;

@@ -1,9 +1,10 @@
-//! A thread that sets one limit after another, and a thread that makes every other call that may wait: none of
-//! these sets a limit, and no limit is in force that was never set.
-use crate::checks::{is_so, runs_in};
+//! A thread that sets one limit after another, or lets it fall to 0, beside a thread that makes every other call that
+//! may wait: none of these sets a limit, and no limit is in force that was never set.
+
+use crate::checks::{is_so, is_so_at, runs_in};
 use Step::{AllocatesOver, ByOne, Counts, EachCopies, EqualsItself, Finds, Interns, Uses};
-use lasso_parts::keys::Spur;
-use lasso_parts::util::{FixedState, LassoErrorKind, LassoResult};
+use lasso_parts::keys::{Key, Spur};
+use lasso_parts::util::{FixedState, LassoErrorKind, LassoResult, MemoryLimits};
 use lasso_single::rodeo::Rodeo;
 use std::alloc::Global;
 use std::process::Abort;
@@ -11,14 +12,17 @@ use std::sync::Wait;
 use std::sync::atomic::{AtomicBool, Ordering};
 use std::test::*;
 use std::thread::{Threads, join};
-use test_shared_common::calls::{Reader, Shared, answered, copied, kept, len, limited};
-use test_shared_common::cases::{PLAIN, SIZE, sized};
-use test_shared_common::limits::reads_what_it_sets;
-use test_shared_common::passes::first_wrong_of;
-use test_shared_common::steps::{Call, Step, Way};
-use test_shared_common::texts::KeyNumbers::{Any, From};
-use test_shared_common::texts::List::{Numbers, Texts};
-use test_shared_common::texts::numbered;
+use test_common::texts::lettered;
+use test_steps::calls::{
+    Caller, DefaultCaller, Reader, Shared, answered, copied, kept, len, limited, usage, with_bytes,
+};
+use test_steps::cases::{PLAIN, SIZE, sized};
+use test_steps::makers::reads_what_it_sets;
+use test_steps::passes::first_wrong_of;
+use test_steps::steps::{Call, Step, Way};
+use test_steps::texts::KeyNumbers::{Any, From};
+use test_steps::texts::List::{Numbers, Texts};
+use test_steps::texts::numbered;
 
 // The bytes of the only bucket, which has room for all texts. Each limit is greater.
 const BYTES: usize = 100_000;
@@ -189,4 +193,137 @@ fn no_limit_is_lifted_for_a_moment(rt: HostRuntime) -> Result<(), Fail> {
     let texts = numbered(rt.alloc(), 1000)?;
     let shared = limited(rt.alloc(), 1, 1)?;
     refuses_all(&rt, &shared, &texts)
+}
+
+// A limit that falls to 0 while another thread interns.
+
+// How many texts the thread has to intern.
+const EACH: u32 = 1000;
+
+// What a thread has seen of its texts: how many got their position as their number, before the limit refused
+// the rest.
+#[derive(Clone, Copy)]
+struct Taken {
+    position: usize,
+    taken: usize,
+}
+
+// Interns the next text. `None` if it got another number than its position, came after a refused text, or was
+// refused otherwise than by the limit.
+fn takes_next<R: Wait>(
+    rt: &R,
+    caller: &mut DefaultCaller<'_>,
+    text: &str,
+    before: Taken,
+) -> Option<Taken> {
+    let Taken { position, taken } = before;
+    let next = position.saturating_add(1);
+    match caller.copied(rt, text) {
+        Ok(key) if key.into_usize() == position && taken == position => {
+            Some(Taken {
+                position: next,
+                taken: next,
+            })
+        }
+        Err(error) if error.kind() == LassoErrorKind::MemoryLimitReached => {
+            Some(Taken {
+                position: next,
+                taken,
+            })
+        }
+        _ => None,
+    }
+}
+
+// Interns the texts in order, and returns how many got their position as their number. `None` unless the
+// limit refused all texts after these.
+fn keys_before_refusals<R: Wait>(rt: &R, shared: &Shared, texts: &[String]) -> Option<usize> {
+    let mut caller = Caller::new(shared);
+    let mut seen = Taken {
+        position: 0,
+        taken: 0,
+    };
+    for text in texts.iter() {
+        seen = takes_next(rt, &mut caller, text.as_str(), seen)?;
+    }
+    Some(seen.taken)
+}
+
+// Waits for `awaited` texts, but not for ever. Then sets the limit to 0, and returns the usage.
+fn usage_after_fall<R: Wait>(rt: &R, shared: &Shared, awaited: usize) -> usize {
+    let mut caller = Caller::new(shared);
+    for _ in 0..1_000_000usize {
+        if caller.seen() >= awaited {
+            break;
+        }
+    }
+    caller.set_limits(rt, MemoryLimits::new(0));
+    caller.sums(rt).1
+}
+
+// Whether the reader has exactly the first `count` texts, in order.
+fn has_first(reader: &Reader, texts: &[String], count: usize) -> bool {
+    let mut walk = reader.strings();
+    for text in texts.iter().take(count) {
+        if walk.next() != Some(text.as_str()) {
+            return false;
+        }
+    }
+    walk.next().is_none()
+}
+
+// Freezes the interner. Returns whether it has exactly the first `count` texts.
+fn freezes_first<R: Wait>(
+    rt: &R,
+    shared: Shared,
+    texts: &[String],
+    count: usize,
+) -> LassoResult<bool> {
+    let reader = shared.into_reader(rt)?;
+    Ok(has_first(&reader, texts, count))
+}
+
+// Interns the texts in one thread, and lets the limit fall in another after `awaited` texts. Returns how many
+// texts got a key, if all replies are right and the usage stays.
+fn taken_before_fall<R: Threads + Wait + Sync>(
+    rt: &R,
+    shared: &Shared,
+    texts: &[String],
+    awaited: usize,
+) -> Option<usize> {
+    let (taken, bytes) = join(
+        rt,
+        || keys_before_refusals(rt, shared, texts),
+        || usage_after_fall(rt, shared, awaited),
+    );
+    if usage(rt, shared) == bytes {
+        taken
+    } else {
+        None
+    }
+}
+
+// Lets the limit fall after `awaited` texts. Returns whether the keys, the count, the usage and the frozen
+// list are right.
+fn falls_after<R: AllocGlobal + Threads + Wait + Sync>(
+    rt: &R,
+    texts: &[String],
+    awaited: usize,
+) -> Result<bool, Fail> {
+    let shared: Shared = with_bytes(rt.alloc(), 16)?;
+    let Some(taken) = taken_before_fall(rt, &shared, texts, awaited) else {
+        return Ok(false);
+    };
+    let same = len(&shared) == taken;
+    Ok(freezes_first(rt, shared, texts, taken)? && same)
+}
+
+// None of the texts `t0`, `t1` and so on is shorter than an earlier one.
+#[test]
+fn limit_falls(rt: HostRuntime) -> Result<(), Fail> {
+    let texts = lettered(rt.alloc(), "t", EACH)?;
+    for awaited in [0usize, 1, 2, 5, 20, 100, 300, 600, 900, 1000] {
+        is_so_at(&rt, falls_after(&rt, &texts, awaited)?, awaited);
+    }
+    Ok(())
 }

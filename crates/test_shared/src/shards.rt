@@ -2,7 +2,6 @@
 //! refused texts, which are freed.
 ghost use Rattle.std.specs.Prelude.{◌<◌};
 
-mod armed;
 mod copied;
 mod hints;
 mod writers;
@@ -26,11 +25,11 @@ use std::test::*;
 use std::thread;
 use std::thread::{Threads, join};
 use test_common::hashers::{FirstState, SameState};
-use test_shared_common::calls::{answered, found, hashed};
-use test_shared_common::cases::PLAIN;
-use test_shared_common::steps::Step;
-use test_shared_common::texts::List::Numbers;
-use test_shared_common::texts::items_of;
+use test_steps::calls::{answered, found, hashed};
+use test_steps::cases::PLAIN;
+use test_steps::steps::Step;
+use test_steps::texts::List::Numbers;
+use test_steps::texts::items_of;
 
 const OPENED: Opened = Opened {
     size: 4096,

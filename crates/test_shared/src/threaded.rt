@@ -1,34 +1,23 @@
-//! Threads that intern texts in one interner.
-ghost use Rattle.std.specs.Prelude.{◌≡◌};
+//! Threads that intern texts in one interner, and calls that read, with a pass and without one. Texts that are interned
+//! while memory is out: `trials/refused-tests` refuses the requests for memory.
 
-mod batches;
-mod callers;
-mod copied;
-mod from_static;
-mod hints;
-mod looking;
-mod makers;
-mod memory;
-mod passes;
-mod serving;
-mod walking;
-
-use crate::checks::{is_so, runs_as, runs_beside, runs_in, runs_in_two};
-use Step::{ByNew, ByOne, Reads};
-use lasso_log::log::Pass;
-use lasso_parts::keys::{Key, Spur};
-use lasso_parts::util::{FixedState, LassoErrorKind, LassoResult};
+use crate::checks::{is_so, runs, runs_as, runs_beside, runs_in, runs_in_two};
+use Step::{ByNew, ByOne, Counts, Finds, Interns, Reads, Resolves};
+use lasso_parts::keys::Key;
+use lasso_parts::util::{FixedState, LassoErrorKind};
 use std::process::Abort;
 use std::sync::Wait;
 use std::test::*;
 use std::thread::Threads;
 use test_common::keys::BelowTwo;
-use test_shared_common::calls::{Shared, found, kept_as, made, pass_of, seen_by, text_at};
-use test_shared_common::cases::PLAIN;
-use test_shared_common::makers::Maker;
-use test_shared_common::steps::{Call, NO_KEY, Step};
-use test_shared_common::texts::List::{Numbers, Texts};
-use test_shared_common::texts::items_of;
+use test_steps::calls::{
+    Caller, DefaultCaller, Shared, answered, contains, found, len, limited, made, text_at, usage,
+};
+use test_steps::cases::PLAIN;
+use test_steps::makers::Maker;
+use test_steps::steps::{Call, NO_KEY, Step, Way, interned};
+use test_steps::texts::List::{Numbers, Texts};
+use test_steps::texts::items_of;
 
 // Whether the texts were interned in this order, with or without other texts in between.
 fn in_order<R: Wait>(rt: &R, shared: &Shared, items: &[&'static str]) -> Result<bool, Fail> {
@@ -74,14 +63,10 @@ fn two_threads_append(rt: HostRuntime) -> Result<(), Fail> {
 // Interns the text. Returns its number, or why it was refused.
 fn number<R: Wait>(
     rt: &R,
-    shared: &Shared,
-    pass: &mut Pass<Spur>,
+    caller: &mut DefaultCaller<'_>,
     text: &'static str,
-) -> Result<usize, LassoErrorKind>
-    requires { pass.old.of ≡ shared.now }
-    ensures { pass.new.of ≡ pass.old.of }
-{
-    match kept_as(rt, shared, pass, text) {
+) -> Result<usize, LassoErrorKind> {
+    match caller.kept(rt, text) {
         Ok(key) => Ok(key.into_usize()),
         Err(error) => Err(error.kind()),
     }
@@ -91,27 +76,23 @@ fn number<R: Wait>(
 // the text got this number.
 fn takes_next<R: Wait>(
     rt: &R,
-    shared: &Shared,
-    pass: &mut Pass<Spur>,
+    caller: &mut DefaultCaller<'_>,
     text: &'static str,
     position: usize,
-) -> bool
-    requires { pass.old.of ≡ shared.now }
-    ensures { pass.new.of ≡ pass.old.of }
-{
-    let found = number(rt, shared, pass, text);
+) -> bool {
+    let found = number(rt, caller, text);
     if found != Err(LassoErrorKind::FailedAllocation) {
         return found == Ok(position);
     }
-    seen_by(shared, pass) == position && number(rt, shared, pass, text) == Ok(position)
+    caller.seen() == position && number(rt, caller, text) == Ok(position)
 }
 
 // Interns the texts, and again each whose first call runs out of memory. Returns whether such a call left the
 // list as it was, and whether each text got the next number.
 fn takes_all<R: Wait>(rt: &R, shared: &Shared, texts: &[&'static str]) -> bool {
-    let mut pass = pass_of(shared);
+    let mut caller = Caller::new(shared);
     for position in 0..texts.len() {
-        if !takes_next(rt, shared, &mut pass, texts[position], position) {
+        if !takes_next(rt, &mut caller, texts[position], position) {
             return false;
         }
     }
@@ -145,4 +126,138 @@ fn a_text_of_two_threads_has_one_key(rt: HostRuntime) -> Result<(), Fail> {
     static THERE: [Step; 1] = [ByOne(Call::Resolves(Texts(&["x", "b"])))];
     static LAST: [Step; 1] = [ByNew(Call::Counts(3))];
     runs_in_two(&rt, &[], (&HERE, &THERE), &LAST, PLAIN)
+}
+
+// Calls that read, with a pass and without one.
+
+#[test]
+fn plain_readings_of_two_texts(rt: HostRuntime) -> Result<(), Fail> {
+    static STEPS: [Step; 11] = [
+        Counts(0),
+        Interns(Way::Static, "Hello, world!", Ok(0)),
+        Interns(Way::TryStatic, "", Ok(1)),
+        Interns(Way::Static, "Hello, world!", Ok(0)),
+        Finds("", Some(1)),
+        Finds("Hello", None),
+        Finds("Hello, world!", Some(0)),
+        Reads(0, Some("Hello, world!")),
+        Reads(1, Some("")),
+        Counts(2),
+        Reads(2, None),
+    ];
+    runs(&rt, Maker::Default, &STEPS)
+}
+
+#[test]
+fn a_pass_reads_what_another_interned(rt: HostRuntime) -> Result<(), Fail> {
+    static STEPS: [Step; 8] = [
+        ByOne(Call::Finds("p", None)),
+        ByOne(Call::Counts(0)),
+        Interns(Way::TryStatic, "p", Ok(0)),
+        ByOne(Call::Finds("p", Some(0))),
+        ByOne(Call::Finds("q", None)),
+        ByOne(Call::Reads(0, Some("p"))),
+        ByOne(Call::Counts(1)),
+        ByOne(Call::Reads(1, None)),
+    ];
+    runs(&rt, Maker::Default, &STEPS)
+}
+
+// A thread interns a text while another looks the first one up.
+#[test]
+fn a_key_of_another_thread_resolves(rt: HostRuntime) -> Result<(), Fail> {
+    static FIRST: [Step; 1] = [Interns(Way::TryStatic, "Hello, world!", Ok(0))];
+    static HERE: [Step; 1] = [Resolves(Way::TryStatic, "Hello from the thread!")];
+    static THERE: [Step; 1] = [Finds("Hello, world!", Some(0))];
+    static LAST: [Step; 3] = [
+        Reads(0, Some("Hello, world!")),
+        Reads(1, Some("Hello from the thread!")),
+        Counts(2),
+    ];
+    runs_in_two(&rt, &FIRST, (&HERE, &THERE), &LAST, PLAIN)
+}
+
+// Texts that are interned while memory is out. `trials/refused-tests` refuses the requests for memory. If
+// none is refused, the first call interns each text.
+
+// More calls than there are requests refused in a row.
+const TRIES: usize = 100;
+
+// More texts than the first chunk has cells.
+static TEXTS: [&str; 40] = [
+    "", "a", "bb", "ccc", "dddd", "eeeee", "f", "gg", "hhh", "iiii", "jjjjj", "k", "ll", "mmm",
+    "nnnn", "ooooo", "p", "qq", "rrr", "ssss", "ttttt", "u", "vv", "www", "xxxx", "yyyyy", "z",
+    "aa", "bbb", "cccc", "ddddd", "e", "ff", "ggg", "hhhh", "iiiii", "j", "kk", "lll", "mmmm",
+];
+
+// Whether the text is absent, and the length and the usage are these.
+fn is_unchanged<R: Wait>(rt: &R, shared: &Shared, text: &str, length: usize, bytes: usize) -> bool {
+    !contains(rt, shared, text) && len(shared) == length && usage(rt, shared) == bytes
+}
+
+// Interns an absent text, again and again while memory is out, and returns its number. `None` if a call
+// failed otherwise, or if one that ran out of memory left the text, another length or another usage.
+fn interned_at_last<R: Wait>(
+    rt: &R,
+    shared: &Shared,
+    way: Way,
+    text: &'static str,
+) -> Option<usize> {
+    let (length, bytes) = (len(shared), usage(rt, shared));
+    for _ in 0..TRIES {
+        match answered(interned(rt, shared, way, text)) {
+            Ok(number) => return Some(number),
+            Err(LassoErrorKind::FailedAllocation) => {}
+            Err(_) => return None,
+        }
+        if !is_unchanged(rt, shared, text, length, bytes) {
+            return None;
+        }
+    }
+    None
+}
+
+// Whether the key with this number stands for the text.
+fn is_at(shared: &Shared, number: usize, text: &str) -> Result<bool, Fail> {
+    Ok(text_at(shared, number)? == Some(text))
+}
+
+// Whether each text gets the next number, and has it at the end.
+fn all_are_interned<R: Wait>(rt: &R, shared: &Shared, way: Way) -> Result<bool, Fail> {
+    for position in 0..TEXTS.len() {
+        if interned_at_last(rt, shared, way, TEXTS[position]) != Some(position) {
+            return Ok(false);
+        }
+    }
+    for position in 0..TEXTS.len() {
+        if !is_at(shared, position, TEXTS[position])? {
+            return Ok(false);
+        }
+    }
+    Ok(true)
+}
+
+#[test]
+fn a_copied_text_out_of_memory_leaves_nothing(rt: HostRuntime) -> Result<(), Fail> {
+    // the texts need more buckets than this one
+    let shared: Shared = limited(rt.alloc(), 4, usize::MAX)?;
+    is_so(
+        &rt,
+        all_are_interned(&rt, &shared, Way::TryCopied)?,
+        "the texts",
+    );
+    is_so(&rt, len(&shared) == 40, "the count");
+    Ok(())
+}
+
+#[test]
+fn a_static_text_out_of_memory_leaves_nothing(rt: HostRuntime) -> Result<(), Fail> {
+    let shared: Shared = limited(rt.alloc(), 4, usize::MAX)?;
+    is_so(
+        &rt,
+        all_are_interned(&rt, &shared, Way::TryStatic)?,
+        "the texts",
+    );
+    is_so(&rt, usage(&rt, &shared) == 4, "the usage");
+    Ok(())
 }

@@ -2,16 +2,19 @@
 ghost use Rattle.std.specs.Prelude.{◌<◌};
 ghost use Rattle.lasso_parts.specs.Arena.{IsStored};
 
-use crate::checks::is_so;
+use crate::interners::{crosses, is_so};
 use lasso_parts::arena::{Arena, Span};
-use lasso_parts::bucket::region::Region;
+use lasso_parts::bucket::Bucket;
+use lasso_parts::bucket::region::{Region, RegionRight};
+use lasso_parts::entries::{Entry, text_of};
 use lasso_parts::entries::long::{LongText, is_vast};
 use lasso_parts::entries::short::ShortText;
-use lasso_parts::entries::{Entry, text_of};
 use lasso_parts::util::LassoErrorKind;
-use std::alloc::Global;
+use std::alloc::{Allocator, Global};
+use std::mem::size_of;
 use std::process::Abort;
 use std::test::Fail;
+use test_common::texts::OF_EACH_LENGTH;
 
 #[derive(Clone, Copy, Debug)]
 enum Call {
@@ -280,4 +283,109 @@ fn a_text_is_stored_in_room_alone(rt: HostRuntime) -> Result<(), Fail> {
     let mut arena = Arena::new(rt.alloc(), 12, 100)?;
     fill_room(&rt, &mut arena);
     Ok(())
+}
+
+// A bucket that is filled and cleared, and sizes that no region can have.
+
+// Whether `bytes` bytes are left, and the bucket says that it is full if none is.
+fn has_free(bucket: &Bucket<Global>, bytes: usize) -> bool {
+    bucket.free_elements() == bytes && bucket.is_full() == (bytes == 0)
+}
+
+#[test]
+fn fills_and_is_cleared(rt: HostRuntime) -> Result<(), Fail> {
+    let mut bucket = Bucket::with_capacity(rt.alloc(), 4)?;
+    is_so(&rt, bucket.push_slice(b"ab") == 0, "the first bytes");
+    is_so(&rt, has_free(&bucket, 2), "two bytes are left");
+    is_so(&rt, bucket.push_slice(b"cd") == 2, "the next bytes");
+    is_so(&rt, has_free(&bucket, 0), "no byte is left");
+    is_so(&rt, bucket.text(2, 2) == "cd", "the next bytes are read");
+    bucket.clear();
+    is_so(&rt, has_free(&bucket, 4), "all bytes are left");
+    is_so(&rt, bucket.push_slice(b"xyz") == 0, "bytes after the clear");
+    is_so(&rt, bucket.text(1, 2) == "yz", "they are read");
+    Ok(())
+}
+
+// Whether there is no memory for a bucket of `capacity` bytes.
+fn is_no_bucket(alloc: Global, capacity: usize) -> bool
+    requires { 0 < capacity }
+{
+    match Bucket::with_capacity(alloc, capacity) {
+        Ok(bucket) => {
+            drop(bucket);
+            false
+        }
+        Err(error) => error.kind() == LassoErrorKind::FailedAllocation,
+    }
+}
+
+#[test]
+fn no_region_is_so_large(rt: HostRuntime) {
+    for capacity in [usize::MAX, isize::MAX as usize + 1] {
+        assert!(rt; is_no_bucket(rt.alloc(), capacity), "{capacity}");
+    }
+}
+
+// A bucket and its parts go to another thread, and are shared, where their allocator is.
+fn crosses_with<A: Allocator + Send + Sync>() {
+    crosses::<Region>();
+    crosses::<RegionRight<A>>();
+    crosses::<Bucket<A>>();
+}
+
+#[test]
+fn crosses_with_its_allocator() {
+    crosses_with::<Global>();
+}
+
+// Short texts of each length.
+
+// Short texts have fewer than 15 bytes.
+const SHORT: usize = 15;
+
+// Whether the text is short, and its short text has it.
+fn is_itself(text: &str) -> bool {
+    match ShortText::of(text) {
+        Some(short) => short.as_str() == text,
+        None => false,
+    }
+}
+
+#[test]
+fn a_short_text_is_itself(rt: HostRuntime) {
+    for text in &OF_EACH_LENGTH[..SHORT] {
+        assert!(rt; is_itself(text), "{text}");
+    }
+    assert!(rt; ShortText::of(OF_EACH_LENGTH[SHORT]).is_none());
+}
+
+// Whether an empty entry reads as the empty text, and as the text when that was put in.
+fn is_put_inside(text: &str) -> bool {
+    if text.len() >= SHORT {
+        return false;
+    }
+    let mut entry = Entry::inside(ShortText::empty());
+    if !text_of(&[], &[], &entry).is_empty() {
+        return false;
+    }
+    entry.put(text);
+    text_of(&[], &[], &entry) == text
+}
+
+#[test]
+fn a_short_text_is_put_in_an_entry(rt: HostRuntime) {
+    for text in &OF_EACH_LENGTH[..SHORT] {
+        assert!(rt; is_put_inside(text), "{text}");
+    }
+}
+
+// The size of an entry, and that it crosses threads.
+
+// An entry is read at every probe of an index.
+const _: () = prove!(size_of::<Entry>() == 16);
+
+#[test]
+fn crosses_freely() {
+    crosses::<Entry>();
 }

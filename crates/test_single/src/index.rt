@@ -2,10 +2,9 @@
 //! constant hasher.
 ghost use Rattle.lasso_parts.specs.Index.{IsFiledAnywhere};
 
-use crate::checks::is_so;
-use crate::counted_texts::CountedTexts;
-use lasso_parts::index::key_slots::KeySlots;
+use crate::interners::{CountedTexts, is_so};
 use lasso_parts::index::{Index, hash_text};
+use lasso_parts::index::key_slots::KeySlots;
 use lasso_parts::keys::{Key, Spur};
 use lasso_parts::util::{FixedState, LassoErrorKind, LassoResult};
 use std::alloc::Global;

@@ -1,15 +1,17 @@
-//! Interners for tests, and calls of them that tests share. None has a contract but the makers, so that a
-//! test which makes many is proved fast.
-ghost use Rattle.std.specs.Prelude.{◌<◌};
+//! Interners for tests, calls of them that tests share, assertions, and a list that counts how many times a text is
+//! read. None has a contract but the makers, so that a test which makes many is proved fast.
+ghost use Rattle.std.specs.Prelude.{◌<◌, ◌≡◌, map};
 
-use crate::checks::{Answer, is_answer, is_so, is_text, told};
+use lasso_parts::index::Texts;
 use lasso_parts::keys::{Key, Spur};
-use lasso_parts::util::{Capacity, FixedState, LassoResult, MemoryLimits};
+use lasso_parts::util::{Capacity, FixedState, LassoErrorKind, LassoResult, MemoryLimits};
 use lasso_single::reader::RodeoReader;
 use lasso_single::resolver::RodeoResolver;
 use lasso_single::rodeo::Rodeo;
 use std::alloc::{Allocator, Global};
+use std::cell::Cell;
 use std::hash::BuildHasher;
+use std::marker::{Send, Sync};
 use std::process::Abort;
 use std::test::Fail;
 
@@ -155,4 +157,95 @@ pub fn interns_numbers<K: Key, S: BuildHasher>(
         }
     }
     true
+}
+
+// The assertion of the tests, and the comparisons that they share. None has a contract, and each is a
+// function of its own, so that a test which makes many is proved fast.
+
+pub const LIMIT: LassoErrorKind = LassoErrorKind::MemoryLimitReached;
+
+pub const KEYS: LassoErrorKind = LassoErrorKind::KeySpaceExhaustion;
+
+pub const MEMORY: LassoErrorKind = LassoErrorKind::FailedAllocation;
+
+// What interning returned: the number of the key, or why it was refused.
+pub type Answer = Result<usize, LassoErrorKind>;
+
+// Fails the test if this does not hold. `what` names what was checked.
+pub fn is_so(rt: &impl Abort, holds: bool, what: &str) {
+    assert!(rt; holds, "{what}");
+}
+
+// The same for a row of a table.
+pub fn is_so_at(rt: &impl Abort, holds: bool, row: usize) {
+    assert!(rt; holds, "row {row}");
+}
+
+pub fn both(pair: (bool, bool)) -> bool {
+    pair.0 && pair.1
+}
+
+pub fn is_text(found: Option<&str>, text: &str) -> bool {
+    found == Some(text)
+}
+
+pub fn told<K: Key>(outcome: LassoResult<K>) -> Answer {
+    match outcome {
+        Ok(key) => Ok(key.into_usize()),
+        Err(refusal) => Err(refusal.kind()),
+    }
+}
+
+pub fn is_answer(answer: Answer, wanted: Answer) -> bool {
+    answer == wanted
+}
+
+// Why the call was refused, if it was.
+pub fn refusal_of<T: Drop>(outcome: LassoResult<T>) -> Option<LassoErrorKind> {
+    match outcome {
+        Ok(_made) => None,
+        Err(refusal) => Some(refusal.kind()),
+    }
+}
+
+pub fn is_kind(found: Option<LassoErrorKind>, kind: LassoErrorKind) -> bool {
+    found == Some(kind)
+}
+
+// Whether the call was refused for this.
+pub fn is_refused<T: Drop>(outcome: LassoResult<T>, kind: LassoErrorKind) -> bool {
+    is_kind(refusal_of(outcome), kind)
+}
+
+pub fn key_at(position: usize) -> Result<Spur, Fail> {
+    Ok(Spur::try_from_usize(position).ok_or("no key")?)
+}
+
+// Compiles for a type that goes to another thread, and is shared.
+pub fn crosses<T: Send + Sync>() {}
+
+// A list that counts how many times a text is read.
+
+/// A list of texts that counts how many times one is read.
+#[derive(Clone, Copy)]
+pub struct CountedTexts<'a> {
+    texts: &'a [&'a str],
+    read: &'a Cell<u64>,
+}
+
+impl<'a> CountedTexts<'a> {
+    pub fn new(texts: &'a [&'a str], read: &'a Cell<u64>) -> Self
+        ensures { result.texts.now ≡ texts.now }
+    {
+        CountedTexts { texts, read }
+    }
+}
+
+impl Texts for CountedTexts<'_> {
+    ghost list = { λ t. map (λ text. text.now) t.texts.now };
+
+    fn text_at(&self, position: usize) -> &str {
+        self.read.set(self.read.get().wrapping_add(1));
+        self.texts[position]
+    }
 }

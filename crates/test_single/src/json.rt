@@ -1,7 +1,7 @@
-//! Lists and keys as JSON, and the printed errors of values that can't be read. Values are read in scripts of
-//! `tool_replay`.
-
-use crate::checks::is_so;
+//! Lists and keys as JSON, the printed errors of values that can't be read, and debug output of iterators. Values are
+//! read in scripts of `tool_replay`.
+use crate::interners::{Small, is_so, of_texts};
+use lasso_parts::iter::{Iter, Strings};
 use lasso_parts::json::{JsonError, JsonKey, read_map, write_array, write_map};
 use lasso_parts::keys::{Key, LargeSpur, MicroSpur, MiniSpur, Spur};
 use lasso_parts::util::LassoErrorKind;
@@ -131,5 +131,46 @@ fn faults_print(rt: HostRuntime) -> Result<(), Fail> {
     }
     let shown = format!(in rt.alloc(); "{:?}", JsonError::Doubled(2))?;
     is_so(&rt, shown.as_str() == "Doubled(2)", "a fault's debug text");
+    Ok(())
+}
+
+// Debug output of the iterators of an interner.
+
+fn walks_print(
+    alloc: Global,
+    strings: &Strings<'_, Spur>,
+    walk: &Iter<'_, Spur>,
+    wanted: &str,
+) -> bool {
+    match format!(in alloc; "{strings:?} {walk:?}") {
+        Ok(printed) => printed.as_str() == wanted,
+        Err(_refusal) => false,
+    }
+}
+
+static OF_WALKS: [&str; 3] = [
+    r#"["red", "a\"b"] {Spur(1): "red", Spur(2): "a\"b"}"#,
+    r#"["a\"b"] {Spur(2): "a\"b"}"#,
+    "[] {}",
+];
+
+// Checks the debug output of both iterators before the first text, after it and after the second.
+fn walks_over_two<R: AllocGlobal + Abort>(rt: &R, rodeo: &Small) {
+    let mut strings = rodeo.strings();
+    let mut walk = rodeo.iter();
+    for wanted in OF_WALKS.iter() {
+        is_so(
+            rt,
+            walks_print(rt.alloc(), &strings, &walk, *wanted),
+            *wanted,
+        );
+        let _items = (strings.next(), walk.next());
+    }
+}
+
+#[test]
+fn debug_text_of_walks(rt: HostRuntime) -> Result<(), Fail> {
+    let rodeo = of_texts(rt.alloc(), &["red", "a\"b"])?;
+    walks_over_two(&rt, &rodeo);
     Ok(())
 }

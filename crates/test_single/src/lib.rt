@@ -5,19 +5,11 @@
 #[cfg(test)]
 mod arena;
 #[cfg(test)]
-mod bucket;
-#[cfg(test)]
-mod checks;
-#[cfg(test)]
-mod coding;
-#[cfg(test)]
 mod commands;
 #[cfg(test)]
-mod counted_texts;
+mod frozen;
 #[cfg(test)]
-mod entries;
-#[cfg(test)]
-mod hasher;
+mod hashing;
 #[cfg(test)]
 mod index;
 #[cfg(test)]
@@ -25,20 +17,8 @@ mod interners;
 #[cfg(test)]
 mod json;
 #[cfg(test)]
-mod keys;
-#[cfg(test)]
-mod lent_items;
-#[cfg(test)]
-mod reader;
-#[cfg(test)]
 mod refusals;
 #[cfg(test)]
-mod resolver;
-#[cfg(test)]
 mod rodeo;
-#[cfg(test)]
-mod short;
-#[cfg(test)]
-mod util;
 #[cfg(test)]
 mod values;

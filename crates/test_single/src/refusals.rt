@@ -5,14 +5,14 @@ ghost use Rattle.std.specs.Prelude.{◌<◌};
 
 mod copies;
 mod counts;
-mod filling;
-mod from_static;
-mod makers;
 mod runs;
 mod values;
 
-use crate::checks::{Answer, KEYS, MEMORY, is_answer, is_so, told};
-use crate::interners::holds;
+use crate::interners::{
+    Answer, KEYS, LIMIT, MEMORY, holds, is_answer, is_kind, is_so, is_so_at, is_text, refusal_of,
+    told,
+};
+use crate::refusals::copies::{Name, clone_of, copies};
 use lasso_parts::keys::{Key, Spur};
 use lasso_parts::util::{Capacity, FixedState, LassoErrorKind, LassoResult, MemoryLimits};
 use lasso_single::rodeo::Rodeo;
@@ -195,4 +195,169 @@ fn interns_texts<R: AllocGlobal + Abort>(rt: &R, memory: &Memory) -> Result<(), 
 #[test]
 fn interned_texts(rt: HostRuntime) -> Result<(), Fail> {
     each_refused(&rt, interns_texts)
+}
+
+// Each maker of an empty interner, and copies of the interners.
+
+const ONE: &[&str] = &["a"];
+
+// Makes an interner by the maker of this number.
+fn by_maker<A: Allocator + Clone>(alloc: A, maker: usize) -> LassoResult<Metered<Spur, A>> {
+    let (room, limits, hasher) = (
+        Capacity::new(3, 10),
+        MemoryLimits::new(20),
+        FixedState::new(),
+    );
+    match maker {
+        0 => Rodeo::default(alloc),
+        1 => Rodeo::new(alloc),
+        2 => Rodeo::with_capacity(alloc, room),
+        3 => Rodeo::with_memory_limits(alloc, limits),
+        4 => Rodeo::with_capacity_and_memory_limits(alloc, room, limits),
+        5 => Rodeo::with_hasher(alloc, hasher),
+        6 => Rodeo::with_capacity_and_hasher(alloc, room, hasher),
+        _ => Rodeo::with_capacity_memory_limits_and_hasher(alloc, room, limits, hasher),
+    }
+}
+
+// Checks an empty interner: it takes `usage` bytes, and the copies of its only text, of one byte, take one
+// byte.
+fn copies_one_text<A: Allocator + Clone>(
+    rt: &impl Abort,
+    memory: &Memory,
+    rodeo: &mut Metered<Spur, A>,
+    usage: usize,
+) -> Result<(), Fail> {
+    is_in(rt, rodeo, (&[], usage));
+    let row = (Intern("a"), Ok(0), (ONE, usage));
+    gives(rt, memory, rodeo, (&[], usage), row);
+    let mut copy = clone_of(rt, memory, rodeo, Name::Plain, (ONE, usage))?;
+    let refusal = copies(rt, memory, &mut copy, rodeo, Name::Plain, 1);
+    is_so(rt, refusal.is_none(), "a copy");
+    is_in(rt, &copy, (ONE, 1));
+    is_in(rt, rodeo, (ONE, usage));
+    Ok(())
+}
+
+// Checks an interner by the maker of this number.
+fn is_made<A: Allocator + Clone>(
+    rt: &impl Abort,
+    memory: &Memory,
+    alloc: A,
+    maker: usize,
+    usage: usize,
+) -> Result<(), Fail> {
+    match made(rt, memory, by_maker(alloc, maker)) {
+        Some(mut rodeo) => copies_one_text(rt, memory, &mut rodeo, usage),
+        None => {
+            is_so_at(rt, memory.bytes_out() == 0, maker);
+            Ok(())
+        }
+    }
+}
+
+// The bytes that an interner by each maker takes.
+static USAGES: [usize; 8] = [4096, 4096, 10, 4096, 10, 4096, 10, 10];
+
+fn each_maker<R: AllocGlobal + Abort>(rt: &R, memory: &Memory) -> Result<(), Fail> {
+    for (maker, usage) in USAGES.iter().enumerate() {
+        is_made(rt, memory, memory, maker, *usage)?;
+        is_so_at(rt, memory.bytes_out() == 0, maker);
+    }
+    Ok(())
+}
+
+#[test]
+fn made_interners(rt: HostRuntime) -> Result<(), Fail> {
+    each_refused(&rt, each_maker)
+}
+
+// Interners filled from items. If the room for the iterator's size hint is refused, the calls return the
+// same as without a refusal.
+
+// Why a call was refused, and the item after the refused one.
+type Filled = (Option<LassoErrorKind>, Option<&'static str>);
+
+// Extends the interner. Returns why that was refused, and the item after the refused one.
+fn fill<A: Allocator + Clone>(rodeo: &mut Metered<Spur, A>) -> Filled {
+    let mut items = ["ab", "cd", "e", "f"].into_iter();
+    let refusal = refusal_of(rodeo.extend(items.by_ref()));
+    (refusal, items.next())
+}
+
+fn is_filled(filled: Filled, kind: LassoErrorKind, next: &str) -> bool {
+    is_kind(filled.0, kind) && is_text(filled.1, next)
+}
+
+// Checks an interner in which "ab" or "cd" ran out of memory: the next item is the one after it, and the
+// items before it stay.
+fn keeps_items<A: Allocator + Clone>(
+    rt: &impl Abort,
+    rodeo: &Metered<Spur, A>,
+    filled: Filled,
+    bytes: usize,
+) {
+    if is_filled(filled, MEMORY, "cd") {
+        holds(rt, rodeo, &[], bytes);
+    } else {
+        is_so(rt, is_filled(filled, MEMORY, "e"), "the second item");
+        holds(rt, rodeo, &["ab"], bytes);
+    }
+}
+
+// "ab" and "cd" use up the limit of 4 bytes, in one bucket of 4 bytes or in two of 2. If one of them runs out
+// of memory, the items are added again.
+fn extends_to_the_limit<A: Allocator + Clone>(
+    rt: &impl Abort,
+    memory: &Memory,
+    rodeo: &mut Metered<Spur, A>,
+    bytes: usize,
+) {
+    let mut filled = fill(rodeo);
+    for _refusal in 0..REFUSALS {
+        if !memory.has_refused_anew() || is_kind(filled.0, LIMIT) {
+            break;
+        }
+        keeps_items(rt, rodeo, filled, bytes);
+        filled = fill(rodeo);
+    }
+    is_so(rt, is_filled(filled, LIMIT, "f"), "the item past the limit");
+    holds(rt, rodeo, &["ab", "cd"], 4);
+}
+
+fn extended_to_the_limit<A: Allocator + Clone>(
+    rt: &impl Abort,
+    memory: &Memory,
+    alloc: A,
+    bytes: usize,
+)
+    requires { 0 < bytes }
+{
+    if let Some(mut rodeo) = interner::<Spur, A>(rt, memory, alloc, bytes, 4) {
+        extends_to_the_limit(rt, memory, &mut rodeo, bytes);
+    }
+}
+
+const STRINGS: [&str; 4] = ["one string", "two string", "red string", "blue string"];
+
+fn of_strings<A: Allocator + Clone>(alloc: A) -> LassoResult<Metered<Spur, A>> {
+    Metered::from_iter(alloc, STRINGS)
+}
+
+fn made_of_items<A: Allocator + Clone>(rt: &impl Abort, memory: &Memory, alloc: A) {
+    if let Some(rodeo) = made(rt, memory, of_strings(alloc)) {
+        holds(rt, &rodeo, &STRINGS, 4096);
+    }
+}
+
+fn fills_interners<R: AllocGlobal + Abort>(rt: &R, memory: &Memory) -> Result<(), Fail> {
+    extended_to_the_limit(rt, memory, memory, 4);
+    extended_to_the_limit(rt, memory, memory, 2);
+    made_of_items(rt, memory, memory);
+    Ok(())
+}
+
+#[test]
+fn interners_filled_from_items(rt: HostRuntime) -> Result<(), Fail> {
+    each_refused(&rt, fills_interners)
 }

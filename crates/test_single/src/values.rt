@@ -1,5 +1,5 @@
-//! Order, hash and debug output of keys, capacities, limits and errors.
-use crate::checks::is_so;
+//! Key types, capacities, limits and errors: ranges, order, hash, printed forms, and a user's own key type.
+use crate::interners::is_so;
 use lasso_parts::arena::Arena;
 use lasso_parts::keys::{Key, LargeSpur, MicroSpur, MiniSpur, Spur};
 use lasso_parts::util::{Capacity, LassoError, LassoErrorKind, MemoryLimits};
@@ -8,6 +8,123 @@ use std::cmp::{Ord, Ordering};
 use std::hash::{DefaultHasher, Hash, Hasher};
 use std::process::Abort;
 use std::test::Fail;
+use test_common::keys::Below;
+
+// A user's own key type. It keeps the position in 32 bits, and leaves the 16777216 highest values free.
+type NicheKey = Below<4278190080>;
+
+fn number_of<K: Key>(position: usize) -> Option<usize> {
+    let key = K::try_from_usize(position)?;
+    Some(key.into_usize())
+}
+
+// Whether the last key is of this number, and the next number has none.
+fn ends_at<K: Key>(last: usize, next: usize) -> bool {
+    number_of::<K>(last) == Some(last) && number_of::<K>(next) == None
+}
+
+// Whether the number 0 has a key, which gives it back.
+fn has_zero<K: Key>() -> bool {
+    number_of::<K>(0) == Some(0)
+}
+
+#[test]
+fn ranges_of_the_key_types(rt: HostRuntime) {
+    is_so(&rt, has_zero::<Spur>(), "0");
+    is_so(&rt, ends_at::<Spur>(4294967294, 4294967295), "32 bits");
+    is_so(&rt, ends_at::<MiniSpur>(65534, 65535), "16 bits");
+    is_so(&rt, ends_at::<MicroSpur>(254, 255), "8 bits");
+    is_so(
+        &rt,
+        ends_at::<LargeSpur>(usize::MAX - 1, usize::MAX),
+        "64 bits",
+    );
+    own_range(&rt);
+}
+
+// Looks at the range of a user's own key type.
+fn own_range(rt: &impl Abort) {
+    is_so(rt, has_zero::<NicheKey>(), "0 of a user's own");
+    is_so(
+        rt,
+        ends_at::<NicheKey>(4278190079, 4278190080),
+        "a user's own",
+    );
+    is_so(
+        rt,
+        number_of::<NicheKey>(4294967295).is_none(),
+        "past a user's own",
+    );
+}
+
+#[test]
+fn defaults_are_number_0(rt: HostRuntime) {
+    let (spur, mini) = (Spur::default(), MiniSpur::default());
+    let (micro, large) = (MicroSpur::default(), LargeSpur::default());
+    is_so(
+        &rt,
+        spur.into_usize() == 0 && spur.into_inner() == 1,
+        "32 bits",
+    );
+    is_so(
+        &rt,
+        mini.into_usize() == 0 && mini.into_inner() == 1,
+        "16 bits",
+    );
+    is_so(
+        &rt,
+        micro.into_usize() == 0 && micro.into_inner() == 1,
+        "8 bits",
+    );
+    is_so(
+        &rt,
+        large.into_usize() == 0 && large.into_inner() == 1,
+        "64 bits",
+    );
+}
+
+// Whether the number has a key, whose position is it.
+fn has_position(number: u32) -> bool {
+    match Spur::try_from_usize(number as usize) {
+        Some(key) => key.into_position() == number,
+        None => false,
+    }
+}
+
+#[test]
+fn positions_in_32_bits(rt: HostRuntime) {
+    is_so(&rt, Spur::default().into_position() == 0, "the default");
+    is_so(&rt, has_position(2), "2");
+    is_so(&rt, has_position(4_294_967_294), "the last");
+}
+
+// Prints a key of each type.
+fn printed(alloc: Global) -> Result<String, Fail> {
+    let last = MicroSpur::try_from_usize(254).ok_or("no key")?;
+    let spur = Spur::default();
+    let mini = MiniSpur::default();
+    let large = LargeSpur::default();
+    Ok(format!(in alloc; "{spur:?} {mini:?} {last:?} {large:?}")?)
+}
+
+#[test]
+fn debug_shows_the_kept_number(rt: HostRuntime) -> Result<(), Fail> {
+    let printed = printed(rt.alloc())?;
+    assert!(rt; printed.as_str() == "Spur(1) MiniSpur(1) MicroSpur(255) LargeSpur(1)");
+    Ok(())
+}
+
+#[test]
+fn keys_are_ordered_as_positions(rt: HostRuntime) -> Result<(), Fail> {
+    let low = Spur::try_from_usize(7).ok_or("no key")?;
+    let high = Spur::try_from_usize(4294967294).ok_or("no key")?;
+    low.show_value();
+    let is_apart = low.cmp(&high) == Ordering::Less && low != high;
+    is_so(&rt, is_apart, "7 is less than the last");
+    Ok(())
+}
+
+// Order, hash and debug output of keys, capacities, limits and errors.
 
 // The hash of the value.
 fn hash_of<T: Hash>(value: &T) -> u64 {
@@ -94,4 +211,99 @@ fn debug_text_of_an_arena(rt: HostRuntime) -> Result<(), Fail> {
         "Arena { buckets: ... 2 buckets, bucket_capacity: 16, memory_usage: 24, max_memory_usage: 100 }";
     is_so(&rt, is_printed(rt.alloc(), &arena, two)?, "two buckets");
     Ok(())
+}
+
+// Printed errors, and the values of capacities and limits.
+
+// Whether an error of the kind prints as the text.
+fn prints_kind(alloc: Global, kind: LassoErrorKind, text: &str) -> Result<bool, Fail> {
+    Ok(LassoError::new(kind).to_string(alloc)?.as_str() == text)
+}
+
+// Whether an error of the kind, and its clone, say that they are of it and of no other.
+fn is_of_kind(kind: LassoErrorKind) -> Result<bool, Fail> {
+    let error = LassoError::new(kind);
+    Ok(
+        error.kind() == kind
+            && error == error.clone()?
+            && kind.is_memory_limit() == (kind == LassoErrorKind::MemoryLimitReached)
+            && kind.is_keyspace_exhaustion() == (kind == LassoErrorKind::KeySpaceExhaustion)
+            && kind.is_failed_alloc() == (kind == LassoErrorKind::FailedAllocation),
+    )
+}
+
+#[test]
+fn errors_print_their_kind(rt: HostRuntime) -> Result<(), Fail> {
+    let rows = [
+        (
+            LassoErrorKind::MemoryLimitReached,
+            "Lasso encountered an error: The configured memory limit was reached",
+        ),
+        (
+            LassoErrorKind::KeySpaceExhaustion,
+            "Lasso encountered an error: The key space was exhausted",
+        ),
+        (
+            LassoErrorKind::FailedAllocation,
+            "Lasso encountered an error: Failed to allocate memory",
+        ),
+    ];
+    for (kind, text) in rows {
+        assert!(rt; prints_kind(rt.alloc(), kind, text)?, "{text}");
+        assert!(rt; is_of_kind(kind)?, "{text}");
+    }
+    Ok(())
+}
+
+// Whether the capacity has room for `strings` texts and `bytes` bytes.
+fn has_room(capacity: Capacity, strings: usize, bytes: usize) -> bool {
+    capacity.strings() == strings && capacity.bytes() == bytes
+}
+
+#[test]
+fn capacities_and_limits(rt: HostRuntime) {
+    let rows = [
+        (Capacity::default(), 50, 4096),
+        (Capacity::minimal(), 0, 1),
+        (Capacity::for_strings(10), 10, 4096),
+        (Capacity::for_bytes(7), 50, 7),
+        (Capacity::new(3, 9), 3, 9),
+    ];
+    for (capacity, strings, bytes) in rows {
+        assert!(rt; has_room(capacity, strings, bytes), "{capacity:?}");
+    }
+    compare(&rt);
+    limit(&rt);
+}
+
+// Compares capacities.
+fn compare(rt: &impl Abort) {
+    let low = Capacity::new(1, 9);
+    let more_texts = low.cmp(&Capacity::new(2, 1));
+    is_so(rt, more_texts == Ordering::Less, "more texts");
+    let fewer_bytes = low.cmp(&Capacity::new(1, 1));
+    is_so(rt, fewer_bytes == Ordering::Greater, "fewer bytes");
+}
+
+// Whether the limit is `bytes` bytes.
+fn has_limit(limits: MemoryLimits, bytes: usize) -> bool {
+    limits.max_memory_usage() == bytes
+}
+
+// Looks at limits, and compares them.
+fn limit(rt: &impl Abort) {
+    let low = MemoryLimits::new(12);
+    is_so(
+        rt,
+        has_limit(MemoryLimits::default(), usize::MAX),
+        "default",
+    );
+    is_so(rt, has_limit(low, 12), "new");
+    is_so(
+        rt,
+        has_limit(MemoryLimits::for_memory_usage(13), 13),
+        "for_memory_usage",
+    );
+    let higher = low.cmp(&MemoryLimits::new(13));
+    is_so(rt, higher == Ordering::Less, "a higher limit");
 }

@@ -1,9 +1,8 @@
 //! A column at a time: how long it takes to encode the lines of an input, to decode their codes, and to merge two dictionaries.
 ghost use Rattle.std.specs.Prelude.{◌<◌};
 
-use crate::table::Table;
 use crate::timing::{
-    NO_MEMORY, REFUSED, Tenths, elapsed_since, if_so, started, tenths_if, tenths_if_all,
+    NO_MEMORY, REFUSED, Table, Tenths, elapsed_since, if_so, started, tenths_if, tenths_if_all,
 };
 use anyhow::{Result, ensure};
 use lasso::{Key, Spur, SpurRodeo, SpurRodeoReader, SpurThreadedRodeo};

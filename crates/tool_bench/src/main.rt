@@ -9,35 +9,23 @@
 
 ghost use Rattle.std.specs.Prelude.{◌<◌};
 
-mod batches;
 mod calls;
-mod collide;
 mod columns;
-mod copying;
-mod frozen;
+mod filling;
 mod interners;
-mod lines;
-mod positions;
-mod refill;
 mod shared;
 mod single;
 mod sized;
 mod small;
-mod table;
 mod texts;
-mod threads;
 mod timing;
-mod walks;
 
 use anyhow::{Result, bail};
-use calls::fill;
-use collide::time_collisions;
+use calls::{fill, time_walks};
 use columns::time_columns;
-use copying::time_copying;
+use filling::{time_collisions, time_refilling};
 use interners::time_interners;
-use lines::Lines;
-use refill::time_refilling;
-use shared::open_log;
+use shared::{CALLS, Walk, open_log, time_copying, time_log};
 use single::time_calls;
 use sized::time_sizes;
 use small::print_small;
@@ -46,10 +34,8 @@ use std::io::{BufReader, Read};
 use std::rt::Clock;
 use std::sync::Wait;
 use std::thread::Threads;
-use table::Table;
-use texts::{Form, Sample};
-use threads::{CALLS, Walk, time_log};
-use walks::time_walks;
+use texts::{Form, Lines, Sample};
+use timing::Table;
 
 const TEXTS: u32 = 100_000;
 

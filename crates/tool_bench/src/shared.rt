@@ -1,14 +1,22 @@
-//! Texts that threads read at once: the log of a shared interner.
-ghost use Rattle.std.specs.Prelude.{◌≡◌, [], IfOk, string_bytes};
-ghost use Rattle.lasso_log.specs.Views.{list_of};
+//! The log of a shared interner: texts that threads read at once or copy into a bucket which they share, and how long a
+//! call takes each of them.
+ghost use Rattle.std.specs.Prelude.{◌≡◌, ◌<◌, [], IfOk, string_bytes};
+ghost use Rattle.lasso_log.specs.Views.{list_of, InternerId};
 ghost use Rattle.tool_bench.specs.Names.{named};
+ghost use Rattle.lasso_log.specs.SharedBuckets.{SharedView};
 
-use crate::texts::numbered_text;
+use crate::texts::{numbered_text, random_positions};
+use crate::timing::{
+    ROUNDS, Table, Tenths, elapsed_since, least, started, tenths_if, tenths_if_all, tenths_of,
+};
 use anyhow::{Result, bail};
-use lasso_log::log::{Log, Opened, Spine};
+use lasso_log::log::{Log, NewLog, Opened, OpeningTexts, Spine};
+use lasso_log::log::bucket::SharedBucket;
 use lasso_parts::keys::{Key, Spur};
 use std::alloc::{AllocError, Global};
+use std::rt::Clock;
 use std::sync::Wait;
+use std::thread::{Threads, map_indices};
 
 /// A log with `count` texts: `text 0`, `text 1` and so on. They are never freed. It fails when out of memory.
 pub fn open_log<R: AllocGlobal + Wait>(rt: &R, count: u32) -> Result<Log<Spur>> {
@@ -74,4 +82,166 @@ pub fn read_all(log: &Log<Spur>, positions: &[u32]) -> usize {
         }
     }
     sum
+}
+
+// Threads that read texts of the same log at once, and how long a call takes each of them.
+
+/// How many threads read at once.
+pub const THREADS: [usize; 3] = [1, 2, 4];
+
+/// How many calls each thread makes.
+pub const CALLS: u32 = 2_000_000;
+
+// The bytes of a text before its number.
+const BEFORE_NUMBER: usize = 5;
+
+/// Random positions, which may repeat, with what reading them has to answer.
+#[derive(Drop)]
+pub struct Walk {
+    /// Positions of texts.
+    positions: Vec<u32>,
+    /// The sum of the lengths of the texts there, in bytes.
+    lengths: usize,
+}
+
+impl Walk {
+    /// `calls` positions of `count` texts. The only error is out of memory.
+    pub fn new(alloc: Global, count: u32, calls: u32) -> Result<Walk, AllocError>
+        requires { 0 < count }
+    {
+        let positions = random_positions(alloc, count, calls)?;
+        let mut lengths = 0usize;
+        for position in &positions {
+            lengths = lengths
+                .wrapping_add(BEFORE_NUMBER)
+                .wrapping_add(digits(*position));
+        }
+        Ok(Walk { positions, lengths })
+    }
+}
+
+// How many decimal digits the number has.
+fn digits(number: u32) -> usize {
+    number.checked_ilog10().map_or(1, |top| top as usize + 1)
+}
+
+/// Times reading texts by their positions with each number of threads: the least of several rounds.
+pub fn time_log<R: AllocGlobal + Clock + Print + Threads + Sync>(
+    rt: &R,
+    table: &mut Table,
+    log: &Log<Spur>,
+    walk: &Walk,
+) {
+    let mut best = [Ok(u64::MAX); 3];
+    for _ in 0..ROUNDS {
+        for at in 0..3usize {
+            best[at] = least(best[at], time_reads(rt, log, walk, THREADS[at]));
+        }
+    }
+    for at in 0..3usize {
+        table.add(rt, "read", THREADS[at], best[at]);
+    }
+}
+
+// Has `threads` threads read all texts of the walk at once.
+fn time_reads<R: AllocGlobal + Clock + Threads + Sync>(
+    rt: &R,
+    log: &Log<Spur>,
+    walk: &Walk,
+    threads: usize,
+) -> Tenths {
+    let start = started(rt);
+    let sums = map_indices(rt, rt.alloc(), threads, &|_| read_all(log, &walk.positions));
+    let elapsed = elapsed_since(rt, start);
+    tenths_if_all(
+        sums,
+        &walk.lengths,
+        "a text is wrong",
+        elapsed,
+        walk.positions.len(),
+    )
+}
+
+// Texts that one thread copies into a bucket that threads share, and passes that it makes: how long a call takes.
+
+// How many texts are copied in a round, and how many passes are made.
+const COPIES: u32 = 65_536;
+
+// The text that is copied, of 16 bytes.
+const TEXT: &str = "a text of length";
+
+/// Times taking 16 bytes of a bucket and filling them, and making a pass: the least of several rounds, each with a new bucket. It
+/// fails if there is no memory for a bucket.
+pub fn time_copying<R: AllocGlobal + Clock + Print + Wait>(
+    rt: &R,
+    table: &mut Table,
+) -> Result<()> {
+    let mut copy = Ok(u64::MAX);
+    let mut pass = Ok(u64::MAX);
+    for _ in 0..ROUNDS {
+        let (log, bucket) = one_bucket(rt)?;
+        copy = least(copy, time_copies(rt, &log, &bucket));
+        pass = least(pass, time_passes(rt, &log));
+    }
+    table.add(rt, "copy", COPIES as usize, copy);
+    table.add(rt, "pass", COPIES as usize, pass);
+    Ok(())
+}
+
+// A log with a bucket that has room for all copies.
+fn one_bucket<R: AllocGlobal>(rt: &R) -> Result<(Log<Spur>, SharedBucket<Spur>)>
+    ensures { IfOk result (λ r. r.1.of ≡ r.0) }
+{
+    let texts = OpeningTexts::new(rt.alloc(), COPIES as usize * 16)?;
+    let NewLog {
+        log,
+        spine: _,
+        bucket,
+    } = Log::<Spur>::open_with(texts, u64::MAX);
+    Ok((log, bucket))
+}
+
+// Copies texts into the bucket.
+fn time_copies<R: Clock + Wait>(rt: &R, log: &Log<Spur>, bucket: &SharedBucket<Spur>) -> Tenths
+    requires { bucket.now.of ≡ log.now }
+{
+    let start = started(rt);
+    let copied = copy_texts(rt, log, bucket);
+    let elapsed = elapsed_since(rt, start);
+    tenths_if(
+        copied == COPIES,
+        "a text was not copied",
+        elapsed,
+        COPIES as usize,
+    )
+}
+
+// Makes passes.
+fn time_passes<R: Clock>(rt: &R, log: &Log<Spur>) -> Tenths {
+    let start = started(rt);
+    make_passes(log);
+    let elapsed = elapsed_since(rt, start);
+    tenths_of(elapsed, COPIES as usize)
+}
+
+// Copies the text while the bucket has room for it, at most `COPIES` times, and returns the number of
+// copies.
+fn copy_texts<R: Wait>(rt: &R, log: &Log<Spur>, bucket: &SharedBucket<Spur>) -> u32
+    requires { bucket.now.of ≡ log.now }
+{
+    let mut pass = log.pass();
+    for copied in 0..COPIES {
+        let Some(range) = bucket.try_reserve(rt, log, &mut pass, TEXT.len() as u64) else {
+            return copied;
+        };
+        drop(range.fill(log.era(), TEXT));
+    }
+    COPIES
+}
+
+// Makes `COPIES` passes, one after another.
+fn make_passes(log: &Log<Spur>) {
+    for _ in 0..COPIES {
+        drop(log.pass());
+    }
 }

@@ -1,10 +1,9 @@
 //! Calls of the interner that take one text and calls that take all of them, over texts of given sizes.
 use crate::single::{keys_of, round};
-use crate::table::Table;
 use crate::texts::{Form, Sample};
 use crate::timing::{
-    NO_MEMORY, Tenths, elapsed_since, last_byte, started, sum_of_last_bytes, sum_of_positions,
-    tenths_if,
+    NO_MEMORY, Table, Tenths, elapsed_since, last_byte, started, sum_of_last_bytes,
+    sum_of_positions, tenths_if,
 };
 use lasso::{Key, Spur, SpurRodeo};
 use std::alloc::{AllocError, Global};

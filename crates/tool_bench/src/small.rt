@@ -1,23 +1,17 @@
 //! Everything that is timed, once over a few texts: what some calls answer is printed, so that a stored run can be compared with
 //! it. Each timing has a fault on its own if an answer is wrong.
-use crate::batches::{Batches64, Batches1024};
 use crate::calls::{
     Calls, Plain, WithHints, WithPass, fill, filled, resolve_keys, resolve_keys_plainly,
+    time_walks, walk_entries, walk_texts,
 };
-use crate::collide::time_collisions;
 use crate::columns::time_columns;
-use crate::copying::time_copying;
-use crate::frozen::{FrozenTexts, keys_at, resolve_all};
-use crate::interners::time_interners;
-use crate::lines::Lines;
-use crate::positions::random_positions;
-use crate::refill::time_refilling;
-use crate::shared::{open_log, read_all};
-use crate::table::Table;
-use crate::texts::{Form, Sample, jumped};
-use crate::threads::{Walk, time_log};
-use crate::walks::{time_walks, walk_entries, walk_texts};
+use crate::filling::{time_collisions, time_refilling};
+use crate::interners::{Batches64, Batches1024, time_interners};
+use crate::shared::{Walk, open_log, read_all, time_copying, time_log};
+use crate::single::{FrozenTexts, keys_at, resolve_frozen};
 use crate::{single, sized};
+use crate::texts::{Form, Lines, Sample, jumped, random_positions};
+use crate::timing::Table;
 use anyhow::{Context, Result, ensure};
 use std::rt::Clock;
 use std::sync::Wait;
@@ -81,7 +75,7 @@ fn print_resolved<T: FrozenTexts, R: AllocGlobal + Print>(
     texts: &T,
 ) -> Result<()> {
     let keys = keys_at(rt.alloc(), texts, &[1, 2, 0, 1])?;
-    print_answers(rt, name, &[keys.len(), resolve_all(texts, &keys)])
+    print_answers(rt, name, &[keys.len(), resolve_frozen(texts, &keys)])
 }
 
 // Times what threads share over a few lines, and prints what is known of these and what calls answer.

@@ -1,15 +1,13 @@
-//! Replays commands on the frozen forms of a script's interner.
-
-use crate::compared::{compare_reader, compare_resolver};
+//! Replays commands on the frozen forms of a script's interner, walks over texts, and compares an interner and its
+//! frozen forms with those of another list.
 use crate::lines::{Call, Question};
-use crate::replay::split_at_freeze;
+use crate::replay::{Interner, of_texts, split_at_freeze};
 use crate::replies::{
-    write_debug, write_flag, write_found, write_no_call, write_number, write_pairs, write_resolved,
-    write_saved, write_text,
+    write_debug, write_flag, write_flags, write_found, write_left, write_no_call, write_number,
+    write_pair, write_pairs, write_refusal, write_resolved, write_saved, write_text,
 };
-use crate::rodeo_lines::{Look, RodeoCommand};
-use crate::walks::{walk_pairs, walk_strings};
-use lasso::{Key, RodeoReader, RodeoResolver};
+use crate::rodeo_lines::{Look, Move, RodeoCommand};
+use lasso::{Iter, Key, LassoResult, RodeoReader, RodeoResolver, Strings};
 use std::alloc::Global;
 use std::hash::BuildHasher;
 use std::io;
@@ -168,4 +166,178 @@ fn look_at_resolver<K: Key, S: BuildHasher + Default + Drop, W: Write>(
         Look::Debug => write_debug(alloc, out, resolver),
         Look::Compare(texts) => compare_resolver::<K, S, W>(alloc, resolver, texts, out),
     }
+}
+
+// Makes the calls of walks over an interner's texts.
+
+// The moves before the first copy, and those after it, if there is one.
+fn split_at_copy(moves: &[Move]) -> (&[Move], Option<&[Move]>) {
+    for at in 0..moves.len() {
+        if matches!(moves[at], Move::Copy) {
+            return (&moves[..at], Some(&moves[at + 1..]));
+        }
+    }
+    (moves, None)
+}
+
+/// Makes the calls of a walk over keys and texts, and writes the reply to each.
+pub fn walk_pairs<K: Key, W: Write>(
+    out: &mut W,
+    mut walk: Iter<'_, K>,
+    moves: &[Move],
+) -> io::Result<()> {
+    let (before, after) = split_at_copy(moves);
+    each_of_pairs(out, &mut walk, before)?;
+    if let Some(after) = after {
+        let mut copy = walk.clone()?;
+        each_of_pairs(out, &mut walk, after)?;
+        each_of_pairs(out, &mut copy, after)?;
+    }
+    Ok(())
+}
+
+fn each_of_pairs<K: Key, W: Write>(
+    out: &mut W,
+    walk: &mut Iter<'_, K>,
+    moves: &[Move],
+) -> io::Result<()> {
+    for step in moves {
+        move_pairs(out, walk, *step)?;
+    }
+    Ok(())
+}
+
+fn move_pairs<K: Key, W: Write>(out: &mut W, walk: &mut Iter<'_, K>, step: Move) -> io::Result<()> {
+    match step {
+        Move::Next => write_pair(out, walk.next()),
+        Move::Back => write_pair(out, walk.next_back()),
+        Move::Nth(number) => write_pair(out, walk.nth(number)),
+        Move::NthBack(number) => write_pair(out, walk.nth_back(number)),
+        Move::Left => write_left(out, walk.len(), walk.size_hint()),
+        Move::Copy => Ok(()),
+    }
+}
+
+/// Makes the calls of a walk over texts, and writes the reply to each.
+pub fn walk_strings<K: Key, W: Write>(
+    out: &mut W,
+    mut walk: Strings<'_, K>,
+    moves: &[Move],
+) -> io::Result<()> {
+    let (before, after) = split_at_copy(moves);
+    each_of_strings(out, &mut walk, before)?;
+    if let Some(after) = after {
+        let mut copy = walk.clone()?;
+        each_of_strings(out, &mut walk, after)?;
+        each_of_strings(out, &mut copy, after)?;
+    }
+    Ok(())
+}
+
+fn each_of_strings<K: Key, W: Write>(
+    out: &mut W,
+    walk: &mut Strings<'_, K>,
+    moves: &[Move],
+) -> io::Result<()> {
+    for step in moves {
+        move_strings(out, walk, *step)?;
+    }
+    Ok(())
+}
+
+fn move_strings<K: Key, W: Write>(
+    out: &mut W,
+    walk: &mut Strings<'_, K>,
+    step: Move,
+) -> io::Result<()> {
+    match step {
+        Move::Next => write_text(out, walk.next()),
+        Move::Back => write_text(out, walk.next_back()),
+        Move::Nth(number) => write_text(out, walk.nth(number)),
+        Move::NthBack(number) => write_text(out, walk.nth_back(number)),
+        Move::Left => write_left(out, walk.len(), walk.size_hint()),
+        Move::Copy => Ok(()),
+    }
+}
+
+// Compares an interner and its frozen forms with those of another list of texts.
+
+/// Whether a form equals another interner, its reader and its resolver, and differs from the one of its kind.
+type Flags = (bool, bool, bool, bool);
+
+fn write_compared<W: Write>(out: &mut W, flags: LassoResult<Flags>) -> io::Result<()> {
+    match flags {
+        Ok(flags) => write_flags(out, flags),
+        Err(error) => write_refusal(out, error.kind()),
+    }
+}
+
+/// Compares the interner, and writes the flags.
+pub fn compare_rodeo<K: Key, S: BuildHasher + Default + Drop, W: Write>(
+    alloc: Global,
+    rodeo: &Interner<K, S>,
+    texts: &Vec<String>,
+    out: &mut W,
+) -> io::Result<()> {
+    write_compared(out, rodeo_flags(rodeo, of_texts(alloc, texts)))
+}
+
+fn rodeo_flags<K: Key, S: BuildHasher + Default + Drop>(
+    rodeo: &Interner<K, S>,
+    other: LassoResult<Interner<K, S>>,
+) -> LassoResult<Flags> {
+    let other = other?;
+    let (is_equal, differs) = (*rodeo == other, *rodeo != other);
+    let reader = other.into_reader();
+    let is_reader = rodeo.eq_reader(&reader);
+    let is_resolver = rodeo.eq_resolver(&reader.into_resolver());
+    Ok((is_equal, is_reader, is_resolver, differs))
+}
+
+/// Compares the reader, and writes the flags.
+pub fn compare_reader<K: Key, S: BuildHasher + Default + Drop, W: Write>(
+    alloc: Global,
+    reader: &RodeoReader<K, S, Global>,
+    texts: &Vec<String>,
+    out: &mut W,
+) -> io::Result<()> {
+    write_compared(out, reader_flags(reader, of_texts(alloc, texts)))
+}
+
+fn reader_flags<K: Key, S: BuildHasher + Default + Drop>(
+    reader: &RodeoReader<K, S, Global>,
+    other: LassoResult<Interner<K, S>>,
+) -> LassoResult<Flags> {
+    let other = other?;
+    let is_rodeo = reader.eq_rodeo(&other);
+    let other = other.into_reader();
+    let (is_equal, differs) = (*reader == other, *reader != other);
+    let is_resolver = reader.eq_resolver(&other.into_resolver());
+    Ok((is_rodeo, is_equal, is_resolver, differs))
+}
+
+/// Compares the resolver, and writes the flags.
+pub fn compare_resolver<K: Key, S: BuildHasher + Default + Drop, W: Write>(
+    alloc: Global,
+    resolver: &RodeoResolver<K, Global>,
+    texts: &Vec<String>,
+    out: &mut W,
+) -> io::Result<()> {
+    write_compared(
+        out,
+        resolver_flags::<K, S>(resolver, of_texts(alloc, texts)),
+    )
+}
+
+fn resolver_flags<K: Key, S: BuildHasher + Default + Drop>(
+    resolver: &RodeoResolver<K, Global>,
+    other: LassoResult<Interner<K, S>>,
+) -> LassoResult<Flags> {
+    let other = other?;
+    let is_rodeo = resolver.eq_rodeo(&other);
+    let other = other.into_reader();
+    let is_reader = resolver.eq_reader(&other);
+    let other = other.into_resolver();
+    let (is_equal, differs) = (*resolver == other, *resolver != other);
+    Ok((is_rodeo, is_reader, is_equal, differs))
 }

@@ -5,22 +5,15 @@
 //! status 3 and no output.
 #![tactic(auto)]
 
-mod compared;
-mod errors;
 mod frozen;
-mod json_lines;
-mod key_types;
 mod lines;
 mod parts;
-mod read_json;
 mod replay;
-mod replay_shared;
 mod replies;
 mod rodeo_lines;
 mod scripts;
-mod walks;
 
-use errors::InputError;
+use lines::InputError;
 use parts::{Part, parse_parts};
 use std::alloc::Global;
 use std::io;

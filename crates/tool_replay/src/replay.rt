@@ -1,15 +1,12 @@
-//! Replays a script on a `Rodeo`, and after `freeze` on its frozen forms.
-
-use crate::compared::compare_rodeo;
-use crate::frozen::replay_reader;
+//! Replays a script on a `Rodeo`, and after `freeze` on its frozen forms, or on a `ThreadedRodeo` by one thread.
+use crate::frozen::{compare_rodeo, replay_reader, walk_pairs, walk_strings};
 use crate::lines::{Call, Question};
 use crate::replies::{
     write_debug, write_flag, write_found, write_interned, write_json_error, write_no_call,
     write_number, write_outcome, write_pairs, write_resolved, write_saved, write_text,
 };
 use crate::rodeo_lines::{Change, Look, RodeoCommand, Way};
-use crate::walks::{walk_pairs, walk_strings};
-use lasso::{Key, LassoResult, MemoryLimits, Rodeo};
+use lasso::{FixedState, Key, LassoResult, MemoryLimits, Rodeo, ThreadedRodeo};
 use lasso_single::keyword_lists::are_distinct;
 use serde_json::Value;
 use std::alloc::{AllocError, Global};
@@ -17,6 +14,7 @@ use std::hash::BuildHasher;
 use std::io;
 use std::io::Write;
 use std::mem::replace;
+use std::sync::Wait;
 
 /// An interner of a script.
 pub type Interner<K, S> = Rodeo<K, S, Global>;
@@ -262,4 +260,70 @@ fn look_at<K: Key, S: BuildHasher + Default + Drop, W: Write>(
         Look::Debug => write_debug(alloc, out, rodeo),
         Look::Compare(texts) => compare_rodeo(alloc, rodeo, texts, out),
     }
+}
+
+// Replays a script on a `ThreadedRodeo`, by one thread.
+
+type SharedInterner<K> = ThreadedRodeo<K, FixedState>;
+
+/// Makes one call, and writes its reply.
+pub fn replay_shared_call<R: Wait, K: Key, W: Write>(
+    rt: &R,
+    interner: &SharedInterner<K>,
+    call: &Call,
+    out: &mut W,
+) -> io::Result<()> {
+    match call {
+        Call::Ask(question) => answer_shared(rt, interner, question, out),
+        Call::Intern(text) => write_interned(out, interner.try_get_or_intern(rt, text.as_str())),
+        Call::Limit(bytes) => {
+            interner.set_memory_limits(rt, MemoryLimits::new(*bytes));
+            write_outcome(out, Ok(()))
+        }
+        Call::Extend(texts) => write_outcome(out, intern_all_shared(rt, interner, texts)),
+    }
+}
+
+// Writes the reply to a question.
+fn answer_shared<R: Wait, K: Key, W: Write>(
+    rt: &R,
+    interner: &SharedInterner<K>,
+    question: &Question,
+    out: &mut W,
+) -> io::Result<()> {
+    match question {
+        Question::Get(text) => write_found(out, interner.get(rt, text.as_str())),
+        Question::Contains(text) => write_flag(out, interner.contains(rt, text.as_str())),
+        Question::Has(number) => write_flag(out, has_shared_key(interner, *number)),
+        Question::Resolve(number) => write_text(out, text_of_shared(interner, *number)),
+        Question::Len => write_number(out, interner.len()),
+        Question::Usage => write_number(out, interner.current_memory_usage(rt)),
+        Question::Max => write_number(out, interner.max_memory_usage(rt)),
+    }
+}
+
+// Whether the number has a key, and the key a text.
+fn has_shared_key<K: Key>(interner: &SharedInterner<K>, number: usize) -> bool {
+    match K::try_from_usize(number) {
+        Some(key) => interner.contains_key(key),
+        None => false,
+    }
+}
+
+// The text of the key with this number.
+fn text_of_shared<K: Key>(interner: &SharedInterner<K>, number: usize) -> Option<&str> {
+    let key = K::try_from_usize(number)?;
+    interner.try_resolve(key)
+}
+
+// Interns the texts in order, up to the first that is refused.
+fn intern_all_shared<R: Wait, K: Key>(
+    rt: &R,
+    interner: &SharedInterner<K>,
+    texts: &Vec<String>,
+) -> LassoResult<()> {
+    for text in texts {
+        interner.try_get_or_intern(rt, text.as_str())?;
+    }
+    Ok(())
 }

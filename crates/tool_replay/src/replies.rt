@@ -1,10 +1,9 @@
 //! Writes replies, each as a line.
-
 use lasso::{Iter, JsonError, Key, LassoErrorKind, LassoResult, Strings};
 use serde_json::Value;
 use std::alloc::Global;
-use std::io::Write;
 use std::{fmt, io};
+use std::io::Write;
 
 /// `key N`, or the refusal.
 pub fn write_interned<K: Key, W: Write>(out: &mut W, outcome: LassoResult<K>) -> io::Result<()> {

@@ -1,10 +1,7 @@
 //! Scripts: a header, and a command in each line after it.
-
-use crate::errors::Reason;
-use crate::key_types::{KeyType, Replayed, parse_key_type};
-use crate::lines::{Call, parse_call, parse_limit, parse_number};
-use crate::replay::replay_rodeo;
-use crate::replay_shared::replay_shared_call;
+use crate::lines::{Call, Reason, parse_call, parse_limit, parse_number};
+use crate::parts::{KeyType, Replayed, parse_key_type};
+use crate::replay::{replay_rodeo, replay_shared_call};
 use crate::rodeo_lines::{RodeoCommand, parse_command};
 use lasso::{Capacity, FixedState, Key, LassoResult, MemoryLimits, Rodeo, ThreadedRodeo};
 use std::alloc::{AllocError, Global};

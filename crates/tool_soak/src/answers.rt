@@ -1,13 +1,13 @@
 //! Random calls of a thread by its pass, and what they answer.
 ghost use Rattle.std.specs.Prelude.{◌≡◌};
 
-use crate::batches::answer_batch;
+use crate::rounds::answer_batch;
 use crate::texts::{Texts, fixed_count, fixed_text};
-use lasso::log::Pass;
 use lasso::{FixedState, Key, LassoErrorKind, LassoResult, MemoryLimits, ThreadedRodeo};
+use lasso::log::Pass;
 use std::alloc::AllocError;
 use std::sync::Wait;
-use test_common::draws::Draws;
+use test_common::texts::Draws;
 
 // A limit that is set a little above a usage is less than this number of bytes above it.
 const LITTLE: usize = 64;

@@ -3,10 +3,10 @@
 //! The answers of a pass are gone through from the first to the last. What earlier ones show is the least that a later one may be about,
 //! and what later ones show is the most. The limits that can have been in force are those of all threads, as far as their times may meet.
 use crate::answers::Answer;
-use crate::bounds::{Bound, Setter, least_after, most_bounds, most_texts};
-use crate::frozen::Frozen;
-use crate::reigns::{Reign, ended, note_reigns};
-use crate::texts::Texts;
+use crate::bounds::{
+    Bound, Reign, Setter, ended, least_after, most_bounds, most_texts, note_reigns,
+};
+use crate::texts::{Frozen, Texts};
 use anyhow::{Error, Result, anyhow};
 use lasso::{Key, LassoErrorKind};
 use std::alloc::{AllocError, Global};

@@ -3,19 +3,14 @@
 #![tactic(auto)]
 
 mod answers;
-mod batches;
 mod bounds;
 mod checker;
-mod frozen;
-mod passes;
-mod reigns;
 mod rounds;
 mod texts;
 mod verdicts;
 
 use anyhow::{Result, bail, ensure};
-use passes::THREADS;
-use rounds::{calls_in_round, rounds_in};
+use rounds::{THREADS, calls_in_round, rounds_in};
 use std::env;
 use std::rt::Clock;
 use std::sync::Wait;

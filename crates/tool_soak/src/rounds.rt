@@ -1,19 +1,23 @@
-//! Rounds of random calls that threads make of one interner, and whether one list explains all answers.
+//! Rounds of random calls that threads make of one interner, each by a pass of its own, also about many texts, and whether
+//! one list explains all answers.
 ghost use Rattle.std.specs.Prelude.{◌≡◌};
+ghost use Rattle.lasso_log.specs.Views.{PassView, SnapshotView, InternerId};
 
-use crate::answers::{Answer, Limits, readings};
+use crate::answers::{Answer, Limits, answers, readings};
 use crate::checker::{Round, check};
-use crate::frozen::Frozen;
-use crate::passes::{Found, THREADS, Work, by_all};
-use crate::texts::Texts;
+use crate::texts::{Frozen, Texts};
 use anyhow::{Result, bail, ensure};
-use lasso::log::Pass;
-use lasso::{Capacity, FixedState, Key, MemoryLimits, MicroSpur, RodeoReader, Spur, ThreadedRodeo};
+use lasso::{
+    Capacity, FixedState, Key, LassoErrorKind, MemoryLimits, MicroSpur, RodeoReader, Spur,
+    ThreadedRodeo,
+};
+use lasso::log::{Pass, Snapshot};
 use std::alloc::{AllocError, Global};
 use std::rt::Clock;
 use std::sync::Wait;
-use std::thread::Threads;
+use std::thread::{Threads, map_indices};
 use std::time::Instant;
+use test_common::texts::Draws;
 
 // The bytes of the first bucket.
 const FIRST: usize = 16;
@@ -174,4 +178,198 @@ fn with_end(answers: Vec<Answer>, last: [Answer; 3]) -> Result<Vec<Answer>, Allo
         answers.push(answer)?;
     }
     Ok(answers)
+}
+
+// The threads of a round: each makes random calls by a pass of its own, and in the end one pass has seen what all of them had.
+
+/// How many threads make calls at once.
+pub const THREADS: usize = 4;
+
+/// What the threads of a round do. Where one thread alone sets limits, `setter` is its number.
+#[derive(Clone, Copy)]
+pub struct Work<'a> {
+    pub texts: &'a Texts,
+    pub limits: Limits,
+    pub setter: Option<usize>,
+    pub seed: u64,
+    pub calls: u32,
+}
+
+/// The answers of a thread, or none when out of memory.
+pub type Found = Result<Vec<Answer>, AllocError>;
+
+// What a thread found, and what its pass has seen of the interner.
+#[derive(Drop)]
+struct Told<K: Key> {
+    found: Found,
+    known: Snapshot<K>,
+}
+
+// Makes random calls of the interner by a pass of its own, which keeps hints, as the thread of this number.
+fn by_one<K: Key, R: AllocGlobal + Wait>(
+    rt: &R,
+    rodeo: &ThreadedRodeo<K, FixedState>,
+    work: Work<'_>,
+    thread: usize,
+) -> Told<K>
+    ensures { result.known.of ≡ rodeo.now }
+{
+    let mut pass = rodeo.pass_with_hints(rt.alloc());
+    let seed = work
+        .seed
+        .wrapping_mul(THREADS as u64)
+        .wrapping_add(thread as u64);
+    let limits = Limits {
+        set: work.setter.is_none_or(|setter| setter == thread),
+        ..work.limits
+    };
+    let found = answers(rt, rodeo, &mut pass, work.texts, limits, seed, work.calls);
+    Told {
+        found,
+        known: pass.snapshot(),
+    }
+}
+
+/// Has the threads make random calls of the interner at once, and gives the answers of each. Where a thread
+/// can't be started, the caller makes its calls. The pass has then seen what those of all threads had. The
+/// only error is out of memory.
+pub fn by_all<K: Key + Send + Sync, R: AllocGlobal + Threads + Wait + Sync>(
+    rt: &R,
+    rodeo: &ThreadedRodeo<K, FixedState>,
+    pass: &mut Pass<K>,
+    work: Work<'_>,
+) -> Result<Vec<Found>, AllocError>
+    requires { pass.old.of ≡ rodeo.now }
+    ensures { pass.new.of ≡ rodeo.now }
+{
+    let make_calls = move |thread: usize| -> Told<K>
+        ensures { result.known.of ≡ rodeo.entry.now }
+    { by_one(rt, rodeo, work, thread) };
+    let told = map_indices(rt, rt.alloc(), THREADS, &make_calls)?;
+    for thread in 0..told.len() {
+        pass.learn(&told[thread].known);
+    }
+    found_of(rt.alloc(), told)
+}
+
+// The answers of each thread.
+fn found_of<K: Key>(alloc: Global, told: Vec<Told<K>>) -> Result<Vec<Found>, AllocError> {
+    let mut found = Vec::new(alloc);
+    for one in told {
+        found.push(one.found)?;
+    }
+    Ok(found)
+}
+
+// Random calls about many texts by a pass, and what they answer for each text.
+
+// A batch has fewer texts than this.
+const MOST: usize = 150;
+
+/// Interns or looks up the texts of a random batch, and adds an answer for each, to the first refusal. A key that is missing without a
+/// refusal is told as out of memory. The only error is out of memory.
+pub fn answer_batch<K: Key, R: AllocGlobal + Wait>(
+    rt: &R,
+    rodeo: &ThreadedRodeo<K, FixedState>,
+    pass: &mut Pass<K>,
+    texts: &Texts,
+    draws: &mut Draws,
+    answers: &mut Vec<Answer>,
+) -> Result<(), AllocError>
+    requires { pass.old.of ≡ rodeo.now }
+    ensures { pass.new.of ≡ pass.old.of }
+{
+    let numbers = random_numbers(rt.alloc(), texts.count(), draws)?;
+    let mut batch = Vec::new(rt.alloc());
+    for number in &numbers {
+        batch.push(texts.text(*number))?;
+    }
+    if draws.below(2) == 0 {
+        intern_batch(rt, rodeo, pass, &numbers, &batch, answers)
+    } else {
+        find_batch(rt, rodeo, pass, &numbers, &batch, answers)
+    }
+}
+
+// Numbers of texts, below `count` or, so that they often repeat, below a smaller number.
+fn random_numbers(
+    alloc: Global,
+    count: usize,
+    draws: &mut Draws,
+) -> Result<Vec<usize>, AllocError> {
+    let below = draws.below(count).saturating_add(1);
+    let mut numbers = Vec::new(alloc);
+    for _ in 0..draws.below(MOST) {
+        numbers.push(draws.below(below))?;
+    }
+    Ok(numbers)
+}
+
+// Interns copies of the texts, which have these numbers.
+fn intern_batch<K: Key, R: AllocGlobal + Wait>(
+    rt: &R,
+    rodeo: &ThreadedRodeo<K, FixedState>,
+    pass: &mut Pass<K>,
+    numbers: &[usize],
+    texts: &[&str],
+    answers: &mut Vec<Answer>,
+) -> Result<(), AllocError>
+    requires { pass.old.of ≡ rodeo.now }
+    ensures { pass.new.of ≡ pass.old.of }
+{
+    let mut keys = Vec::new(rt.alloc());
+    let kind = match rodeo.try_get_or_intern_all_as(rt, pass, texts, &mut keys) {
+        Ok(()) => LassoErrorKind::FailedAllocation,
+        Err(error) => error.kind(),
+    };
+    for place in 0..numbers.len() {
+        let text = numbers[place];
+        let Some(key) = keys.get(place) else {
+            answers.push(refused(text, kind))?;
+            return Ok(());
+        };
+        answers.push(Answer::Interned {
+            text,
+            position: key.into_usize(),
+        })?;
+    }
+    Ok(())
+}
+
+// Looks up the texts, which have these numbers.
+fn find_batch<K: Key, R: AllocGlobal + Wait>(
+    rt: &R,
+    rodeo: &ThreadedRodeo<K, FixedState>,
+    pass: &mut Pass<K>,
+    numbers: &[usize],
+    texts: &[&str],
+    answers: &mut Vec<Answer>,
+) -> Result<(), AllocError>
+    requires { pass.old.of ≡ rodeo.now }
+    ensures { pass.new.of ≡ pass.old.of }
+{
+    let mut keys = Vec::new(rt.alloc());
+    let _ = rodeo.get_all_as(rt, pass, texts, &mut keys);
+    for place in 0..numbers.len() {
+        let text = numbers[place];
+        let Some(found) = keys.get(place) else {
+            answers.push(refused(text, LassoErrorKind::FailedAllocation))?;
+            return Ok(());
+        };
+        let position = match *found {
+            Some(key) => Some(key.into_usize()),
+            None => None,
+        };
+        answers.push(Answer::Found { text, position })?;
+    }
+    Ok(())
+}
+
+// A copy of the text was refused.
+const fn refused(text: usize, kind: LassoErrorKind) -> Answer {
+    Answer::Refused {
+        text,
+        copied: true,
+        kind,
+    }
 }

@@ -3,8 +3,7 @@
 //! The list is `5`, the empty text and `1`. The round began with 16 bytes and a limit of 1000, and ended with 48 bytes.
 use crate::answers::{Answer, sum_with};
 use crate::checker::{Round, check};
-use crate::frozen::Frozen;
-use crate::texts::Texts;
+use crate::texts::{Frozen, Texts};
 use anyhow::Result;
 use lasso::{LassoErrorKind, Spur};
 

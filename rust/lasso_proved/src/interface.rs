@@ -1,7 +1,6 @@
 //! The interfaces of interners, for code that serves any of them.
 
-mod forwarded;
-mod interners;
+mod implementations;
 
 use crate::{Key, LassoResult, Spur};
 

@@ -1,7 +1,6 @@
 //! The interner.
 
-mod clones;
-mod conversions;
+mod collections;
 
 use crate::error::or_panic;
 use crate::foreign::{Handle, Seed, SharedHandle};

@@ -1,9 +1,9 @@
 //! Whole lists of interners that threads share: walked, written, frozen, and compared with other forms.
-
-use crate::refused::calls::{extend_once, read_once, single_of, threaded_of};
 use crate::refused::json::write;
-use crate::refused::retried::{Refused, is_so, retried, second_value};
-use crate::refused::scenarios::{Interner, Scenario, State, Step, Way, position_of, shows};
+use crate::refused::makers::{Interner, Scenario, State, Step, Way, position_of, shows};
+use crate::refused::{
+    Refused, extend_once, is_so, read_once, retried, second_value, single_of, threaded_of,
+};
 use lasso::{
     FixedState, Key, LassoErrorKind, MemoryLimits, Rodeo, RodeoReader, RodeoResolver, Spur,
     ThreadedRodeo,

@@ -1,8 +1,8 @@
 //! An interner that threads share: interning texts, freezing, and filling from an iterator.
-
-use crate::refused::calls::{extend_once, read_once, resolve_once, threaded_of};
-use crate::refused::retried::{Refused, is_so, retried, second_value};
-use crate::refused::scenarios::{Interner, Reply, Scenario, State, Step, Way, shows};
+use crate::refused::makers::{Interner, Reply, Scenario, State, Step, Way, shows};
+use crate::refused::{
+    Refused, extend_once, is_so, read_once, resolve_once, retried, second_value, threaded_of,
+};
 use lasso::{FixedState, Key, LassoErrorKind, RodeoReader, RodeoResolver, Spur, ThreadedRodeo};
 use std::alloc::Global;
 use std::process::Abort;

@@ -3,8 +3,7 @@ ghost use Rattle.std.specs.Prelude.{◌≡◌, ◌∷◌, [], IfOk, codes};
 ghost use Rattle.lasso_log.specs.Views.{InternerId, PassView, list_of};
 
 use crate::checks::is_so;
-use crate::log::given_back::add;
-use crate::log::opened::opens;
+use crate::log::{add, opens};
 use lasso_log::log::{Log, NewLog, Pass, Spine};
 use lasso_parts::keys::Spur;
 use lasso_parts::util::{LassoError, LassoErrorKind, LassoResult};

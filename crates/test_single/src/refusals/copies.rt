@@ -1,6 +1,6 @@
 //! `clone` and `clone_from`.
-use super::*;
-use crate::checks::{LIMIT, is_kind, refusal_of};
+use crate::interners::{LIMIT, is_kind, refusal_of};
+use crate::refusals::*;
 
 type Spurred<A> = Metered<Spur, A>;
 

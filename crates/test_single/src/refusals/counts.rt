@@ -1,6 +1,6 @@
 //! `allocated_bytes` of an interner and of its frozen forms is what the allocator gave out.
-use super::*;
-use crate::checks::is_so_at;
+use crate::interners::is_so_at;
+use crate::refusals::*;
 use lasso_parts::keys::{LargeSpur, MicroSpur, MiniSpur};
 
 static TEXTS: [&str; 10] = [

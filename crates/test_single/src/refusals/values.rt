@@ -1,6 +1,6 @@
 //! Interners read from JSON, and written with the global allocator.
-use super::*;
-use crate::checks::is_text;
+use crate::interners::is_text;
+use crate::refusals::*;
 use lasso_parts::json::{JsonError, JsonKey};
 use lasso_single::reader::RodeoReader;
 use lasso_single::resolver::RodeoResolver;

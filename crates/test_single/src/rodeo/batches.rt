@@ -3,12 +3,11 @@
 //! are 1,048,576. A batch of 32 that is interned or taken is looked ahead at if at least 8 texts of the one before
 //! were present and far; one that `get_all` looks up, if the text before it was present, or if the index has
 //! 4,194,304 bytes.
-
-use super::lists::stand_for;
-use crate::checks::{LIMIT, is_answer, is_kind, is_so, is_so_at, key_at, refusal_of, told};
 use crate::interners::{
-    Small, SpurReader, SpurResolver, copied, frozen, has_count, interner, of_texts, resolving,
+    LIMIT, Small, SpurReader, SpurResolver, copied, frozen, has_count, interner, is_answer,
+    is_kind, is_so, is_so_at, key_at, of_texts, refusal_of, resolving, told,
 };
+use crate::rodeo::lists::stand_for;
 use lasso_parts::keys::{Key, Spur};
 use lasso_parts::util::Capacity;
 use lasso_single::batch::{Batch, get_next, intern_next, look_ahead};

@@ -1,0 +1,211 @@
+//! What the callers of one interner with two passes can rely on. The contract of each function follows from
+//! those of the calls, by the laws of `lasso_shared::laws`.
+ghost use Rattle.std.specs.Prelude.{◌≡◌, ◌≢◌, ◌↔◌, Some, IsTrue, IfOk, option_map};
+
+use crate::checks::{is_so, runs};
+use lasso_log::log::Pass;
+use lasso_parts::keys::{Key, Spur};
+use lasso_parts::util::{FixedState, LassoResult};
+use lasso_shared::laws::{
+    answered_keys_resolve, calls_tell_keys, keys_are_equal_where_texts_are, passes_share_keys,
+    seen_texts_keep_keys,
+};
+use lasso_shared::threaded::ThreadedRodeo;
+use std::process::Abort;
+use std::sync::Wait;
+use std::test::*;
+use test_steps::calls::{Shared, made, pass_of};
+use test_steps::makers::Maker;
+use test_steps::steps::Step::ByOne;
+use test_steps::steps::{Call, Step};
+
+// Interns the text by one pass, and resolves its key by another, which has met the first.
+fn resolved_by_another<'a, R: Wait>(
+    rt: &R,
+    shared: &'a ThreadedRodeo<Spur, FixedState>,
+    one: &mut Pass<Spur>,
+    other: &mut Pass<Spur>,
+    text: &'static str,
+) -> LassoResult<Option<&'a str>>
+    requires of { (one.old.of ≡ shared.now) × (other.old.of ≡ shared.now) }
+    ensures of { (one.new.of ≡ shared.now) × (other.new.of ≡ shared.now) }
+    ensures text { IfOk result (λ found. option_map (λ t. t.now) found ≡ Some text.now) }
+{
+    let key = shared.try_get_or_intern_static_as(rt, one, text)?;
+    other.meet(one);
+    passes_share_keys::<Spur>();
+    answered_keys_resolve::<Spur>();
+    Ok(shared.try_resolve_as(other, key))
+}
+
+// Interns the text by one pass, and again by another, which has met the first.
+fn interned_by_both<R: Wait>(
+    rt: &R,
+    shared: &ThreadedRodeo<Spur, FixedState>,
+    one: &mut Pass<Spur>,
+    other: &mut Pass<Spur>,
+    text: &'static str,
+) -> LassoResult<(Spur, Option<Spur>)>
+    requires of { (one.old.of ≡ shared.now) × (other.old.of ≡ shared.now) }
+    ensures of { (one.new.of ≡ shared.now) × (other.new.of ≡ shared.now) }
+    ensures same { IfOk result (λ keys. keys.1 ≡ Some keys.0) }
+{
+    let key = shared.try_get_or_intern_static_as(rt, one, text)?;
+    other.meet(one);
+    calls_tell_keys::<Spur>();
+    seen_texts_keep_keys::<Spur>();
+    passes_share_keys::<Spur>();
+    let again = shared.try_get_or_intern_static_as(rt, other, text);
+    Ok((key, again.ok()))
+}
+
+// Interns a text by each of two passes. Returns whether the two texts have the same key.
+fn have_one_key<R: Wait>(
+    rt: &R,
+    shared: &ThreadedRodeo<Spur, FixedState>,
+    one: &mut Pass<Spur>,
+    other: &mut Pass<Spur>,
+    text: &'static str,
+    word: &'static str,
+) -> LassoResult<bool>
+    requires of { (one.old.of ≡ shared.now) × (other.old.of ≡ shared.now) }
+    ensures of { (one.new.of ≡ shared.now) × (other.new.of ≡ shared.now) }
+    ensures same { IfOk result (λ same. IsTrue same ↔ (text.now ≡ word.now)) }
+{
+    let key = shared.try_get_or_intern_static_as(rt, one, text)?;
+    let other_key = shared.try_get_or_intern_static_as(rt, other, word)?;
+    one.prove_comparable(other);
+    passes_share_keys::<Spur>();
+    calls_tell_keys::<Spur>();
+    keys_are_equal_where_texts_are::<Spur>();
+    Ok(key == other_key)
+}
+
+// Does nothing. Its contract shows that the passes have different numbers.
+fn numbers_differ(
+    shared: &ThreadedRodeo<Spur, FixedState>,
+    one: &mut Pass<Spur>,
+    other: &mut Pass<Spur>,
+)
+    requires of { (one.old.of ≡ shared.now) × (other.old.of ≡ shared.now) }
+    ensures of { (one.new.of ≡ shared.now) × (other.new.of ≡ shared.now) }
+    ensures numbers { one.new.number ≢ other.new.number }
+{
+    let _ = shared;
+    one.prove_differs(other);
+}
+
+// Interns the text by one pass. Returns whether the other resolves its key to it.
+fn resolves<R: Wait>(
+    rt: &R,
+    shared: &Shared,
+    one: &mut Pass<Spur>,
+    other: &mut Pass<Spur>,
+    text: &'static str,
+) -> LassoResult<bool>
+    requires of { (one.old.of ≡ shared.now) × (other.old.of ≡ shared.now) }
+    ensures of { (one.new.of ≡ shared.now) × (other.new.of ≡ shared.now) }
+{
+    Ok(resolved_by_another(rt, shared, one, other, text)? == Some(text))
+}
+
+// Interns the text by both passes. Returns its number if both calls return the same key.
+fn number_by_both<R: Wait>(
+    rt: &R,
+    shared: &Shared,
+    one: &mut Pass<Spur>,
+    other: &mut Pass<Spur>,
+    text: &'static str,
+) -> LassoResult<Option<usize>>
+    requires of { (one.old.of ≡ shared.now) × (other.old.of ≡ shared.now) }
+    ensures of { (one.new.of ≡ shared.now) × (other.new.of ≡ shared.now) }
+{
+    let (key, again) = interned_by_both(rt, shared, one, other, text)?;
+    Ok(if again == Some(key) {
+        Some(key.into_usize())
+    } else {
+        None
+    })
+}
+
+// The same as `have_one_key`, without its clause `same`.
+fn one_key<R: Wait>(
+    rt: &R,
+    shared: &Shared,
+    one: &mut Pass<Spur>,
+    other: &mut Pass<Spur>,
+    text: &'static str,
+    word: &'static str,
+) -> LassoResult<bool>
+    requires of { (one.old.of ≡ shared.now) × (other.old.of ≡ shared.now) }
+    ensures of { (one.new.of ≡ shared.now) × (other.new.of ≡ shared.now) }
+{
+    have_one_key(rt, shared, one, other, text, word)
+}
+
+// Whether each pass finds what the other interned.
+fn find_each_other<R: Wait>(
+    rt: &R,
+    shared: &Shared,
+    one: &mut Pass<Spur>,
+    other: &mut Pass<Spur>,
+) -> LassoResult<bool>
+    requires of { (one.old.of ≡ shared.now) × (other.old.of ≡ shared.now) }
+    ensures of { (one.new.of ≡ shared.now) × (other.new.of ≡ shared.now) }
+{
+    let read = resolves(rt, shared, one, other, "p")?;
+    Ok(number_by_both(rt, shared, other, one, "q")? == Some(1) && read)
+}
+
+// Whether two passes give one text one key, and two texts two.
+fn have_their_keys<R: Wait>(
+    rt: &R,
+    shared: &Shared,
+    one: &mut Pass<Spur>,
+    other: &mut Pass<Spur>,
+) -> LassoResult<bool>
+    requires of { (one.old.of ≡ shared.now) × (other.old.of ≡ shared.now) }
+{
+    let same = one_key(rt, shared, one, other, "r", "r")?;
+    Ok(!one_key(rt, shared, other, one, "r", "s")? && same)
+}
+
+// Makes two passes. Fails unless they rely on each other.
+fn rely_on_each_other<R: Wait + Abort>(rt: &R, shared: &Shared) -> LassoResult<()> {
+    let mut one = pass_of(shared);
+    let mut other = pass_of(shared);
+    numbers_differ(shared, &mut one, &mut other);
+    is_so(
+        rt,
+        find_each_other(rt, shared, &mut one, &mut other)?,
+        "the texts",
+    );
+    is_so(
+        rt,
+        have_their_keys(rt, shared, &mut one, &mut other)?,
+        "the keys",
+    );
+    Ok(())
+}
+
+#[test]
+fn two_passes_rely_on_each_other(rt: HostRuntime) -> Result<(), Fail> {
+    let shared = made(rt.alloc())?;
+    rely_on_each_other(&rt, &shared)?;
+    Ok(())
+}
+
+// The pass interns five texts, three of them distinct.
+#[test]
+fn the_position_after_the_last_text_is_empty(rt: HostRuntime) -> Result<(), Fail> {
+    static STEPS: [Step; 7] = [
+        ByOne(Call::Keeps("p", Ok(0))),
+        ByOne(Call::Keeps("q", Ok(1))),
+        ByOne(Call::Keeps("p", Ok(0))),
+        ByOne(Call::Keeps("", Ok(2))),
+        ByOne(Call::Keeps("q", Ok(1))),
+        ByOne(Call::Reads(2, Some(""))),
+        ByOne(Call::Reads(3, None)),
+    ];
+    runs(&rt, Maker::Default, &STEPS)
+}

@@ -1,0 +1,10 @@
+//! What the tests of the interner that threads share have in common: its calls, each in a function of its own or
+//! as a row, rows of cases, and lists of texts.
+#![tactic(auto)]
+
+pub mod calls;
+pub mod cases;
+pub mod makers;
+pub mod passes;
+pub mod steps;
+pub mod texts;

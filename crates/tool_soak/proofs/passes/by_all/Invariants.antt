@@ -1,6 +1,0 @@
-use Rattle.std.proofs.Common.{◌≡◌}
-use Rattle.tool_soak.proofs.passes.by_all.Given as goal
-
--- the pass stays one of the interner
-abbrev pub invariant-loop-thread : goal.invariant-loop-thread
-invariant-loop-thread g l = l.pass.of ≡ l.rodeo
