@@ -31,11 +31,14 @@ use std::alloc::Global;
 /// `NO_MEMORY` out of memory, and the handle is as it was then.
 #[unsafe(no_mangle)]
 pub extern "C" fn lasso_new(alloc: Global, lasso: &mut Lasso, limit: usize) -> u32
+    // On success
     ensures made { result ≡ DONE → IsSome lasso.new.seat.value }
     ensures texts { result ≡ DONE → texts_in lasso.new.seat.value ≡ [] }
     ensures account { result ≡ DONE → account_in lasso.new.seat.value ≡ Some (fresh 4096 limit) }
     ensures first { result ≡ DONE → first_in lasso.new.seat.value ≡ Some 4096 }
     ensures seed { result ≡ DONE → IfSome (seed_in lasso.new.seat.value) IsFixed }
+
+    // On failure
     ensures refused { ¬ (result ≡ DONE) → result ≡ NO_MEMORY }
     ensures kept { ¬ (result ≡ DONE) → lasso.new.seat.value ≡ lasso.old.seat.value }
 {
@@ -46,10 +49,17 @@ pub extern "C" fn lasso_new(alloc: Global, lasso: &mut Lasso, limit: usize) -> u
 /// `LIMIT_REACHED`, `NO_CODE_LEFT` or `NO_MEMORY`. Nothing has changed then.
 #[unsafe(no_mangle)]
 pub extern "C" fn lasso_intern(lasso: &mut Lasso, text: &[u8], code: &mut u32) -> u32
+    // Which status
+    ensures outcome { TextEnds (is_utf8 text.now) lasso.old.seat.value text.now result lasso.new.seat.value }
+
+    // On success
     ensures texts { result ≡ DONE → texts_in lasso.new.seat.value ≡ with_new (texts_in lasso.old.seat.value) text.now }
     ensures code { result ≡ DONE → position_of (texts_in lasso.new.seat.value) text.now ≡ Some code.new }
-    ensures outcome { TextEnds (is_utf8 text.now) lasso.old.seat.value text.now result lasso.new.seat.value }
+
+    // What stays
     ensures seed { seed_in lasso.new.seat.value ≡ seed_in lasso.old.seat.value }
+
+    // On failure
     ensures kept { ¬ (result ≡ DONE) → lasso.new.seat.value ≡ lasso.old.seat.value }
     ensures code_kept { ¬ (result ≡ DONE) → code.new ≡ code.old }
 {
@@ -117,10 +127,17 @@ pub extern "C" fn lasso_intern_batch_nulls(
 /// `NO_SUCH_TEXT` if the text is absent, and writes nothing then.
 #[unsafe(no_mangle)]
 pub extern "C" fn lasso_get(lasso: &mut Lasso, text: &[u8], code: &mut u32) -> u32
+    // Which status
     ensures status { result ≡ outcome_status (text_lookup (is_utf8 text.now) lasso.old.seat.value text.now) }
+
+    // On success
     ensures found { result ≡ DONE → position_of (texts_in lasso.old.seat.value) text.now ≡ Some code.new }
-    ensures code_kept { ¬ (result ≡ DONE) → code.new ≡ code.old }
+
+    // What stays
     ensures kept { lasso.new.seat.value ≡ lasso.old.seat.value }
+
+    // On failure
+    ensures code_kept { ¬ (result ≡ DONE) → code.new ≡ code.old }
 {
     match find_code(lasso, text) {
         Ok(found) => {
@@ -161,10 +178,17 @@ pub extern "C" fn lasso_get_batch(
     codes: &mut [u32],
     report: &mut LassoReport,
 ) -> u32
+    // Which status
     ensures outcome { Reports (lookup_outcome greatest_offset lasso.old.seat.value bytes.now offsets.now (length codes.old)) result report.new }
+
+    // On success
     ensures codes { result ≡ DONE → codes.new ≡ over (codes_or absent (texts_in lasso.old.seat.value) (layout_texts bytes.now offsets.now)) codes.old }
-    ensures codes_kept { ¬ (result ≡ DONE) → codes.new ≡ codes.old }
+
+    // What stays
     ensures kept { lasso.new.seat.value ≡ lasso.old.seat.value }
+
+    // On failure
+    ensures codes_kept { ¬ (result ≡ DONE) → codes.new ≡ codes.old }
 {
     widths::get_batch(lasso, bytes, offsets, absent, codes, report)
 }
@@ -178,12 +202,19 @@ pub extern "C" fn lasso_resolve(
     text: &mut [u8],
     whole: &mut usize,
 ) -> u32
+    // Which status
     ensures status { result ≡ outcome_status (code_lookup lasso.old.seat.value code) }
+
+    // On success
     ensures found { result ≡ DONE → IfSome (slice_get (texts_in lasso.old.seat.value) code) (λ t. CopiesFront t whole.new text.old text.new) }
     ensures present { result ≡ DONE → IsSome (slice_get (texts_in lasso.old.seat.value) code) }
+
+    // What stays
+    ensures kept { lasso.new.seat.value ≡ lasso.old.seat.value }
+
+    // On failure
     ensures text_kept { ¬ (result ≡ DONE) → text.new ≡ text.old }
     ensures whole_kept { ¬ (result ≡ DONE) → whole.new ≡ whole.old }
-    ensures kept { lasso.new.seat.value ≡ lasso.old.seat.value }
 {
     match lasso.interner() {
         Some(interner) => copy_text(&interner.rodeo, code, text, whole),
@@ -202,12 +233,19 @@ pub extern "C" fn lasso_dictionary(
     offsets: &mut [u32],
     report: &mut LassoReport,
 ) -> u32
+    // Which status
     ensures outcome { Reports (dictionary_outcome greatest_offset lasso.old.seat.value from (length offsets.old) (length bytes.old)) result report.new }
+
+    // On success
     ensures bytes { result ≡ DONE → bytes.new ≡ bytes_over (drop from (texts_in lasso.old.seat.value)) bytes.old }
     ensures offsets { result ≡ DONE → offsets.new ≡ offsets_over (drop from (texts_in lasso.old.seat.value)) offsets.old }
+
+    // What stays
+    ensures kept { lasso.new.seat.value ≡ lasso.old.seat.value }
+
+    // On failure
     ensures bytes_kept { ¬ (result ≡ DONE) → bytes.new ≡ bytes.old }
     ensures offsets_kept { ¬ (result ≡ DONE) → offsets.new ≡ offsets.old }
-    ensures kept { lasso.new.seat.value ≡ lasso.old.seat.value }
 {
     widths::dictionary(lasso, from, bytes, offsets, report)
 }

@@ -63,10 +63,17 @@ pub extern "C" fn lasso_get_batch_large(
     codes: &mut [u32],
     report: &mut LassoReport,
 ) -> u32
+    // Which status
     ensures outcome { Reports (lookup_outcome greatest_large_offset lasso.old.seat.value bytes.now offsets.now (length codes.old)) result report.new }
+
+    // On success
     ensures codes { result ≡ DONE → codes.new ≡ over (codes_or absent (texts_in lasso.old.seat.value) (layout_texts bytes.now offsets.now)) codes.old }
-    ensures codes_kept { ¬ (result ≡ DONE) → codes.new ≡ codes.old }
+
+    // What stays
     ensures kept { lasso.new.seat.value ≡ lasso.old.seat.value }
+
+    // On failure
+    ensures codes_kept { ¬ (result ≡ DONE) → codes.new ≡ codes.old }
 {
     widths::get_batch(lasso, bytes, offsets, absent, codes, report)
 }
@@ -80,12 +87,19 @@ pub extern "C" fn lasso_dictionary_large(
     offsets: &mut [u64],
     report: &mut LassoReport,
 ) -> u32
+    // Which status
     ensures outcome { Reports (dictionary_outcome greatest_large_offset lasso.old.seat.value from (length offsets.old) (length bytes.old)) result report.new }
+
+    // On success
     ensures bytes { result ≡ DONE → bytes.new ≡ bytes_over (drop from (texts_in lasso.old.seat.value)) bytes.old }
     ensures offsets { result ≡ DONE → offsets.new ≡ offsets_over (drop from (texts_in lasso.old.seat.value)) offsets.old }
+
+    // What stays
+    ensures kept { lasso.new.seat.value ≡ lasso.old.seat.value }
+
+    // On failure
     ensures bytes_kept { ¬ (result ≡ DONE) → bytes.new ≡ bytes.old }
     ensures offsets_kept { ¬ (result ≡ DONE) → offsets.new ≡ offsets.old }
-    ensures kept { lasso.new.seat.value ≡ lasso.old.seat.value }
 {
     widths::dictionary(lasso, from, bytes, offsets, report)
 }

@@ -31,8 +31,13 @@ struct Lent<'a> {
 #[unsafe(no_mangle)]
 pub extern "C" fn lasso_text<'a>(lasso: &'a mut Lasso, code: u32, text: &mut LassoText<'a>) -> u32
     ensures* kept { sem 𝓛 (KeepsHeld lasso.entry) }
+    // Which status
     ensures status { result ≡ outcome_status (code_lookup lasso.old.seat.value code) }
+
+    // On success
     ensures text { result ≡ DONE → slice_get (texts_in lasso.old.seat.value) code ≡ Some text.new.bytes.now }
+
+    // On failure
     ensures text_kept { ¬ (result ≡ DONE) → text.new ≡ text.old }
 {
     status_of(lend_text(lasso, code, text))

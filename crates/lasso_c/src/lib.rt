@@ -76,9 +76,11 @@ pub extern "C" fn lasso_encode(
     dictionary_offsets: &mut [u32],
     report: &mut LassoReport,
 ) -> u32
+    // Which status
     ensures outcome { Reports (encoding_into bytes.now offsets.now codes.old dictionary_offsets.old dictionary_bytes.old) result report.new
         ⊎ Reports (Err NoMemory) result report.new }
 
+    // On success
     ensures codes { result ≡ DONE → (let texts = layout_texts bytes.now offsets.now in
         codes.new ≡ over (codes_of (dictionary_of texts) texts) codes.old) }
     ensures dictionary_bytes { result ≡ DONE →
@@ -86,6 +88,7 @@ pub extern "C" fn lasso_encode(
     ensures dictionary_offsets { result ≡ DONE →
         dictionary_offsets.new ≡ offsets_over (dictionary_of (layout_texts bytes.now offsets.now)) dictionary_offsets.old }
 
+    // On failure
     ensures codes_kept { ¬ (result ≡ DONE) → codes.new ≡ codes.old }
     ensures dictionary_bytes_kept { ¬ (result ≡ DONE) → dictionary_bytes.new ≡ dictionary_bytes.old }
     ensures dictionary_offsets_kept { ¬ (result ≡ DONE) → dictionary_offsets.new ≡ dictionary_offsets.old }
@@ -115,9 +118,11 @@ pub extern "C" fn lasso_encode_nulls(
     dictionary_offsets: &mut [u32],
     report: &mut LassoReport,
 ) -> u32
+    // Which status
     ensures outcome { Reports (column_encoding_into present.now bytes.now offsets.now codes.old dictionary_offsets.old dictionary_bytes.old) result report.new
         ⊎ Reports (Err NoMemory) result report.new }
 
+    // On success
     ensures codes { result ≡ DONE → (let rows = column_rows present.now bytes.now offsets.now in
         codes.new ≡ over (row_codes null (dictionary_of (present_texts rows)) rows) codes.old) }
     ensures dictionary_bytes { result ≡ DONE →
@@ -125,6 +130,7 @@ pub extern "C" fn lasso_encode_nulls(
     ensures dictionary_offsets { result ≡ DONE →
         dictionary_offsets.new ≡ offsets_over (dictionary_of (column_texts present.now bytes.now offsets.now)) dictionary_offsets.old }
 
+    // On failure
     ensures codes_kept { ¬ (result ≡ DONE) → codes.new ≡ codes.old }
     ensures dictionary_bytes_kept { ¬ (result ≡ DONE) → dictionary_bytes.new ≡ dictionary_bytes.old }
     ensures dictionary_offsets_kept { ¬ (result ≡ DONE) → dictionary_offsets.new ≡ dictionary_offsets.old }
@@ -153,11 +159,14 @@ pub extern "C" fn lasso_decode(
     offsets: &mut [u32],
     report: &mut LassoReport,
 ) -> u32
+    // Which status
     ensures outcome { Reports (decoding_into dictionary_bytes.now dictionary_offsets.now codes.now offsets.old bytes.old) result report.new }
 
+    // On success
     ensures bytes { result ≡ DONE → bytes.new ≡ bytes_over (texts_decoded dictionary_bytes.now dictionary_offsets.now codes.now) bytes.old }
     ensures offsets { result ≡ DONE → offsets.new ≡ offsets_over (texts_decoded dictionary_bytes.now dictionary_offsets.now codes.now) offsets.old }
 
+    // On failure
     ensures bytes_kept { ¬ (result ≡ DONE) → bytes.new ≡ bytes.old }
     ensures offsets_kept { ¬ (result ≡ DONE) → offsets.new ≡ offsets.old }
 {
@@ -185,13 +194,16 @@ pub extern "C" fn lasso_decode_nulls(
     present: &mut [u8],
     report: &mut LassoReport,
 ) -> u32
+    // Which status
     ensures outcome { Reports (nulls_decoding_into null dictionary_bytes.now dictionary_offsets.now codes.now offsets.old bytes.old present.old)
         result report.new }
 
+    // On success
     ensures bytes { result ≡ DONE → bytes.new ≡ bytes_over (rows_decoded null dictionary_bytes.now dictionary_offsets.now codes.now) bytes.old }
     ensures offsets { result ≡ DONE → offsets.new ≡ offsets_over (rows_decoded null dictionary_bytes.now dictionary_offsets.now codes.now) offsets.old }
     ensures present { result ≡ DONE → present.new ≡ over (bitmap_of (code_bits null codes.now)) present.old }
 
+    // On failure
     ensures bytes_kept { ¬ (result ≡ DONE) → bytes.new ≡ bytes.old }
     ensures offsets_kept { ¬ (result ≡ DONE) → offsets.new ≡ offsets.old }
     ensures present_kept { ¬ (result ≡ DONE) → present.new ≡ present.old }

@@ -22,11 +22,14 @@ pub extern "C" fn lasso_new_sized(
     bytes: usize,
     limit: usize,
 ) -> u32
+    // On success
     ensures made { result ≡ DONE → IsSome lasso.new.seat.value }
     ensures texts { result ≡ DONE → texts_in lasso.new.seat.value ≡ [] }
     ensures account { result ≡ DONE → account_in lasso.new.seat.value ≡ Some (fresh (max bytes 1) limit) }
     ensures first { result ≡ DONE → first_in lasso.new.seat.value ≡ Some (max bytes 1) }
     ensures seed { result ≡ DONE → IfSome (seed_in lasso.new.seat.value) IsFixed }
+
+    // On failure
     ensures refused { ¬ (result ≡ DONE) → result ≡ NO_MEMORY }
     ensures kept { ¬ (result ≡ DONE) → lasso.new.seat.value ≡ lasso.old.seat.value }
 {
@@ -44,11 +47,14 @@ pub extern "C" fn lasso_new_seeded(
     seed0: u64,
     seed1: u64,
 ) -> u32
+    // On success
     ensures made { result ≡ DONE → IsSome lasso.new.seat.value }
     ensures texts { result ≡ DONE → texts_in lasso.new.seat.value ≡ [] }
     ensures account { result ≡ DONE → account_in lasso.new.seat.value ≡ Some (fresh 4096 limit) }
     ensures first { result ≡ DONE → first_in lasso.new.seat.value ≡ Some 4096 }
     ensures seed { result ≡ DONE → seed_in lasso.new.seat.value ≡ Some (text_seed seed0 seed1) }
+
+    // On failure
     ensures refused { ¬ (result ≡ DONE) → result ≡ NO_MEMORY }
     ensures kept { ¬ (result ≡ DONE) → lasso.new.seat.value ≡ lasso.old.seat.value }
 {
@@ -67,11 +73,14 @@ pub extern "C" fn lasso_new_sized_seeded(
     seed0: u64,
     seed1: u64,
 ) -> u32
+    // On success
     ensures made { result ≡ DONE → IsSome lasso.new.seat.value }
     ensures texts { result ≡ DONE → texts_in lasso.new.seat.value ≡ [] }
     ensures account { result ≡ DONE → account_in lasso.new.seat.value ≡ Some (fresh (max bytes 1) limit) }
     ensures first { result ≡ DONE → first_in lasso.new.seat.value ≡ Some (max bytes 1) }
     ensures seed { result ≡ DONE → seed_in lasso.new.seat.value ≡ Some (text_seed seed0 seed1) }
+
+    // On failure
     ensures refused { ¬ (result ≡ DONE) → result ≡ NO_MEMORY }
     ensures kept { ¬ (result ≡ DONE) → lasso.new.seat.value ≡ lasso.old.seat.value }
 {
@@ -89,11 +98,14 @@ pub extern "C" fn lasso_new_keyed(
     key0: u64,
     key1: u64,
 ) -> u32
+    // On success
     ensures made { result ≡ DONE → IsSome lasso.new.seat.value }
     ensures texts { result ≡ DONE → texts_in lasso.new.seat.value ≡ [] }
     ensures account { result ≡ DONE → account_in lasso.new.seat.value ≡ Some (fresh 4096 limit) }
     ensures first { result ≡ DONE → first_in lasso.new.seat.value ≡ Some 4096 }
     ensures seed { result ≡ DONE → seed_in lasso.new.seat.value ≡ Some (keyed_seed key0 key1) }
+
+    // On failure
     ensures refused { ¬ (result ≡ DONE) → result ≡ NO_MEMORY }
     ensures kept { ¬ (result ≡ DONE) → lasso.new.seat.value ≡ lasso.old.seat.value }
 {
@@ -117,11 +129,14 @@ pub extern "C" fn lasso_new_sized_keyed(
     key0: u64,
     key1: u64,
 ) -> u32
+    // On success
     ensures made { result ≡ DONE → IsSome lasso.new.seat.value }
     ensures texts { result ≡ DONE → texts_in lasso.new.seat.value ≡ [] }
     ensures account { result ≡ DONE → account_in lasso.new.seat.value ≡ Some (fresh (max bytes 1) limit) }
     ensures first { result ≡ DONE → first_in lasso.new.seat.value ≡ Some (max bytes 1) }
     ensures seed { result ≡ DONE → seed_in lasso.new.seat.value ≡ Some (keyed_seed key0 key1) }
+
+    // On failure
     ensures refused { ¬ (result ≡ DONE) → result ≡ NO_MEMORY }
     ensures kept { ¬ (result ≡ DONE) → lasso.new.seat.value ≡ lasso.old.seat.value }
 {

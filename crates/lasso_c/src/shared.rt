@@ -33,8 +33,11 @@ use std::alloc::Global;
 /// out of memory, and the handle is as it was then.
 #[unsafe(no_mangle)]
 pub extern "C" fn lasso_shared_new(alloc: Global, shared: &mut LassoShared) -> u32
+    // On success
     ensures made { result ≡ DONE → IsSome shared.new.seat.value }
     ensures opening { result ≡ DONE → IfSome shared.new.seat.value (λ m. (m.pass.notes ≡ []) × (m.pass.of.opening ≡ opened [] 4096 0 (2 ^ 64 - 1))) }
+
+    // On failure
     ensures refused { ¬ (result ≡ DONE) → result ≡ NO_MEMORY }
     ensures kept { ¬ (result ≡ DONE) → shared.new.seat.value ≡ shared.old.seat.value }
 {

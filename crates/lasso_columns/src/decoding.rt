@@ -29,8 +29,13 @@ pub fn decode<'r, S: BuildHasher, A: Allocator>(
     codes: &[u32],
     out: &mut Vec<&'r str>,
 ) -> Result<(), DecodeError>
+    // Either way the texts of the first codes are appended: one for each text that was added.
     ensures texts { AddsTexts reader.now (take (vec_len out.new - vec_len out.old) codes.now) out.old.items out.new.items }
+
+    // On success these are all codes.
     ensures whole { OnOk result (vec_len out.new ≡ vec_len out.old + length codes.now) }
+
+    // On failure
     ensures fault { IfErr result (IsFaultAt reader.now codes.now (vec_len out.new - vec_len out.old)) }
 {
     // If there is no memory for all texts at once, each push asks for its own.

@@ -1,6 +1,6 @@
 //! Merges the texts of one interner into another.
-ghost use Rattle.std.specs.Prelude.{◌≡◌, ◌≤◌, [], Ok, OnOk, IfOk, IfErr, IsSomeAnd, slice_get, take, length, vec_capacity};
-ghost use Rattle.lasso_single.specs.Filling.{extend};
+ghost use Rattle.std.specs.Prelude.{◌≡◌, ◌≤◌, [], OnOk, IfOk, IfErr, IsSomeAnd, slice_get, take, length, vec_capacity};
+ghost use Rattle.lasso_single.specs.Filling.{InternsEach};
 ghost use Rattle.lasso_single.specs.Codes.{AreCodes, StandFor};
 ghost use Rattle.lasso_single.specs.Coding.{spur_at, IsRefused};
 ghost use Rattle.lasso_columns.specs.Merging.{MayLackMemoryWithRoom, MayLackMemoryMerging, StopsMerging};
@@ -37,9 +37,12 @@ pub fn merge<S: BuildHasher, A: Allocator + Clone, T: BuildHasher, B: Allocator>
     into: &mut Rodeo<Spur, S, A>,
     from: &RodeoReader<Spur, T, B>,
 ) -> LassoResult<Vec<u32>>
-    ensures list { OnOk result (extend spur_at into.old from.now (Ok tt) into.new) }
+    // On success
+    ensures list { OnOk result (InternsEach spur_at into.old from.now into.new) }
     ensures codes { IfOk result (λ codes. AreCodes into.new.texts from.now codes.items) }
     ensures texts { IfOk result (λ codes. StandFor into.new.texts codes.items from.now) }
+
+    // On failure
     ensures refused { IfErr result (λ error. StopsMerging into.old into.new from.now error) }
     ensures memory { IfErr result (MayLackMemoryMerging into.old into.new from.now) }
 {
@@ -58,7 +61,7 @@ pub(crate) fn encode_list<S: BuildHasher, A: Allocator + Clone, T: BuildHasher, 
 ) -> LassoResult<()>
     requires empty { codes.old.items ≡ [] }
     requires room { length from.now ≤ vec_capacity codes.old }
-    ensures list { extend spur_at into.old (take (length codes.new.items) from.now) (Ok tt) into.new }
+    ensures list { InternsEach spur_at into.old (take (length codes.new.items) from.now) into.new }
     ensures codes { AreCodes into.new.texts (take (length codes.new.items) from.now) codes.new.items }
     ensures whole { OnOk result (length codes.new.items ≡ length from.now) }
     ensures refused { IfErr result (λ error. IsSomeAnd (slice_get from.now (length codes.new.items)) (λ text. IsRefused into.new text error)) }

@@ -5,6 +5,7 @@ mod MachineSteps
 mod MachineCalls
 pub mod Called
 pub mod CallerLaws
+mod PassFacts
 pub mod Alike
 pub mod Whole
 pub mod Stored

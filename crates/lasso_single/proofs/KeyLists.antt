@@ -4,7 +4,7 @@
 -- so their keys stay, and one key more goes after them. One key was added for each text that was interned: so
 -- their number tells which these are.
 use denote.Ref.{Bor}
-use Rattle.std.proofs.Common.{ℕ, suc, map, drop, get_or, ◌≡◌, ◌+◌, ◌-◌, ◌<◌, List, [], ◌∷◌, ◌++◌, length, take, Bool, true, false, cond, Option, Some, None, Result, Ok, Err, IsSomeAnd, is_some, refl, sym, ap, subst, ◌∙◌, arith, length-append, append_assoc}
+use Rattle.std.proofs.Common.{ℕ, suc, map, drop, get_or, ◌≡◌, ◌+◌, ◌-◌, ◌<◌, List, [], ◌∷◌, ◌++◌, length, take, Bool, true, false, cond, Option, Some, None, Ok, Err, IsSomeAnd, is_some, refl, sym, ap, subst, ◌∙◌, arith, length-append, append_assoc}
 use Rattle.std.specs.Prelude.{slice_get, option_and_then, unwrap_or}
 use Rattle.std.specs.Str.{bytes_eq}
 use Rattle.std.proofs.Math.Seq.{drop-cons, take-append_seam}
@@ -17,7 +17,7 @@ use Rattle.lasso_parts.specs.Held.{Held}
 use Rattle.lasso_parts.specs.Texts.{Text, position_of, key_of}
 use Rattle.lasso_parts.specs.declared.util.LassoError.{LassoError}
 use Rattle.lasso_single.specs.Filling.{extend}
-use Rattle.lasso_single.specs.Intern.{InternsIn, with_text, stored_or_refused, keyed_or_refused, found_or_new, interned_position}
+use Rattle.lasso_single.specs.Intern.{InternsIn, with_text, stored_or_refused, keyed_or_refused, found_or_new}
 use Rattle.lasso_single.specs.Interner.{InternerView}
 use Rattle.lasso_single.specs.KeyLists.{AreKeys, AddsKeys, IsNextRefused, keyed_texts}
 use Rattle.lasso_single.proofs.Filled.{accepted, extend_push}
@@ -134,7 +134,7 @@ at_seam (t ∷ done) text rest = at_seam done text rest
 abbrev view_of : List Text → Account → ℕ → ℕ → ℕ → Bool → InternerView
 view_of texts account first copied most is_cleared = record { texts = texts; account = account; first = first; copied = copied; most = most; is_cleared = is_cleared }
 
-same_fields : (texts texts' : List Text) (account account' : Account) (first first' copied copied' most most' : ℕ) (is_cleared is_cleared' : Bool) → texts' ≡ texts → account' ≡ account → first' ≡ first → copied' ≡ copied → most' ≡ most → is_cleared' ≡ is_cleared → view_of texts' account' first' copied' most' is_cleared' ≡ view_of texts account first copied most is_cleared
+pub same_fields : (texts texts' : List Text) (account account' : Account) (first first' copied copied' most most' : ℕ) (is_cleared is_cleared' : Bool) → texts' ≡ texts → account' ≡ account → first' ≡ first → copied' ≡ copied → most' ≡ most → is_cleared' ≡ is_cleared → view_of texts' account' first' copied' most' is_cleared' ≡ view_of texts account first copied most is_cleared
 same_fields texts texts' account account' first first' copied copied' most most' is_cleared is_cleared' t a f c m g = rw (t, a, f, c, m, g) refl
 
 -- a refused call changes nothing

@@ -6,7 +6,7 @@ use Rattle.lasso_parts.specs.Account.{clear, with_limit}
 use Rattle.lasso_parts.specs.Texts.{Text, position_of, key_of}
 use Rattle.lasso_parts.specs.declared.util.LassoError.{LassoError}
 use Rattle.lasso_parts.specs.declared.util.LassoErrorKind.TheVariants.{FailedAllocation}
-use Rattle.lasso_single.specs.Copies.{clone_into}
+use Rattle.lasso_single.specs.Copies.{ClonesInto}
 use Rattle.lasso_single.specs.Filling.{extend}
 use Rattle.lasso_single.specs.Intern.{InternsIn, InternsStaticIn}
 use Rattle.lasso_single.specs.Interner.{InternerView, most_copied}
@@ -46,7 +46,7 @@ replies_to key_at number old MaxUsage reply new = (reply ≡ Number old.account.
 replies_to key_at number old (SetLimit limits) reply new = (reply ≡ Done) × (new ≡ record old { account = with_limit old.account limits })
 replies_to key_at number old Clear reply new = (reply ≡ Done) × (new ≡ record old { texts = []; account = clear old.first old.account; copied = 0; most = most_copied old; is_cleared = true })
 replies_to key_at number old (Extend texts) reply new = (outcome : Result (Unit {0}) LassoError) × extend key_at old (map (λ t. t.now) texts.now) outcome new × (reply ≡ done_reply outcome)
-replies_to key_at number old (CloneFrom source) reply new = (outcome : Result (Unit {0}) LassoError) × clone_into old source.now.texts outcome new × (reply ≡ done_reply outcome)
+replies_to key_at number old (CloneFrom source) reply new = (outcome : Result (Unit {0}) LassoError) × ClonesInto old source.now.texts outcome new × (reply ≡ done_reply outcome)
 
 -- the definitions folded over a list of commands: one reply each, in order, each from what the one before left
 abbrev pub run_of : {K S A H : Type 0} → (ℕ → Option K) → (K → ℕ) → InternerView → List (Command K S A H) → List (Reply K) → InternerView → Type 0

@@ -1,5 +1,5 @@
 -- What clones of an interner hold, and where copying a list of texts may stop.
-use Rattle.std.specs.Prelude.{IsSome, ◌≡◌, ◌⊎◌, ◌<◌, ◌+◌, ◌-◌, ◌^◌, ℕ, true, List, [], ◌∷◌, ◌++◌, length, take, slice_get, sum_by, max, nat_eq, if◌then◌else◌, Option, Some, None, option_and_then, Result, MatchResult}
+use Rattle.std.specs.Prelude.{IsSome, ◌≡◌, ◌⊎◌, ◌+◌, ◌-◌, ◌^◌, ℕ, true, List, [], ◌∷◌, ◌++◌, length, take, slice_get, sum_by, max, nat_eq, if◌then◌else◌, Option, Some, None, option_and_then, Result, MatchResult}
 use Rattle.lasso_parts.specs.Account.{Account, fresh, store, clear}
 use Rattle.lasso_parts.specs.Texts.{Text}
 use Rattle.lasso_parts.specs.declared.util.LassoError.{LassoError}
@@ -52,15 +52,21 @@ StopsCopying old texts error new =
     (j : ℕ) × StopsAt old.first old.account texts j error new.account
     × (new.copied ≡ old.copied + bytes_of (take j texts))
 
+-- copying the texts over those of an interner stopped at one of them: no text is left, and the account is the
+-- one that was reached, cleared. What was copied counts as after a clear, and so among the bytes in between two
+-- clears
+abbrev pub StopsCloning : InternerView → List Text → LassoError → InternerView → Type 0
+StopsCloning old texts error new =
+    (j : ℕ) × (stopped : Account) × StopsAt old.first (clear old.first old.account) texts j error stopped
+    × (new.account ≡ clear old.first stopped) × (new.most ≡ max (most_copied old) (bytes_of (take j texts)))
+
 -- copying the texts into an interner, which is cleared before, leaves just them, under its own account; or it
--- stops at one of them, and then leaves no text and the account that was reached, cleared. What was copied
--- counts as after a clear, and so among the bytes in between two clears.
-abbrev pub clone_into : InternerView → List Text → Result (Unit {0}) LassoError → InternerView → Type 0
-clone_into old texts reply new =
+-- stops at one of them, as `StopsCloning` says, and then leaves no text
+abbrev pub ClonesInto : InternerView → List Text → Result (Unit {0}) LassoError → InternerView → Type 0
+ClonesInto old texts reply new =
     MatchResult reply
     (λ _. (new.texts ≡ texts) × (store_all old.first (clear old.first old.account) texts ≡ Some new.account) × (new.copied ≡ bytes_of texts) × (new.most ≡ most_copied old))
-    (λ error. (new.texts ≡ []) × (new.copied ≡ 0) × ((j : ℕ) × (stopped : Account) × StopsAt old.first (clear old.first old.account) texts j error stopped
-    × (new.account ≡ clear old.first stopped) × (new.most ≡ max (most_copied old) (bytes_of (take j texts)))))
+    (λ error. (new.texts ≡ []) × (new.copied ≡ 0) × StopsCloning old texts error new)
     × (new.first ≡ old.first) × (new.is_cleared ≡ true)
 
 -- the account of a list that was read: all texts in one bucket of their bytes (4096 if they have none), under

@@ -1,5 +1,6 @@
 -- Interning one text after another.
-use Rattle.std.specs.Prelude.{◌≡◌, ℕ, List, [], ◌∷◌, ◌++◌, Option, Result, Ok, Err, MatchResult}
+use Rattle.std.specs.Prelude.{◌≡◌, ℕ, List, [], ◌∷◌, ◌++◌, map, Option, Result, Ok, Err, MatchResult}
+use Rattle.std.specs.Iterator.{Drains, Yields}
 use Rattle.lasso_parts.specs.Texts.{Text}
 use Rattle.lasso_parts.specs.declared.util.LassoError.{LassoError}
 use Rattle.lasso_single.specs.Intern.{InternsIn}
@@ -12,8 +13,22 @@ extend {K} key_at old (text ∷ texts) reply new =
     (one : Result K LassoError) × (mid : InternerView) × InternsIn key_at old text one mid
     × MatchResult one (λ _. extend key_at mid texts reply new) (λ error. (reply ≡ Err error) × (new ≡ mid))
 
+-- interning the texts in order, none of which was refused
+abbrev pub InternsEach : {K : Type 0} → (ℕ → Option K) → InternerView → List Text → InternerView → Type 0
+InternsEach key_at old texts new = extend key_at old texts (Ok tt) new
+
 -- the texts were interned in order, and the last of them was refused: it changed nothing
 abbrev pub StopsAtRefusal : {K : Type 0} → (ℕ → Option K) → InternerView → List Text → LassoError → InternerView → Type 0
 StopsAtRefusal {K} key_at old texts error new =
-    (before : List Text) × (last : Text) × (mid : InternerView) × (texts ≡ before ++ last ∷ []) × extend key_at old before (Ok tt) mid
+    (before : List Text) × (last : Text) × (mid : InternerView) × (texts ≡ before ++ last ∷ []) × InternsEach key_at old before mid
     × InternsIn {K = K} key_at mid last (Err error) new
+
+-- an iterator gives some items and ends; `text` of each is interned in order, and none is refused
+abbrev pub InternsItems : {K S T : Type 0} → (S → Option T → S → Type 0) → (T → Text) → (ℕ → Option K) → S → InternerView → InternerView → Type 0
+InternsItems {K} {S} {T} next_gives text key_at from old new =
+    (items : List T) × Drains next_gives from items × InternsEach key_at old (map text items) new
+
+-- the same up to an item that is refused, after which the iterator is not asked: its text changes nothing
+abbrev pub StopsAtItem : {K S T : Type 0} → (S → Option T → S → Type 0) → (T → Text) → (ℕ → Option K) → S → InternerView → LassoError → InternerView → Type 0
+StopsAtItem {K} {S} {T} next_gives text key_at from old error new =
+    (items : List T) × ((rest : S) × Yields next_gives from items rest) × StopsAtRefusal key_at old (map text items) error new

@@ -1,11 +1,27 @@
 -- What interning a text returns and leaves.
-use Rattle.std.specs.Prelude.{ℕ, ◌≡◌, ◌+◌, ◌⊎◌, List, [], ◌∷◌, ◌++◌, length, Option, Result, MatchResult, IsOk, Some, None, Ok, Err, unwrap_or}
+use Rattle.std.specs.Prelude.{ℕ, ◌≡◌, ◌+◌, ◌⊎◌, List, [], ◌∷◌, ◌++◌, length, Option, Result, MatchResult, IsOk, IsSome, Some, None, Ok, Err, unwrap_or}
 use Rattle.lasso_parts.specs.Account.{Account, store}
 use Rattle.lasso_parts.specs.Texts.{Text, position_of}
 use Rattle.lasso_parts.specs.Held.{Held}
 use Rattle.lasso_parts.specs.declared.util.LassoError.{LassoError}
 use Rattle.lasso_parts.specs.declared.util.LassoErrorKind.TheVariants.{MemoryLimitReached, KeySpaceExhaustion, FailedAllocation}
 use Rattle.lasso_single.specs.Interner.{InternerView, KeepsOrigin, bytes_added}
+
+-- the text is in the list
+abbrev pub IsPresent : InternerView → Text → Type 0
+IsPresent now text = IsSome (position_of now.texts text)
+
+-- the text is not in the list
+abbrev pub IsAbsent : InternerView → Text → Type 0
+IsAbsent now text = position_of now.texts text ≡ None
+
+-- the key of the next new text, or none if the key type has none for its position
+abbrev pub next_key : {K : Type 0} → (ℕ → Option K) → InternerView → Option K
+next_key key_at now = key_at (length now.texts)
+
+-- the account once the text's bytes are stored too, or none if the limit refuses them
+abbrev pub account_with : InternerView → Text → Option Account
+account_with now text = store now.first now.account (length text)
 
 -- the text goes last, and the account is the new one
 abbrev pub with_text : Held → Text → Account → Held

@@ -15,6 +15,10 @@ abbrev pub ReadsInto : {K : Type 0} → (ℕ → Option K) → Bool → Data →
 ReadsInto key_at distinct d answer =
     let read = read_array key_at distinct d in ReadsOr (TakesText key_at d ⊎ IsOk read) read answer
 
+-- memory ran out, as it may unless the value is no array or its first item is faulty
+abbrev pub IsOutOfMemory : {K : Type 0} → (ℕ → Option K) → Bool → Data → JsonError → Type 0
+IsOutOfMemory key_at distinct d error = (error ≡ Lasso FailedAllocation) × (TakesText key_at d ⊎ IsOk (read_array key_at distinct d))
+
 -- an array whose texts have 2 ^ 64 bytes or more, which a `usize` can't count, is refused as out of memory
 abbrev pub RefusesUncountableBytes : {K A : Type 0} → (ℕ → Option K) → Bool → Data → Result A JsonError → Type 0
 RefusesUncountableBytes key_at distinct d answer =

@@ -1,6 +1,7 @@
 pub mod Interner
 pub mod Equality
 pub mod Intern
+pub mod InternFacts
 pub mod Copies
 pub mod Filling
 pub mod Command

@@ -3,7 +3,7 @@
 ghost use Rattle.std.specs.Prelude.{◌≡◌, ℕ, ◌+◌, ◌<◌, ◌≤◌, ◌∷◌, ◌++◌, [], Some, Ok, OnOk, IfOk, IfErr};
 ghost use Rattle.std.specs.Prelude.{MatchResult, length, map, vec_len, vec_capacity};
 ghost use Rattle.lasso_parts.specs.Texts.{position_of};
-ghost use Rattle.lasso_single.specs.Filling.{extend};
+ghost use Rattle.lasso_single.specs.Filling.{InternsEach};
 ghost use Rattle.lasso_single.specs.Intern.{InternsIn};
 ghost use Rattle.lasso_single.specs.Codes.{AddsCodes};
 ghost use Rattle.lasso_single.specs.Coding.{spur_at, encoded_texts, InternsCode, IsRefused, IsNextRefused, MayLackMemory, MayLackMemoryNext};
@@ -35,9 +35,14 @@ pub fn encode<S: BuildHasher, A: Allocator + Clone>(
     texts: &[&str],
     codes: &mut Vec<u32>,
 ) -> LassoResult<()>
-    ensures list { extend spur_at rodeo.old (encoded_texts codes.old.items codes.new.items (map (λ t. t.now) texts.now)) (Ok tt) rodeo.new }
+    // Either way the first texts are interned, and their codes appended: one for each added code.
+    ensures list { InternsEach spur_at rodeo.old (encoded_texts codes.old.items codes.new.items (map (λ t. t.now) texts.now)) rodeo.new }
     ensures codes { AddsCodes rodeo.new.texts (encoded_texts codes.old.items codes.new.items (map (λ t. t.now) texts.now)) codes.old.items codes.new.items }
+
+    // On success these are all texts.
     ensures whole { OnOk result (vec_len codes.new ≡ vec_len codes.old + length texts.now) }
+
+    // On failure the next text was refused.
     ensures refused { IfErr result (IsNextRefused rodeo.new codes.old.items codes.new.items (map (λ t. t.now) texts.now)) }
     ensures memory { IfErr result (MayLackMemoryNext rodeo.new codes.old.items codes.new (map (λ t. t.now) texts.now)) }
 {

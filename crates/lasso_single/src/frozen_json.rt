@@ -1,10 +1,10 @@
 //! The frozen forms as JSON: the array of their texts, in the order of their keys. That of a `Rodeo` is in
 //! `rodeo/json.rt`.
-ghost use Rattle.std.specs.Prelude.{◌≡◌, ◌<◌, IfOk, IfErr, length, true, false};
+ghost use Rattle.std.specs.Prelude.{◌≡◌, ◌<◌, ◌⊎◌, Ok, Err, IfOk, IfErr, length, true, false};
 ghost use Rattle.serde_json.specs.View.{view};
-ghost use Rattle.lasso_parts.specs.Json.{json_array};
+ghost use Rattle.lasso_parts.specs.Json.{json_array, read_array};
 ghost use Rattle.lasso_parts.specs.declared.util.LassoErrorKind.TheVariants.{FailedAllocation};
-ghost use Rattle.lasso_single.specs.Json.{ReadsInto, RefusesUncountableBytes};
+ghost use Rattle.lasso_single.specs.Json.{IsOutOfMemory, ReadsInto, RefusesUncountableBytes};
 
 use crate::reader::RodeoReader;
 use crate::resolver::RodeoResolver;
@@ -31,8 +31,15 @@ impl<K: Key, S: BuildHasher + Default + Drop, A: Allocator + Clone> RodeoReader<
     /// A reader with the texts of an array, in order. It is the frozen form of what `Rodeo::deserialize`
     /// reads, and refused as that is.
     pub fn deserialize(alloc: A, value: &Value) -> Result<Self, JsonError>
-        ensures read { ReadsInto K.key_at true (view value.now) result }
+        // On success it has the texts that the value is read as.
+        ensures texts { IfOk result (λ texts. read_array K.key_at true (view value.now) ≡ Ok texts) }
+
+        // On failure the error is what is wrong with the value, or memory ran out.
+        ensures fault { IfErr result (λ error. (read_array K.key_at true (view value.now) ≡ Err error) ⊎ IsOutOfMemory K.key_at true (view value.now) error) }
         ensures overflow { RefusesUncountableBytes K.key_at true (view value.now) result }
+
+        // Texts and faults at once
+        ensures read { ReadsInto K.key_at true (view value.now) result }
     {
         match Rodeo::<K, S, A>::deserialize(alloc, value) {
             Ok(rodeo) => Ok(rodeo.into_reader()),
@@ -60,8 +67,15 @@ impl<K: Key, A: Allocator + Clone> RodeoResolver<K, A> {
     /// value is no array or its first item is faulty, and it does when a `usize` can't count the texts'
     /// bytes.
     pub fn deserialize(alloc: A, value: &Value) -> Result<Self, JsonError>
-        ensures read { ReadsInto K.key_at false (view value.now) result }
+        // On success it has the texts that the value is read as.
+        ensures texts { IfOk result (λ texts. read_array K.key_at false (view value.now) ≡ Ok texts) }
+
+        // On failure the error is what is wrong with the value, or memory ran out.
+        ensures fault { IfErr result (λ error. (read_array K.key_at false (view value.now) ≡ Err error) ⊎ IsOutOfMemory K.key_at false (view value.now) error) }
         ensures overflow { RefusesUncountableBytes K.key_at false (view value.now) result }
+
+        // Texts and faults at once
+        ensures read { ReadsInto K.key_at false (view value.now) result }
     {
         let texts = read_array::<K, A>(alloc, value, false)?;
         let alloc = texts.allocator().clone()?;

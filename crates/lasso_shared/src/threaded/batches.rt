@@ -40,11 +40,16 @@ impl<K: Key, S: BuildHasher + Drop> ThreadedRodeo<K, S> {
         keys: &mut Vec<K, B>,
     ) -> LassoResult<()>
         requires { pass.old.of ≡ self.now }
-        ensures same { IsSamePass pass.new pass.old }
+        // On success
         ensures interned { OnOk result (PassInterns K.key_at self.now pass.old pass.new (map (λ t. t.now) texts.now) keys.old.items keys.new.items) }
+
+        // On failure there was no memory for the keys, and nothing changed; or the next text was refused.
         ensures refused { IfErr result (λ error.
             ((error ≡ FailedAllocation) × (pass.new ≡ pass.old) × (keys.new.items ≡ keys.old.items) × (vec_capacity keys.old < vec_len keys.old + length texts.now))
             ⊎ PassStopsAt K.key_at self.now pass.old pass.new (map (λ t. t.now) texts.now) keys.old.items keys.new.items error) }
+
+        // What stays, and what the pass has then seen
+        ensures same { IsSamePass pass.new pass.old }
         ensures opening { IsOpening K.key_at self.now.opening }
         ensures legal { IsLegal K.key_at self.now.opening (seen pass.new) }
     {
@@ -77,8 +82,10 @@ impl<K: Key, S: BuildHasher + Drop> ThreadedRodeo<K, S> {
         keys: &mut Vec<Option<K>, B>,
     ) -> LassoResult<()>
         requires { pass.old.of ≡ self.now }
-        ensures same { IsSamePass pass.new pass.old }
+        // On success
         ensures found { OnOk result (PassGets K.key_at self.now pass.old pass.new (map (λ t. t.now) texts.now) keys.old.items keys.new.items) }
+
+        // On failure
         ensures unchanged { OnErr result ((pass.new ≡ pass.old) × (keys.new.items ≡ keys.old.items)) }
         ensures refused { IfErr result (λ error. (error ≡ FailedAllocation) × (vec_capacity keys.old < vec_len keys.old + length texts.now)) }
         ensures opening { IsOpening K.key_at self.now.opening }

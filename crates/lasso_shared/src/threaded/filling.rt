@@ -1,5 +1,5 @@
 //! Filling an interner that threads share from the items of an iterator.
-ghost use Rattle.std.specs.Prelude.{◌≡◌, ◌-◌, ◌^◌, ◌⊎◌, [], List, None, map, MatchResult, IfOk, IfErr};
+ghost use Rattle.std.specs.Prelude.{◌≡◌, ◌-◌, ◌^◌, ◌⊎◌, [], List, None, map, IfOk, IfErr, OnOk};
 ghost use Rattle.std.specs.Iterator.{IsFinite, Drains, Yields, YieldsThen};
 ghost use Rattle.lasso_parts.specs.declared.util.LassoErrorKind.TheVariants.{FailedAllocation};
 ghost use Rattle.lasso_shared.specs.Filling.{InternsEach, FillingEndsRefused, IsPlainFilling};
@@ -33,9 +33,13 @@ impl<K: Key, S: BuildHasher + Drop> ThreadedRodeo<K, S> {
         items: I,
     ) -> LassoResult<()>
         requires { (it : I.IntoIter) → I.into_iter_gives items it → I.IntoIter.can_next it × IsFinite (I.IntoIter.remaining it) }
-        ensures filled { (it : I.IntoIter) × (xs : List T) × I.into_iter_gives items it
-            × MatchResult result (λ _. Drains I.IntoIter.next_gives it xs × IsPlainFilling K.key_at self.now.opening (map T.text xs) (Ok tt))
-            (λ error. ((rest : I.IntoIter) × Yields I.IntoIter.next_gives it xs rest) × IsPlainFilling K.key_at self.now.opening (map T.text xs) (Err error)) }
+        // On success the items ended, and each was interned.
+        ensures filled { OnOk result ((it : I.IntoIter) × (xs : List T) × I.into_iter_gives items it
+            × Drains I.IntoIter.next_gives it xs × IsPlainFilling K.key_at self.now.opening (map T.text xs) (Ok tt)) }
+
+        // On failure the items before the refused one are interned, and it is the last that was taken.
+        ensures refused { IfErr result (λ error. (it : I.IntoIter) × (xs : List T) × I.into_iter_gives items it
+            × ((rest : I.IntoIter) × Yields I.IntoIter.next_gives it xs rest) × IsPlainFilling K.key_at self.now.opening (map T.text xs) (Err error)) }
         ensures opening { IsOpening K.key_at self.now.opening }
     {
         let mut pass = self.pass();
@@ -66,10 +70,16 @@ impl<K: Key, S: BuildHasher + Drop> ThreadedRodeo<K, S> {
         requires of { pass.old.of ≡ self.now }
         requires can { I.can_next items.old }
         requires ends { IsFinite (I.remaining items.old) }
+        // On success the items ended, and each was interned.
+        ensures filled { OnOk result ((xs : List T) × YieldsThen I.next_gives items.old xs None items.new
+            × InternsEach K.key_at self.now.opening (seen pass.old) (seen pass.new) pass.old.number (map T.text xs)) }
+
+        // On failure the items before the refused one are interned, and the iterator stands right after that one.
+        ensures refused { IfErr result (λ error. (xs : List T) × Yields I.next_gives items.old xs items.new
+            × FillingEndsRefused K.key_at self.now.opening (seen pass.old) (seen pass.new) pass.old.number (map T.text xs) error) }
+
+        // What stays, and what the pass has then seen
         ensures same { IsSamePass pass.new pass.old }
-        ensures filled { (xs : List T) × MatchResult result
-            (λ _. YieldsThen I.next_gives items.old xs None items.new × InternsEach K.key_at self.now.opening (seen pass.old) (seen pass.new) pass.old.number (map T.text xs))
-            (λ error. Yields I.next_gives items.old xs items.new × FillingEndsRefused K.key_at self.now.opening (seen pass.old) (seen pass.new) pass.old.number (map T.text xs) error) }
         ensures opening { IsOpening K.key_at self.now.opening }
         ensures legal { IsLegal K.key_at self.now.opening (seen pass.new) }
     {

@@ -1,8 +1,10 @@
 //! Interning texts in an interner that threads share, with a pass.
-ghost use Rattle.std.specs.Prelude.{◌≡◌};
+ghost use mathlib.Core.List.{IsPrefix};
+ghost use Rattle.std.specs.Prelude.{◌≡◌, Ok, IfOk};
 ghost use Rattle.lasso_log.specs.History.{IsLegal, IsOpening};
 ghost use Rattle.lasso_log.specs.Replies.{Copied, Static, Intern, Interned};
 ghost use Rattle.lasso_log.specs.Views.{PassView, InternerId, IsSamePass, seen};
+ghost use Rattle.lasso_shared.specs.CallerLaws.{HasKey};
 ghost use Rattle.lasso_shared.specs.PassCalls.{IsPassCall};
 
 use crate::threaded::ThreadedRodeo;
@@ -32,7 +34,15 @@ impl<K: Key, S: BuildHasher + Drop> ThreadedRodeo<K, S> {
         text: &str,
     ) -> LassoResult<K>
         requires { pass.old.of ≡ self.now }
+        // On success the key is the text's, in what the pass has then seen. A text that it had seen keeps its key, and never fails.
+        ensures key { IfOk result (λ key. HasKey K.key_at self.now.opening (seen pass.new) text.now key) }
+        ensures present { (key : K) → HasKey K.key_at self.now.opening (seen pass.old) text.now key → result ≡ Ok key }
+
+        // What stays
         ensures same { IsSamePass pass.new pass.old }
+        ensures kept { IsPrefix (seen pass.old) (seen pass.new) }
+
+        // The reply and the events, by one list of all threads
         ensures call { IsPassCall K.key_at self.now pass.old pass.new (Intern Copied text.now) (Interned result) }
         ensures opening { IsOpening K.key_at self.now.opening }
         ensures legal { IsLegal K.key_at self.now.opening (seen pass.new) }
@@ -61,7 +71,15 @@ impl<K: Key, S: BuildHasher + Drop> ThreadedRodeo<K, S> {
         text: &'static str,
     ) -> LassoResult<K>
         requires { pass.old.of ≡ self.now }
+        // On success the key is the text's, in what the pass has then seen. A text that it had seen keeps its key, and never fails.
+        ensures key { IfOk result (λ key. HasKey K.key_at self.now.opening (seen pass.new) text.now key) }
+        ensures present { (key : K) → HasKey K.key_at self.now.opening (seen pass.old) text.now key → result ≡ Ok key }
+
+        // What stays
         ensures same { IsSamePass pass.new pass.old }
+        ensures kept { IsPrefix (seen pass.old) (seen pass.new) }
+
+        // The reply and the events, by one list of all threads
         ensures call { IsPassCall K.key_at self.now pass.old pass.new (Intern Static text.now) (Interned result) }
         ensures opening { IsOpening K.key_at self.now.opening }
         ensures legal { IsLegal K.key_at self.now.opening (seen pass.new) }

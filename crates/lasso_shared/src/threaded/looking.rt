@@ -1,8 +1,11 @@
 //! Reading an interner that threads share, with a pass.
-ghost use Rattle.std.specs.Prelude.{◌≡◌, option_map};
+ghost use mathlib.Core.List.{IsPrefix};
+ghost use Rattle.std.specs.Prelude.{◌≡◌, Some, IfSome, IsTrue, option_map};
 ghost use Rattle.lasso_log.specs.History.{IsLegal, IsOpening};
 ghost use Rattle.lasso_log.specs.Replies.{Get, ContainsKey, Resolve, Len, Found, Flag, Resolved, Number};
 ghost use Rattle.lasso_log.specs.Views.{PassView, InternerId, IsSamePass, seen};
+ghost use Rattle.lasso_parts.specs.Texts.{Text};
+ghost use Rattle.lasso_shared.specs.CallerLaws.{HasKey};
 ghost use Rattle.lasso_shared.specs.PassCalls.{IsPassCall};
 
 use crate::threaded::ThreadedRodeo;
@@ -25,7 +28,15 @@ impl<K: Key, S: BuildHasher + Drop> ThreadedRodeo<K, S> {
     /// ```
     pub fn get_as<R: Wait>(&self, rt: &R, pass: &mut Pass<K>, text: &str) -> Option<K>
         requires { pass.old.of ≡ self.now }
+        // A key that is found is the text's, in what the pass has then seen. A text that it had seen is found.
+        ensures key { IfSome result (λ key. HasKey K.key_at self.now.opening (seen pass.new) text.now key) }
+        ensures present { (key : K) → HasKey K.key_at self.now.opening (seen pass.old) text.now key → result ≡ Some key }
+
+        // What stays
         ensures same { IsSamePass pass.new pass.old }
+        ensures kept { IsPrefix (seen pass.old) (seen pass.new) }
+
+        // The reply and the events, by one list of all threads
         ensures call { IsPassCall K.key_at self.now pass.old pass.new (Get text.now) (Found result) }
         ensures opening { IsOpening K.key_at self.now.opening }
         ensures legal { IsLegal K.key_at self.now.opening (seen pass.new) }
@@ -47,7 +58,14 @@ impl<K: Key, S: BuildHasher + Drop> ThreadedRodeo<K, S> {
     /// ```
     pub fn contains_key_as(&self, pass: &mut Pass<K>, key: K) -> bool
         requires { pass.old.of ≡ self.now }
+        // The key of a text that the pass had seen is contained.
+        ensures present { (text : Text) → HasKey K.key_at self.now.opening (seen pass.old) text key → IsTrue result }
+
+        // What stays
         ensures same { IsSamePass pass.new pass.old }
+        ensures kept { IsPrefix (seen pass.old) (seen pass.new) }
+
+        // The reply and the events, by one list of all threads
         ensures call { IsPassCall K.key_at self.now pass.old pass.new (ContainsKey (K.number key)) (Flag result) }
         ensures opening { IsOpening K.key_at self.now.opening }
         ensures legal { IsLegal K.key_at self.now.opening (seen pass.new) }
@@ -68,7 +86,14 @@ impl<K: Key, S: BuildHasher + Drop> ThreadedRodeo<K, S> {
     /// ```
     pub fn try_resolve_as(&self, pass: &mut Pass<K>, key: K) -> Option<&str>
         requires { pass.old.of ≡ self.now }
+        // The key of a text that the pass had seen resolves to it.
+        ensures present { (text : Text) → HasKey K.key_at self.now.opening (seen pass.old) text key → option_map (λ t. t.now) result ≡ Some text }
+
+        // What stays
         ensures same { IsSamePass pass.new pass.old }
+        ensures kept { IsPrefix (seen pass.old) (seen pass.new) }
+
+        // The reply and the events, by one list of all threads
         ensures call { IsPassCall K.key_at self.now pass.old pass.new (Resolve (K.number key)) (Resolved (option_map (λ t. t.now) result)) }
         ensures opening { IsOpening K.key_at self.now.opening }
         ensures legal { IsLegal K.key_at self.now.opening (seen pass.new) }

@@ -39,7 +39,10 @@ impl<K: Key, S: BuildHasher, A: Allocator> Rodeo<K, S, A> {
         texts: &[&str],
         keys: &mut Vec<Option<K>, B>,
     ) -> LassoResult<()>
+        // On success
         ensures keys { OnOk result (AddsFound K.key_at self.now.texts (map (λ t. t.now) texts.now) keys.old.items keys.new.items) }
+
+        // On failure
         ensures unchanged { OnErr result (keys.new.items ≡ keys.old.items) }
         ensures refused { IfErr result (λ error. (error ≡ FailedAllocation) × (vec_capacity keys.old < vec_len keys.old + length texts.now)) }
     {
@@ -81,7 +84,11 @@ impl<K: Key, S: BuildHasher, A: Allocator> Rodeo<K, S, A> {
         texts: &mut Vec<&'a str, B>,
     ) -> LassoResult<()>
         requires { HaveTexts K.number self.now.texts keys.now }
+
+        // On success
         ensures texts { OnOk result (AddsTexts K.number self.now.texts keys.now texts.old.items texts.new.items) }
+
+        // On failure
         ensures unchanged { OnErr result (texts.new.items ≡ texts.old.items) }
         ensures refused { IfErr result (λ error. (error ≡ FailedAllocation) × (vec_capacity texts.old < vec_len texts.old + length keys.now)) }
     {

@@ -44,12 +44,15 @@ impl<K: Key, S: BuildHasher, A: Allocator> Rodeo<K, S, A> {
     /// assert!(rt; rodeo.try_resolve(last) == None);
     /// ```
     pub fn clear(&mut self)
+        // No text is left.
         ensures texts { self.new.texts ≡ [] }
-        ensures account { self.new.account ≡ clear self.old.first self.old.account }
         ensures copied { self.new.copied ≡ 0 }
         ensures most { self.new.most ≡ most_copied self.old }
-        ensures first { self.new.first ≡ self.old.first }
         ensures mark { self.new.is_cleared ≡ true }
+
+        // What stays of the buckets, and its bounds
+        ensures first { self.new.first ≡ self.old.first }
+        ensures account { self.new.account ≡ clear self.old.first self.old.account }
         ensures bound { self.new.account.usage ≤ self.old.first + 8 * most_copied self.old }
         ensures waste { self.old.is_cleared ≡ false → self.new.account.usage ≤ self.old.first + 4 * self.old.copied }
     {

@@ -1,8 +1,9 @@
 //! Clones of a `Rodeo`, and copies of one over another.
-ghost use Rattle.std.specs.Prelude.{◌≡◌, ◌≤◌, ◌^◌, [], Some, Err, IfOk, IfErr};
-ghost use Rattle.lasso_parts.specs.declared.util.LassoErrorKind.TheVariants.{FailedAllocation};
-ghost use Rattle.lasso_single.specs.Copies.{bytes_of, clone_size, clone_of, clone_into};
-ghost use Rattle.lasso_single.specs.Interner.{IsMadeWith};
+ghost use Rattle.std.specs.Prelude.{◌≡◌, ◌≤◌, ◌^◌, ◌⊎◌, [], Some, Err, true, IfOk, IfErr, OnOk, OnErr};
+ghost use Rattle.lasso_parts.specs.Account.{clear};
+ghost use Rattle.lasso_parts.specs.declared.util.LassoErrorKind.TheVariants.{FailedAllocation, MemoryLimitReached};
+ghost use Rattle.lasso_single.specs.Copies.{bytes_of, clone_of, clone_size, store_all, ClonesInto, StopsCloning};
+ghost use Rattle.lasso_single.specs.Interner.{IsMadeWith, most_copied};
 
 use super::Rodeo;
 use crate::list_copies::copy_all;
@@ -28,9 +29,12 @@ impl<K: Key, S: BuildHasher + Clone, A: Allocator + Clone> Rodeo<K, S, A> {
     /// assert!(rt; copy.current_memory_usage() == 13);
     /// ```
     pub fn try_clone(&self) -> LassoResult<Self>
+        // On success it has the same texts in one bucket of their bytes, under this limit or that size if it is greater.
         ensures texts { IfOk result (λ r. r.texts ≡ self.now.texts) }
         ensures account { IfOk result (λ r. clone_of self.now.texts self.now.account.limit ≡ Some r.account) }
         ensures made { IfOk result (IsMadeWith (clone_size self.now.texts) (bytes_of self.now.texts)) }
+
+        // On failure memory ran out, as it does if a `usize` can't count the texts' bytes.
         ensures refused { IfErr result (λ error. error ≡ FailedAllocation) }
         ensures overflow { 2 ^ 64 ≤ bytes_of self.now.texts → result ≡ Err FailedAllocation }
     {
@@ -61,9 +65,12 @@ impl<K: Key, S: BuildHasher + Clone, A: Allocator + Clone> Rodeo<K, S, A> {
     /// assert!(rt; other.try_resolve(hello) == Some("Hello, world!"));
     /// ```
     pub fn clone(&self) -> LassoResult<Self>
+        // On success it has the same texts in one bucket of their bytes, under this limit or that size if it is greater.
         ensures texts { IfOk result (λ r. r.texts ≡ self.now.texts) }
         ensures account { IfOk result (λ r. clone_of self.now.texts self.now.account.limit ≡ Some r.account) }
         ensures made { IfOk result (IsMadeWith (clone_size self.now.texts) (bytes_of self.now.texts)) }
+
+        // On failure memory ran out, as it does if a `usize` can't count the texts' bytes.
         ensures refused { IfErr result (λ error. error ≡ FailedAllocation) }
         ensures overflow { 2 ^ 64 ≤ bytes_of self.now.texts → result ≡ Err FailedAllocation }
     {
@@ -83,7 +90,24 @@ impl<K: Key, S: BuildHasher + Clone, A: Allocator + Clone> Rodeo<K, S, A> {
     /// assert!(rt; !copy.contains("blue"));
     /// ```
     pub fn try_clone_from(&mut self, source: &Self) -> LassoResult<()>
-        ensures { clone_into self.old source.now.texts result self.new }
+        // On success it has just the source's texts, stored after a clear in its own buckets under its own limit.
+        ensures texts { OnOk result (self.new.texts ≡ source.now.texts) }
+        ensures account { OnOk result (store_all self.old.first (clear self.old.first self.old.account) source.now.texts ≡ Some self.new.account) }
+        ensures copied { OnOk result (self.new.copied ≡ bytes_of source.now.texts) }
+        ensures most { OnOk result (self.new.most ≡ most_copied self.old) }
+
+        // What stays is the first bucket's size. Either way it counts as cleared.
+        ensures first { self.new.first ≡ self.old.first }
+        ensures mark { self.new.is_cleared ≡ true }
+
+        // On failure the limit had no room for a text, or memory ran out, and no text is left.
+        ensures reason { IfErr result (λ error. (error ≡ MemoryLimitReached) ⊎ (error ≡ FailedAllocation)) }
+        ensures emptied { OnErr result (self.new.texts ≡ []) }
+        ensures uncopied { OnErr result (self.new.copied ≡ 0) }
+        ensures stopped { IfErr result (λ error. StopsCloning self.old source.now.texts error self.new) }
+
+        // All of this at once
+        ensures all { ClonesInto self.old source.now.texts result self.new }
     {
         self.clear();
         self.make_room_for(source)?;
@@ -105,7 +129,24 @@ impl<K: Key, S: BuildHasher + Clone, A: Allocator + Clone> Rodeo<K, S, A> {
     /// assert!(rt; copy == rodeo);
     /// ```
     pub fn clone_from(&mut self, source: &Self) -> LassoResult<()>
-        ensures { clone_into self.old source.now.texts result self.new }
+        // On success it has just the source's texts, stored after a clear in its own buckets under its own limit.
+        ensures texts { OnOk result (self.new.texts ≡ source.now.texts) }
+        ensures account { OnOk result (store_all self.old.first (clear self.old.first self.old.account) source.now.texts ≡ Some self.new.account) }
+        ensures copied { OnOk result (self.new.copied ≡ bytes_of source.now.texts) }
+        ensures most { OnOk result (self.new.most ≡ most_copied self.old) }
+
+        // What stays is the first bucket's size. Either way it counts as cleared.
+        ensures first { self.new.first ≡ self.old.first }
+        ensures mark { self.new.is_cleared ≡ true }
+
+        // On failure the limit had no room for a text, or memory ran out, and no text is left.
+        ensures reason { IfErr result (λ error. (error ≡ MemoryLimitReached) ⊎ (error ≡ FailedAllocation)) }
+        ensures emptied { OnErr result (self.new.texts ≡ []) }
+        ensures uncopied { OnErr result (self.new.copied ≡ 0) }
+        ensures stopped { IfErr result (λ error. StopsCloning self.old source.now.texts error self.new) }
+
+        // All of this at once
+        ensures all { ClonesInto self.old source.now.texts result self.new }
     {
         self.try_clone_from(source)
     }

@@ -1,10 +1,10 @@
 //! Filling a `Rodeo`: from the items of an iterator, and from a list of texts, with their keys.
-ghost use Rattle.std.specs.Prelude.{◌≡◌, ◌+◌, ◌-◌, ◌^◌, ◌<◌, ◌⊎◌, ℕ, List, Ok, map};
-ghost use Rattle.std.specs.Prelude.{None, MatchResult, IfOk, IfErr, OnOk, length, vec_len};
-ghost use Rattle.std.specs.Iterator.{IsFinite, Drains, Yields, YieldsThen};
+ghost use Rattle.std.specs.Prelude.{◌≡◌, ◌+◌, ◌-◌, ◌^◌, ◌<◌, ◌⊎◌, ℕ, List, map};
+ghost use Rattle.std.specs.Prelude.{None, IfOk, IfErr, OnOk, length, vec_len};
+ghost use Rattle.std.specs.Iterator.{IsFinite, Yields, YieldsThen};
 ghost use Rattle.std.specs.Vec.{vec_capacity};
 ghost use Rattle.lasso_parts.specs.declared.util.LassoErrorKind.TheVariants.{FailedAllocation};
-ghost use Rattle.lasso_single.specs.Filling.{extend, StopsAtRefusal};
+ghost use Rattle.lasso_single.specs.Filling.{InternsEach, InternsItems, StopsAtItem, StopsAtRefusal};
 ghost use Rattle.lasso_single.specs.Interner.{InternerView, made_with};
 ghost use Rattle.lasso_single.specs.KeyLists.{AddsKeysOfFirst, IsNextRefused, keyed_texts};
 
@@ -34,9 +34,13 @@ impl<K: Key, S: BuildHasher, A: Allocator + Clone> Rodeo<K, S, A> {
         items: I,
     ) -> LassoResult<()>
         requires { (it : I.IntoIter) → I.into_iter_gives items it → I.IntoIter.can_next it × IsFinite (I.IntoIter.remaining it) }
-        ensures { (it : I.IntoIter) × (xs : List T) × I.into_iter_gives items it
-            × MatchResult result (λ _. Drains I.IntoIter.next_gives it xs × extend K.key_at self.old (map T.text xs) (Ok tt) self.new)
-            (λ error. ((rest : I.IntoIter) × Yields I.IntoIter.next_gives it xs rest) × StopsAtRefusal K.key_at self.old (map T.text xs) error self.new) }
+        // On success the items ended, and each was interned.
+        ensures filled { OnOk result ((it : I.IntoIter) × I.into_iter_gives items it
+            × InternsItems I.IntoIter.next_gives T.text K.key_at it self.old self.new) }
+
+        // On failure the items before the refused one are interned, and no item after it was taken.
+        ensures refused { IfErr result (λ error. (it : I.IntoIter) × I.into_iter_gives items it
+            × StopsAtItem I.IntoIter.next_gives T.text K.key_at it self.old error self.new) }
     {
         let mut items = items.into_iter();
         self.extend_from(&mut items)
@@ -59,9 +63,13 @@ impl<K: Key, S: BuildHasher, A: Allocator + Clone> Rodeo<K, S, A> {
     ) -> LassoResult<()>
         requires can { I.can_next items.old }
         requires ends { IsFinite (I.remaining items.old) }
-        ensures { (xs : List T) × MatchResult result
-            (λ _. YieldsThen I.next_gives items.old xs None items.new × extend K.key_at self.old (map T.text xs) (Ok tt) self.new)
-            (λ error. Yields I.next_gives items.old xs items.new × StopsAtRefusal K.key_at self.old (map T.text xs) error self.new) }
+        // On success the items ended, and each was interned.
+        ensures filled { OnOk result ((xs : List T) × YieldsThen I.next_gives items.old xs None items.new
+            × InternsEach K.key_at self.old (map T.text xs) self.new) }
+
+        // On failure the items before the refused one are interned, and the iterator stands right after that one.
+        ensures refused { IfErr result (λ error. (xs : List T) × Yields I.next_gives items.old xs items.new
+            × StopsAtRefusal K.key_at self.old (map T.text xs) error self.new) }
     {
         // Where there is no memory for the items that the hint tells of, each asks for its own.
         let _ = self.list.reserve(items.size_hint().0);
@@ -90,9 +98,14 @@ impl<K: Key, S: BuildHasher, A: Allocator + Clone> Rodeo<K, S, A> {
         texts: &[&str],
         keys: &mut Vec<K, B>,
     ) -> LassoResult<()>
-        ensures list { extend K.key_at self.old (keyed_texts keys.old.items keys.new.items (map (λ t. t.now) texts.now)) (Ok tt) self.new }
+        // Either way the first texts are interned, and their keys appended: one for each added key.
+        ensures list { InternsEach K.key_at self.old (keyed_texts keys.old.items keys.new.items (map (λ t. t.now) texts.now)) self.new }
         ensures keys { AddsKeysOfFirst K.key_at self.new.texts (map (λ t. t.now) texts.now) keys.old.items keys.new.items }
+
+        // On success these are all texts.
         ensures whole { OnOk result (vec_len keys.new ≡ vec_len keys.old + length texts.now) }
+
+        // On failure there was no memory for the keys, and nothing changed; or the next text was refused.
         ensures refused { IfErr result (λ error.
             ((error ≡ FailedAllocation) × (self.new ≡ self.old) × (keys.new.items ≡ keys.old.items) × (vec_capacity keys.old < vec_len keys.old + length texts.now))
             ⊎ IsNextRefused K.key_at self.new keys.old.items keys.new.items (map (λ t. t.now) texts.now) error) }
@@ -125,13 +138,13 @@ impl<K: Key, S: BuildHasher + Default + Drop, A: Allocator + Clone> Rodeo<K, S, 
         items: I,
     ) -> LassoResult<Self>
         requires { (it : I.IntoIter) → I.into_iter_gives items it → I.IntoIter.can_next it × IsFinite (I.IntoIter.remaining it) }
-        ensures filled { IfOk result (λ r. (it : I.IntoIter) × (xs : List T) × I.into_iter_gives items it
-            × Drains I.IntoIter.next_gives it xs
-            × extend K.key_at (made_with 4096 (2 ^ 64 - 1)) (map T.text xs) (Ok tt) r) }
-        ensures refused { IfErr result (λ error. (error ≡ FailedAllocation)
-            ⊎ ((it : I.IntoIter) × (xs : List T) × I.into_iter_gives items it
-            × ((rest : I.IntoIter) × Yields I.IntoIter.next_gives it xs rest)
-            × ((left : InternerView) × StopsAtRefusal K.key_at (made_with 4096 (2 ^ 64 - 1)) (map T.text xs) error left))) }
+        // On success the items ended, and each was interned into a new interner.
+        ensures filled { IfOk result (λ r. (it : I.IntoIter) × I.into_iter_gives items it
+            × InternsItems I.IntoIter.next_gives T.text K.key_at it (made_with 4096 (2 ^ 64 - 1)) r) }
+
+        // On failure memory ran out for the new interner, or an item was refused as by `extend`.
+        ensures refused { IfErr result (λ error. (error ≡ FailedAllocation) ⊎ ((it : I.IntoIter) × I.into_iter_gives items it
+            × ((left : InternerView) × StopsAtItem I.IntoIter.next_gives T.text K.key_at it (made_with 4096 (2 ^ 64 - 1)) error left))) }
     {
         let mut rodeo = Rodeo::with_hasher(alloc, S::default())?;
         rodeo.extend(items)?;

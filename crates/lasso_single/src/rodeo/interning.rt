@@ -1,10 +1,12 @@
 //! The calls of a `Rodeo` that intern a text.
-ghost use Rattle.std.specs.Prelude.{◌≡◌, ◌+◌, ◌++◌, ◌∷◌, ◌⊎◌, ◌↔◌, [], ℕ, Some, None, false, length, IsTrue};
+ghost use Rattle.std.specs.Prelude.{◌≡◌, ◌≢◌, ◌+◌, ◌++◌, ◌∷◌, ◌⊎◌, ◌↔◌, [], ℕ, Some, None, Err, false, length};
+ghost use Rattle.std.specs.Prelude.{IsOk, IsSome, IsTrue, IfOk, OnErr, OnOk};
 ghost use Rattle.lasso_parts.specs.Account.{store};
 ghost use Rattle.lasso_parts.specs.Hashing.{hash_by};
 ghost use Rattle.lasso_parts.specs.Index.{Holds, IsIndexOf, IsVacancy, StaysFiled, used};
-ghost use Rattle.lasso_parts.specs.Texts.{Fits, position_of};
-ghost use Rattle.lasso_single.specs.Intern.{InternsIn, InternsStaticIn};
+ghost use Rattle.lasso_parts.specs.Texts.{Fits, key_of, position_of};
+ghost use Rattle.lasso_parts.specs.declared.util.LassoErrorKind.TheVariants.{FailedAllocation, KeySpaceExhaustion, MemoryLimitReached};
+ghost use Rattle.lasso_single.specs.Intern.{InternsIn, InternsStaticIn, IsAbsent, IsPresent, account_with, next_key};
 ghost use Rattle.lasso_single.specs.Interner.{KeepsOrigin};
 
 use super::Rodeo;
@@ -29,6 +31,33 @@ impl<K: Key, S: BuildHasher, A: Allocator + Clone> Rodeo<K, S, A> {
     /// assert!(rt; again == hello);
     /// ```
     pub fn try_get_or_intern(&mut self, text: &str) -> LassoResult<K>
+        // On success the key is the text's. An absent text goes last and is copied; a present one changes nothing.
+        ensures key { IfOk result (λ key. key_of K.key_at self.new.texts text.now ≡ Some key) }
+        ensures present { IsPresent self.old text.now → IsOk result × (self.new ≡ self.old) }
+        ensures appended { IsAbsent self.old text.now → OnOk result (self.new.texts ≡ self.old.texts ++ text.now ∷ []) }
+        ensures account { IsAbsent self.old text.now → OnOk result (account_with self.old text.now ≡ Some self.new.account) }
+        ensures copied { IsAbsent self.old text.now → OnOk result (self.new.copied ≡ self.old.copied + length text.now) }
+
+        // What stays
+        ensures origin { KeepsOrigin self.old self.new }
+
+        // On failure nothing changes. The first reason that applies is the error; for a present text none does.
+        ensures unchanged { OnErr result (self.new ≡ self.old) }
+        ensures no_key { (result ≡ Err KeySpaceExhaustion) ↔ (IsAbsent self.old text.now × (next_key K.key_at self.old ≡ None)) }
+        ensures limit { (result ≡ Err MemoryLimitReached)
+            ↔ (IsAbsent self.old text.now × IsSome (next_key K.key_at self.old) × (account_with self.old text.now ≡ None)) }
+        ensures memory { result ≡ Err FailedAllocation
+            → IsAbsent self.old text.now × IsSome (next_key K.key_at self.old) × IsSome (account_with self.old text.now) }
+
+        // All of this at once
+        ensures all { InternsIn K.key_at self.old text.now result self.new }
+    {
+        self.intern(text)
+    }
+
+    // The call with its contract in one clause.
+    #[inline(always)]
+    fn intern(&mut self, text: &str) -> LassoResult<K>
         ensures { InternsIn K.key_at self.old text.now result self.new }
     {
         let hash = hash_text(&self.hasher, text);
@@ -80,7 +109,26 @@ impl<K: Key, S: BuildHasher, A: Allocator + Clone> Rodeo<K, S, A> {
     /// assert!(rt; other != hello);
     /// ```
     pub fn get_or_intern(&mut self, text: &str) -> LassoResult<K>
-        ensures { InternsIn K.key_at self.old text.now result self.new }
+        // On success the key is the text's. An absent text goes last and is copied; a present one changes nothing.
+        ensures key { IfOk result (λ key. key_of K.key_at self.new.texts text.now ≡ Some key) }
+        ensures present { IsPresent self.old text.now → IsOk result × (self.new ≡ self.old) }
+        ensures appended { IsAbsent self.old text.now → OnOk result (self.new.texts ≡ self.old.texts ++ text.now ∷ []) }
+        ensures account { IsAbsent self.old text.now → OnOk result (account_with self.old text.now ≡ Some self.new.account) }
+        ensures copied { IsAbsent self.old text.now → OnOk result (self.new.copied ≡ self.old.copied + length text.now) }
+
+        // What stays
+        ensures origin { KeepsOrigin self.old self.new }
+
+        // On failure nothing changes. The first reason that applies is the error; for a present text none does.
+        ensures unchanged { OnErr result (self.new ≡ self.old) }
+        ensures no_key { (result ≡ Err KeySpaceExhaustion) ↔ (IsAbsent self.old text.now × (next_key K.key_at self.old ≡ None)) }
+        ensures limit { (result ≡ Err MemoryLimitReached)
+            ↔ (IsAbsent self.old text.now × IsSome (next_key K.key_at self.old) × (account_with self.old text.now ≡ None)) }
+        ensures memory { result ≡ Err FailedAllocation
+            → IsAbsent self.old text.now × IsSome (next_key K.key_at self.old) × IsSome (account_with self.old text.now) }
+
+        // All of this at once
+        ensures all { InternsIn K.key_at self.old text.now result self.new }
     {
         self.try_get_or_intern(text)
     }
@@ -98,6 +146,31 @@ impl<K: Key, S: BuildHasher, A: Allocator + Clone> Rodeo<K, S, A> {
     /// assert!(rt; rodeo.current_memory_usage() == 4);
     /// ```
     pub fn try_get_or_intern_static(&mut self, text: &'static str) -> LassoResult<K>
+        // On success the key is the text's. An absent text goes last; a present one changes nothing.
+        ensures key { IfOk result (λ key. key_of K.key_at self.new.texts text.now ≡ Some key) }
+        ensures present { IsPresent self.old text.now → IsOk result × (self.new ≡ self.old) }
+        ensures appended { IsAbsent self.old text.now → OnOk result (self.new.texts ≡ self.old.texts ++ text.now ∷ []) }
+
+        // What stays: no byte is copied.
+        ensures account { self.new.account ≡ self.old.account }
+        ensures copied { self.new.copied ≡ self.old.copied }
+        ensures origin { KeepsOrigin self.old self.new }
+
+        // On failure nothing changes. The first reason that applies is the error; the limit is none.
+        ensures unchanged { OnErr result (self.new ≡ self.old) }
+        ensures no_key { (result ≡ Err KeySpaceExhaustion) ↔ (IsAbsent self.old text.now × (next_key K.key_at self.old ≡ None)) }
+        ensures no_limit { result ≢ Err MemoryLimitReached }
+        ensures memory { result ≡ Err FailedAllocation → IsAbsent self.old text.now × IsSome (next_key K.key_at self.old) }
+
+        // All of this at once
+        ensures all { InternsStaticIn K.key_at self.old text.now result self.new }
+    {
+        self.intern_static(text)
+    }
+
+    // The call with its contract in one clause.
+    #[inline(always)]
+    fn intern_static(&mut self, text: &'static str) -> LassoResult<K>
         ensures { InternsStaticIn K.key_at self.old text.now result self.new }
     {
         let hash = hash_text(&self.hasher, text);
@@ -126,7 +199,24 @@ impl<K: Key, S: BuildHasher, A: Allocator + Clone> Rodeo<K, S, A> {
     /// assert!(rt; same == hello);
     /// ```
     pub fn get_or_intern_static(&mut self, text: &'static str) -> LassoResult<K>
-        ensures { InternsStaticIn K.key_at self.old text.now result self.new }
+        // On success the key is the text's. An absent text goes last; a present one changes nothing.
+        ensures key { IfOk result (λ key. key_of K.key_at self.new.texts text.now ≡ Some key) }
+        ensures present { IsPresent self.old text.now → IsOk result × (self.new ≡ self.old) }
+        ensures appended { IsAbsent self.old text.now → OnOk result (self.new.texts ≡ self.old.texts ++ text.now ∷ []) }
+
+        // What stays: no byte is copied.
+        ensures account { self.new.account ≡ self.old.account }
+        ensures copied { self.new.copied ≡ self.old.copied }
+        ensures origin { KeepsOrigin self.old self.new }
+
+        // On failure nothing changes. The first reason that applies is the error; the limit is none.
+        ensures unchanged { OnErr result (self.new ≡ self.old) }
+        ensures no_key { (result ≡ Err KeySpaceExhaustion) ↔ (IsAbsent self.old text.now × (next_key K.key_at self.old ≡ None)) }
+        ensures no_limit { result ≢ Err MemoryLimitReached }
+        ensures memory { result ≡ Err FailedAllocation → IsAbsent self.old text.now × IsSome (next_key K.key_at self.old) }
+
+        // All of this at once
+        ensures all { InternsStaticIn K.key_at self.old text.now result self.new }
     {
         self.try_get_or_intern_static(text)
     }

@@ -1,11 +1,11 @@
 //! A `Rodeo` as JSON: the array of its texts, in the order of their keys.
-ghost use Rattle.std.specs.Prelude.{◌≡◌, ◌<◌, Some, IfOk, IfErr, length, true};
+ghost use Rattle.std.specs.Prelude.{◌≡◌, ◌<◌, ◌⊎◌, Some, Ok, Err, IfOk, IfErr, length, true};
 ghost use Rattle.serde_json.specs.View.{view};
-ghost use Rattle.lasso_parts.specs.Json.{json_array, shown};
+ghost use Rattle.lasso_parts.specs.Json.{json_array, read_array, shown};
 ghost use Rattle.lasso_parts.specs.declared.util.LassoErrorKind.TheVariants.{FailedAllocation};
 ghost use Rattle.lasso_single.specs.Copies.{bytes_of, clone_size, read_of};
 ghost use Rattle.lasso_single.specs.Interner.{IsMadeWith};
-ghost use Rattle.lasso_single.specs.Json.{ReadsInto, RefusesUncountableBytes};
+ghost use Rattle.lasso_single.specs.Json.{IsOutOfMemory, ReadsInto, RefusesUncountableBytes};
 
 use super::Rodeo;
 use lasso_parts::json::{JsonError, read_array, write_array};
@@ -46,10 +46,17 @@ impl<K: Key, S: BuildHasher + Default + Drop, A: Allocator + Clone> Rodeo<K, S, 
     /// assert!(rt; first.into_usize() == 0);
     /// ```
     pub fn deserialize(alloc: A, value: &Value) -> Result<Self, JsonError>
-        ensures read { ReadsInto K.key_at true (view value.now) (shown (λ r. r.texts) result) }
+        // On success it has the texts that the value is read as, in one bucket of their bytes.
+        ensures texts { IfOk result (λ r. read_array K.key_at true (view value.now) ≡ Ok r.texts) }
         ensures account { IfOk result (λ r. read_of r.texts ≡ Some r.account) }
         ensures made { IfOk result (λ r. IsMadeWith (clone_size r.texts) (bytes_of r.texts) r) }
+
+        // On failure the error is what is wrong with the value, or memory ran out.
+        ensures fault { IfErr result (λ error. (read_array K.key_at true (view value.now) ≡ Err error) ⊎ IsOutOfMemory K.key_at true (view value.now) error) }
         ensures overflow { RefusesUncountableBytes K.key_at true (view value.now) result }
+
+        // Texts and faults at once
+        ensures read { ReadsInto K.key_at true (view value.now) (shown (λ r. r.texts) result) }
     {
         let texts = read_array::<K, A>(alloc, value, true)?;
         let alloc = texts.allocator().clone()?;

@@ -10,7 +10,7 @@ returns-clause-declared g c =
     let number = g.K.Key.number in
     let name = c.args.name.now in
     let variable = c.in_ok-variable.variable in
-    let told = c.in_ok-variable.ensures in
+    let told = c.in_ok-variable.ensures.all in
     let now = c.args.self.now in
     let later = c.try_get_or_intern.new.self in
     ap (names_of number later.texts) (c.push_reserved.ensures.items ∙ ap (λ vs. vs ++ variable ∷ []) c.reserve.ensures.items)

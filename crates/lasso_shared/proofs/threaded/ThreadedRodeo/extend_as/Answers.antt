@@ -16,11 +16,11 @@ loop-text-preserved g c =
       so_far = (so_far.0 ++ c.in-Some.text ∷ [], ran, filled);
     }
 
-pub returns-in_err-try_get_or_intern_as-clause-filled : goal.returns-in_err-try_get_or_intern_as-clause-filled
-returns-in_err-try_get_or_intern_as-clause-filled g c =
+pub returns-in_err-try_get_or_intern_as-clause-refused : goal.returns-in_err-try_get_or_intern_as-clause-refused
+returns-in_err-try_get_or_intern_as-clause-refused g c =
     let told = c.in_err-try_get_or_intern_as.ensures in
     let so_far = c.loop-text.invariant.so_far in
     let ran = yields_push g.I.Iterator.next_gives c.args.items.now c.loop-text.items c.next.new.self so_far.0 c.in-Some.text so_far.1 c.in-Some.ensures.steps in
     let ended = refused_turn g.K.Key.key_at c.args.self.now g.T.AsStr.text so_far.0 c.in-Some.text c.as_str.result.now c.in_err-try_get_or_intern_as.field-0.0 c.args.pass.now c.loop-text.pass c.try_get_or_intern_as.new.pass so_far.2 c.as_str.ensures told.call in
     let p = err_from_is_err_and c.from_residual.result c.from_residual.ensures.1 in
-    rw (p.1, p.2) (so_far.0 ++ c.in-Some.text ∷ [], (ran, ended))
+    rw (p.1, p.2) (so_far.0 ++ c.in-Some.text ∷ [], ran, ended)

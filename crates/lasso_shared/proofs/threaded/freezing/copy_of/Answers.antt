@@ -12,7 +12,7 @@ returns-in_err-try_get_or_intern-clause-refused g c =
     let made = c.in_ok-copy.copy in
     let room : made.account.room ≡ clone_size texts = ap (λ (a : Account). a.room) c.in_ok-copy.ensures.account ∙ c.in_ok-capacity.ensures.bytes in
     let fits : bytes_of texts ≤ made.account.room = omega (arith, room, bytes-le-clone_size texts) in
-    let refused = interned_more g.K.Key.key_at made texts c.loop-position.position c.text_at.result.now c.loop-position.copy (Err c.in_err-try_get_or_intern.field-0.0) c.try_get_or_intern.new.self c.requires.distinct c.requires.fits fits c.text_at.ensures c.loop-position.invariant c.in_err-try_get_or_intern.ensures in
+    let refused = interned_more g.K.Key.key_at made texts c.loop-position.position c.text_at.result.now c.loop-position.copy (Err c.in_err-try_get_or_intern.field-0.0) c.try_get_or_intern.new.self c.requires.distinct c.requires.fits fits c.text_at.ensures c.loop-position.invariant c.in_err-try_get_or_intern.ensures.all in
     let p = err_from_is_err_and c.from_residual-in_err-try_get_or_intern.result c.from_residual-in_err-try_get_or_intern.ensures.1 in
     rw (p.1, p.2) refused
 
@@ -22,4 +22,4 @@ loop-position-preserved g c =
     let made = c.in_ok-copy.copy in
     let room : made.account.room ≡ clone_size texts = ap (λ (a : Account). a.room) c.in_ok-copy.ensures.account ∙ c.in_ok-capacity.ensures.bytes in
     let fits : bytes_of texts ≤ made.account.room = omega (arith, room, bytes-le-clone_size texts) in
-    interned_more g.K.Key.key_at made texts c.loop-position.position c.text_at.result.now c.loop-position.copy (Ok c.in_ok-try_get_or_intern.field-0) c.try_get_or_intern.new.self c.requires.distinct c.requires.fits fits c.text_at.ensures c.loop-position.invariant c.in_ok-try_get_or_intern.ensures
+    interned_more g.K.Key.key_at made texts c.loop-position.position c.text_at.result.now c.loop-position.copy (Ok c.in_ok-try_get_or_intern.field-0) c.try_get_or_intern.new.self c.requires.distinct c.requires.fits fits c.text_at.ensures c.loop-position.invariant c.in_ok-try_get_or_intern.ensures.all

@@ -7,9 +7,9 @@ use Rattle.lasso_single.specs.Intern.{InternsIn}
 use Rattle.lasso_single.proofs.Filled.{accepted, extend_turn, yields_push}
 use Rattle.lasso_single.proofs.rodeo.Rodeo.extend_from.Goals as goal
 
-pub returns-in_err-try_get_or_intern : goal.returns-in_err-try_get_or_intern
-returns-in_err-try_get_or_intern g c =
-    let told = c.in_err-try_get_or_intern.ensures in
+pub returns-in_err-try_get_or_intern-clause-refused : goal.returns-in_err-try_get_or_intern-clause-refused
+returns-in_err-try_get_or_intern-clause-refused g c =
+    let told = c.in_err-try_get_or_intern.ensures.all in
     let error = c.in_err-try_get_or_intern.field-0.0 in
     let so_far = c.loop-text.invariant.so_far in
     let items = so_far.0 in
@@ -17,11 +17,11 @@ returns-in_err-try_get_or_intern g c =
     let interns : InternsIn g.K.Key.key_at c.loop-text.self (g.T.AsStr.text c.in-Some.text) (Err error) c.try_get_or_intern.new.self = subst (λ (t : Text). InternsIn g.K.Key.key_at c.loop-text.self t (Err error) c.try_get_or_intern.new.self) c.as_str.ensures told in
     let last : StopsAtRefusal g.K.Key.key_at c.args.self.now (map g.T.AsStr.text (items ++ c.in-Some.text ∷ [])) error c.try_get_or_intern.new.self = (map g.T.AsStr.text items, g.T.AsStr.text c.in-Some.text, c.loop-text.self, map_push g.T.AsStr.text items c.in-Some.text, so_far.2, interns) in
     let p = err_from_is_err_and c.from_residual.result c.from_residual.ensures.1 in
-    rw (p.1, p.2) (items ++ c.in-Some.text ∷ [], (ran, last))
+    rw (p.1, p.2) (items ++ c.in-Some.text ∷ [], ran, last)
 
 pub loop-text-preserved : goal.loop-text-preserved
 loop-text-preserved g c =
-    let told = c.in_ok-try_get_or_intern.ensures in
+    let told = c.in_ok-try_get_or_intern.ensures.all in
     let so_far = c.loop-text.invariant.so_far in
     let goes = c.in-Some.ensures.goes.on c.loop-text.invariant.ends in
     let ran = yields_push g.I.Iterator.next_gives c.args.items.now c.loop-text.items c.next.new.self so_far.0 c.in-Some.text so_far.1 c.in-Some.ensures.steps in

@@ -10,11 +10,11 @@ loop-keyword-init g c = opened_none _ _ c.in_ok-rodeo.ensures.texts
 
 pub loop-keyword-preserved : goal.loop-keyword-preserved
 loop-keyword-preserved g c =
-    opened_turn g.row.K.Denot g.K.Key.key_at _ c.args.keywords.now c.loop-keyword.keyword-index _ c.loop-keyword.rodeo c.in_ok-try_get_or_intern_static.field-0 c.try_get_or_intern_static.new.self c.requires.distinct c.loop-keyword-test.true c.loop-keyword.invariant c.in_ok-try_get_or_intern_static.ensures
+    opened_turn g.row.K.Denot g.K.Key.key_at _ c.args.keywords.now c.loop-keyword.keyword-index _ c.loop-keyword.rodeo c.in_ok-try_get_or_intern_static.field-0 c.try_get_or_intern_static.new.self c.requires.distinct c.loop-keyword-test.true c.loop-keyword.invariant c.in_ok-try_get_or_intern_static.ensures.all
 
 pub returns-in_err-try_get_or_intern_static-clause-refused : goal.returns-in_err-try_get_or_intern_static-clause-refused
 returns-in_err-try_get_or_intern_static-clause-refused g c =
-    let told = opened_stopped g.row.K.Denot g.K.Key.key_at _ c.args.keywords.now c.loop-keyword.keyword-index _ c.loop-keyword.rodeo c.in_err-try_get_or_intern_static.field-0.0 c.try_get_or_intern_static.new.self c.requires.distinct c.requires.fits c.loop-keyword-test.true c.loop-keyword.invariant c.in_err-try_get_or_intern_static.ensures in
+    let told = opened_stopped g.row.K.Denot g.K.Key.key_at _ c.args.keywords.now c.loop-keyword.keyword-index _ c.loop-keyword.rodeo c.in_err-try_get_or_intern_static.field-0.0 c.try_get_or_intern_static.new.self c.requires.distinct c.requires.fits c.loop-keyword-test.true c.loop-keyword.invariant c.in_err-try_get_or_intern_static.ensures.all in
     let p = err_from_is_err_and c.from_residual-in_err-try_get_or_intern_static.result c.from_residual-in_err-try_get_or_intern_static.ensures.1 in
     rw (p.1, p.2) told
 

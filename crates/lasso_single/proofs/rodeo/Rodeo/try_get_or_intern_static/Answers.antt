@@ -1,14 +1,26 @@
-use Rattle.std.proofs.Common.{◌≡◌, ℕ, length, Some, IsSome, subst, sym, refl}
-use Rattle.lasso_single.proofs.Wholes.{whole_reserved, whole_pushed}
+use Rattle.lasso_single.proofs.InternFacts.{static_key_told, static_present_idle, static_absent_last, static_account_stays, static_refused_idle, static_refused_keyless, static_never_limited, static_refused_memory}
 use Rattle.lasso_single.proofs.rodeo.Rodeo.try_get_or_intern_static.Goals as goal
 
-pub invariant_of-self-in_err-push_static : goal.invariant_of-self-in_err-push_static
-invariant_of-self-in_err-push_static g c =
-    whole_reserved _ g.K.Key.key_at c.self.inside.list.texts c.push_static.new.self.texts c.self.inside.index c.reserve_in_order.new.self c.self.invariant c.in_err-push_static.ensures.same_texts c.reserve_in_order.ensures.whole
+pub returns-clause-key : goal.returns-clause-key
+returns-clause-key g c = static_key_told g.K.Key.key_at c.args.self.now c.intern_static.new.self c.args.text.now c.intern_static.result c.intern_static.ensures
 
-pub invariant_of-self-2 : goal.invariant_of-self-2
-invariant_of-self-2 g c =
-    let texts = c.self.inside.list.texts in
-    let made : Some c.in-Some.key ≡ g.K.Key.key_at (length texts) = subst (λ (n : ℕ). Some c.in-Some.key ≡ g.K.Key.key_at n) c.len.ensures c.in-Some.ensures in
-    let number : g.K.Key.number c.in-Some.key ≡ length texts = (g.met.K.Key.made (length texts) c.in-Some.key (sym made)).2 in
-    whole_pushed _ g.K.Key.key_at texts c.push_static.new.self.texts c.args.text.now c.hash_text-hash.result (g.K.Key.number c.in-Some.key) c.self.inside.index c.reserve_in_order.new.self c.insert_at.new.self c.self.invariant c.reserve_in_order.ensures.whole (c.in-Err.ensures.whole c.self.invariant.0) c.in_ok-push_static.ensures.texts number (subst IsSome made refl) c.hash_text-hash.ensures c.insert_at.ensures.holds c.insert_at.ensures.used c.insert_at.ensures.filed
+pub returns-clause-present : goal.returns-clause-present
+returns-clause-present g c = static_present_idle g.K.Key.key_at c.args.self.now c.intern_static.new.self c.args.text.now c.intern_static.result c.intern_static.ensures
+
+pub returns-clause-appended : goal.returns-clause-appended
+returns-clause-appended g c = static_absent_last g.K.Key.key_at c.args.self.now c.intern_static.new.self c.args.text.now c.intern_static.result c.intern_static.ensures
+
+pub returns-clause-account : goal.returns-clause-account
+returns-clause-account g c = static_account_stays g.K.Key.key_at c.args.self.now c.intern_static.new.self c.args.text.now c.intern_static.result c.intern_static.ensures
+
+pub returns-clause-unchanged : goal.returns-clause-unchanged
+returns-clause-unchanged g c = static_refused_idle g.K.Key.key_at c.args.self.now c.intern_static.new.self c.args.text.now c.intern_static.result c.intern_static.ensures
+
+pub returns-clause-no_key : goal.returns-clause-no_key
+returns-clause-no_key g c = static_refused_keyless g.K.Key.key_at c.args.self.now c.intern_static.new.self c.args.text.now c.intern_static.result c.intern_static.ensures
+
+pub returns-clause-no_limit : goal.returns-clause-no_limit
+returns-clause-no_limit g c = static_never_limited g.K.Key.key_at c.args.self.now c.intern_static.new.self c.args.text.now c.intern_static.result c.intern_static.ensures
+
+pub returns-clause-memory : goal.returns-clause-memory
+returns-clause-memory g c = static_refused_memory g.K.Key.key_at c.args.self.now c.intern_static.new.self c.args.text.now c.intern_static.result c.intern_static.ensures
