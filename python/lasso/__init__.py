@@ -16,11 +16,12 @@ from lasso.errors import (
     CodesExhausted, InternerClosed, LassoError, LimitReached, NotUtf8, OutOfMemory, WrongLayout,
 )
 from lasso.interner import Interner
+from lasso.shared import SharedInterner
 from lasso.sources import ArrowArray, ArrowStream, ArrowStrings
 
 __all__ = [
     "NULL", "ArrowArray", "ArrowStream", "ArrowStrings", "Codes", "CodesExhausted", "Interner", "InternerClosed", "LassoError",
-    "LimitReached", "NotUtf8", "OutOfMemory", "WrongLayout",
+    "LimitReached", "NotUtf8", "OutOfMemory", "SharedInterner", "WrongLayout",
 ]
 
 __version__ = "0.1.0"

@@ -8,6 +8,7 @@ from typing import TYPE_CHECKING, Any
 
 if TYPE_CHECKING:
     from lasso.interner import Interner
+    from lasso.shared import SharedInterner
 
 NULL = 2**32 - 1
 """The code of a null. No text has it."""
@@ -19,9 +20,9 @@ class Codes(array):  # type: ignore[type-arg]
     ``interner`` is the interner that has the texts. A slice, a sum, a copy or a pickle of codes is a plain array.
     """
 
-    interner: Interner
+    interner: Interner | SharedInterner
 
-    def __new__(cls, interner: Interner, codes: Iterable[int] | bytes = b"") -> Codes:
+    def __new__(cls, interner: Interner | SharedInterner, codes: Iterable[int] | bytes = b"") -> Codes:
         make: Any = super().__new__
         made: Codes = make(cls, "I", codes)
         made.interner = interner
