@@ -10,7 +10,7 @@ enum { LONG_ROWS = 4096 };
 /* A chunk on its way to codes. */
 struct chunk {
     struct column column;
-    struct lasso *lasso;
+    struct interner *interner;
     bool appends;
     uint32_t *codes;
     uint32_t *known; /* for a dictionary: the code of each of its texts, once it was met */
@@ -36,7 +36,7 @@ static uint32_t refuse(struct chunk *chunk, uint32_t status, int64_t row)
 static uint32_t gather(struct chunk *chunk, int64_t from, int64_t to)
 {
     struct batch *batch = &chunk->batch;
-    batch_begin(batch, chunk->lasso, chunk->appends, chunk->codes, (size_t)from);
+    batch_begin(batch, chunk->interner, chunk->appends, chunk->codes, (size_t)from);
     for (int64_t row = from; row < to; row++) {
         const uint8_t *text = NULL;
         size_t length = 0;
@@ -55,23 +55,18 @@ static uint32_t lend(struct chunk *chunk, int64_t from)
 {
     struct texts *texts = &chunk->column.texts;
     int64_t row = chunk->column.offset + from;
-    size_t rows = (size_t)(chunk->column.length - from);
-    const uint8_t *present = texts->validity == NULL ? NULL : texts->validity + row / 8;
-    size_t bits = present == NULL ? 0 : (rows + 7) / 8, size = (size_t)texts->size;
-    uint32_t *codes = chunk->codes + from, status;
-    struct lasso_report report = {0, 0, 0};
-    if (texts->layout == LAYOUT_LARGE) {
-        const int64_t *offsets = (const int64_t *)texts->offsets + row;
-        status = chunk->appends
-            ? lasso_intern_batch_nulls_large(chunk->lasso, texts->bytes, size, offsets, rows + 1, present, bits, LASSO_NULL, codes, rows, &report)
-            : lasso_get_batch_large(chunk->lasso, texts->bytes, size, offsets, rows + 1, LASSO_ABSENT, codes, rows, &report);
-    } else {
-        const int32_t *offsets = (const int32_t *)texts->offsets + row;
-        status = chunk->appends
-            ? lasso_intern_batch_nulls(chunk->lasso, texts->bytes, size, offsets, rows + 1, present, bits, LASSO_NULL, codes, rows, &report)
-            : lasso_get_batch(chunk->lasso, texts->bytes, size, offsets, rows + 1, LASSO_ABSENT, codes, rows, &report);
-    }
-    return refuse(chunk, status, from + (int64_t)report.at);
+    bool is_large = texts->layout == LAYOUT_LARGE;
+    struct rows rows = {
+        .bytes = texts->bytes,
+        .bytes_length = (size_t)texts->size,
+        .offsets = (const uint8_t *)texts->offsets + (is_large ? 8 : 4) * row,
+        .has_long_offsets = is_large,
+        .count = (size_t)(chunk->column.length - from),
+        .present = texts->validity == NULL ? NULL : texts->validity + row / 8,
+    };
+    size_t refused;
+    uint32_t status = interner_rows(chunk->interner, chunk->appends, &rows, chunk->codes + from, &refused);
+    return refuse(chunk, status, from + (int64_t)refused);
 }
 
 /* The code of a text of the dictionary, once it is met first. */
@@ -83,7 +78,7 @@ static uint32_t meet(struct chunk *chunk, int64_t index, uint32_t *code)
     *code = LASSO_NULL;
     if (status != LASSO_DONE || text == NULL)
         return status;
-    status = chunk->appends ? lasso_intern(chunk->lasso, text, length, code) : lasso_get(chunk->lasso, text, length, code);
+    status = interner_wait(chunk->interner, chunk->appends, text, length, code);
     return status == LASSO_NO_SUCH_TEXT ? LASSO_DONE : status;
 }
 
@@ -122,7 +117,7 @@ static void encode_chunk(void *with)
     int64_t head = column->texts.validity == NULL ? 0 : (8 - column->offset % 8) % 8;
     if (!as_it_is || head > column->length)
         head = column->length;
-    if (!chunk->lasso->live)
+    if (!interner_is_live(chunk->interner))
         chunk->status = LASSO_NO_INTERNER;
     else if (column->index != 0)
         chunk->status = by_dictionary(chunk);
@@ -166,7 +161,7 @@ static int encode_column(Core *core, const struct column *column, bool appends, 
         return first < 0 ? -1 : (raise_status(LASSO_NO_MEMORY, -1), -1);
     }
     chunk->column = *column;
-    chunk->lasso = &core->lasso;
+    chunk->interner = &core->interner;
     chunk->appends = appends;
     chunk->codes = malloc(4 * (size_t)column->length + 1);
     chunk->known = calloc(texts + 1, 5);

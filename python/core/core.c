@@ -1,4 +1,4 @@
-/* The extension module lasso._core: the type Core, which holds an interner of lasso.h, and its calls for one text. */
+/* The extension module lasso._core: the type Core, which holds an interner of lasso.h, and the calls for one text, which the type Seat has too. */
 #include "core.h"
 
 #include <stdarg.h>
@@ -27,6 +27,8 @@ void core_without_gil(Core *core, void (*call)(void *), void *with)
     Py_END_ALLOW_THREADS
     core->busy = false;
     PyThread_release_lock(core->lock);
+    if (core->closes)
+        interner_free(&core->interner);
 }
 
 PyObject *raise_status(uint32_t status, Py_ssize_t position)
@@ -92,14 +94,39 @@ static int argument(Core *core, PyObject *item, const uint8_t **text, size_t *le
     return 0;
 }
 
-static PyObject *core_intern(Core *core, PyObject *item)
+/* A call for one text that waits for other threads. */
+struct waiting {
+    struct interner *interner;
+    bool appends;
+    const uint8_t *text;
+    size_t length;
+    uint32_t *code;
+    uint32_t status;
+};
+
+static void wait_for_it(void *with)
+{
+    struct waiting *call = with;
+    call->status = interner_wait(call->interner, call->appends, call->text, call->length, call->code);
+}
+
+/* Interns or looks up a text. It waits without the GIL. */
+static uint32_t text_call(Core *core, bool appends, const uint8_t *text, size_t length, uint32_t *code)
+{
+    struct waiting call = {&core->interner, appends, text, length, code, interner_try(&core->interner, appends, text, length, code)};
+    if (call.status == LASSO_BUSY)
+        core_without_gil(core, wait_for_it, &call);
+    return call.status;
+}
+
+PyObject *core_intern(Core *core, PyObject *item)
 {
     const uint8_t *text;
     size_t length;
     uint32_t code;
     if (argument(core, item, &text, &length) < 0)
         return NULL;
-    uint32_t status = lasso_intern(&core->lasso, text, length, &code);
+    uint32_t status = text_call(core, true, text, length, &code);
     return status == LASSO_DONE ? PyLong_FromUnsignedLong(code) : raise_status(status, -1);
 }
 
@@ -110,14 +137,14 @@ static int look_up(Core *core, PyObject *item, uint32_t *code)
     size_t length;
     if (argument(core, item, &text, &length) < 0)
         return -1;
-    uint32_t status = lasso_get(&core->lasso, text, length, code);
+    uint32_t status = text_call(core, false, text, length, code);
     if (status == LASSO_DONE || status == LASSO_NO_SUCH_TEXT)
         return status == LASSO_DONE;
     raise_status(status, -1);
     return -1;
 }
 
-static PyObject *core_get(Core *core, PyObject *item)
+PyObject *core_get(Core *core, PyObject *item)
 {
     uint32_t code;
     int found = look_up(core, item, &code);
@@ -128,47 +155,48 @@ static PyObject *core_get(Core *core, PyObject *item)
     Py_RETURN_NONE;
 }
 
-static int core_contains(Core *core, PyObject *item)
+int core_contains(Core *core, PyObject *item)
 {
     uint32_t code;
     return look_up(core, item, &code);
 }
 
-static Py_ssize_t core_len(Core *core)
+Py_ssize_t core_len(Core *core)
 {
     core_enter(core);
-    return (Py_ssize_t)lasso_len(&core->lasso);
+    return (Py_ssize_t)interner_len(&core->interner);
 }
 
-static PyObject *core_item(Core *core, PyObject *index)
+PyObject *core_item(Core *core, PyObject *index)
 {
     struct lasso_text text = LASSO_NO_TEXT;
     Py_ssize_t code = PyNumber_AsSsize_t(index, PyExc_IndexError);
     if (code == -1 && PyErr_Occurred())
         return NULL;
     core_enter(core);
-    if (code < 0 || (size_t)code >= lasso_len(&core->lasso))
-        return PyErr_Format(PyExc_IndexError, "no text has the code %zd: there are %zu texts", code, lasso_len(&core->lasso));
-    uint32_t status = lasso_text(&core->lasso, (uint32_t)code, &text);
+    if (code < 0 || (size_t)code >= interner_len(&core->interner))
+        return PyErr_Format(PyExc_IndexError, "no text has the code %zd: there are %zu texts", code, interner_len(&core->interner));
+    uint32_t status = interner_text(&core->interner, (uint32_t)code, &text);
     if (status != LASSO_DONE)
         return raise_status(status, -1);
     return PyUnicode_FromStringAndSize((const char *)text.bytes, (Py_ssize_t)text.length);
 }
 
-/* A list without items for the texts from a code on. Making it may run the garbage collector, and with it any code. */
+/* A list without items for the texts from a code on. Making it may run the garbage collector, and with it any code. Other threads may append to
+ * a shared interner meanwhile: the list is for the texts that there were. */
 static PyObject *list_for(Core *core, size_t start)
 {
     for (;;) {
         core_enter(core);
-        size_t texts = lasso_len(&core->lasso), count = texts > start ? texts - start : 0;
+        size_t texts = interner_len(&core->interner), count = texts > start ? texts - start : 0;
         PyObject *list = PyList_New((Py_ssize_t)count);
-        if (list == NULL || (!core->busy && lasso_len(&core->lasso) == texts))
+        if (list == NULL || core->interner.is_shared || (!core->busy && interner_len(&core->interner) == texts))
             return list;
         Py_DECREF(list);
     }
 }
 
-static PyObject *core_texts(Core *core, PyObject *words)
+PyObject *core_texts(Core *core, PyObject *words)
 {
     Py_ssize_t start = 0;
     struct lasso_text lent[256];
@@ -179,19 +207,19 @@ static PyObject *core_texts(Core *core, PyObject *words)
     PyObject *list = list_for(core, (size_t)start);
     if (list == NULL)
         return NULL;
-    if (!core->lasso.live) {
+    if (!interner_is_live(&core->interner)) {
         Py_DECREF(list);
         return raise_status(LASSO_NO_INTERNER, -1);
     }
     for (Py_ssize_t done = 0, count = PyList_Size(list); done < count;) {
         for (size_t at = 0; at < 256; at++)
             lent[at] = (struct lasso_text)LASSO_NO_TEXT;
-        size_t got = lasso_texts(&core->lasso, (size_t)(start + done), lent, 256);
+        size_t got = interner_texts(&core->interner, (size_t)(start + done), lent, count - done < 256 ? (size_t)(count - done) : 256);
         if (got == 0) {
             Py_DECREF(list);
             return raise_status(LASSO_NO_SUCH_CODE, -1);
         }
-        for (size_t at = 0; at < got && done < count; at++, done++) {
+        for (size_t at = 0; at < got; at++, done++) {
             PyObject *text = PyUnicode_FromStringAndSize((const char *)lent[at].bytes, (Py_ssize_t)lent[at].length);
             if (text == NULL || PyList_SetItem(list, done, text) < 0) {
                 Py_DECREF(list);
@@ -229,7 +257,7 @@ static PyObject *core_open(Core *core, PyObject *words)
     if (!PyArg_ParseTuple(words, "OKK", &number, &seed0, &seed1) || limit_of(number, &limit) < 0)
         return NULL;
     core_enter(core);
-    uint32_t status = lasso_new_seeded(&core->lasso, limit, seed0, seed1);
+    uint32_t status = lasso_new_seeded(&core->interner.own, limit, seed0, seed1);
     if (status != LASSO_DONE)
         return raise_status(status, -1);
     Py_RETURN_NONE;
@@ -246,7 +274,7 @@ static PyObject *core_clone(Core *core, PyObject *other)
         core_enter(core);
         core_enter(clone);
     } while (core->busy);
-    uint32_t status = lasso_clone(&core->lasso, &clone->lasso);
+    uint32_t status = lasso_clone(&core->interner.own, &clone->interner.own);
     if (status != LASSO_DONE)
         return raise_status(status, -1);
     Py_RETURN_NONE;
@@ -256,7 +284,7 @@ static PyObject *core_clear(Core *core, PyObject *none)
 {
     (void)none;
     core_enter(core);
-    uint32_t status = lasso_clear(&core->lasso);
+    uint32_t status = lasso_clear(&core->interner.own);
     if (status != LASSO_DONE)
         return raise_status(status, -1);
     Py_RETURN_NONE;
@@ -266,28 +294,28 @@ static PyObject *core_close(Core *core, PyObject *none)
 {
     (void)none;
     core_enter(core);
-    lasso_free(&core->lasso);
+    interner_free(&core->interner);
     Py_RETURN_NONE;
 }
 
-static PyObject *core_closed(Core *core, void *none)
+PyObject *core_closed(Core *core, void *none)
 {
     (void)none;
-    return PyBool_FromLong(!core->lasso.live);
+    return PyBool_FromLong(!interner_is_live(&core->interner));
 }
 
 static PyObject *core_memory(Core *core, void *none)
 {
     (void)none;
     core_enter(core);
-    return PyLong_FromSize_t(lasso_memory(&core->lasso));
+    return PyLong_FromSize_t(lasso_memory(&core->interner.own));
 }
 
 static PyObject *core_limit(Core *core, void *none)
 {
     (void)none;
     core_enter(core);
-    size_t limit = lasso_limit(&core->lasso);
+    size_t limit = lasso_limit(&core->interner.own);
     if (limit == LASSO_NO_LIMIT)
         Py_RETURN_NONE;
     return PyLong_FromSize_t(limit);
@@ -304,13 +332,13 @@ static int core_set_limit(Core *core, PyObject *number, void *none)
     if (limit_of(number, &limit) < 0)
         return -1;
     core_enter(core);
-    uint32_t status = lasso_set_limit(&core->lasso, limit);
+    uint32_t status = lasso_set_limit(&core->interner.own, limit);
     if (status != LASSO_DONE)
         raise_status(status, -1);
     return status == LASSO_DONE ? 0 : -1;
 }
 
-static PyObject *core_new(PyTypeObject *type, PyObject *words, PyObject *named)
+PyObject *core_new(PyTypeObject *type, PyObject *words, PyObject *named)
 {
     (void)words;
     (void)named;
@@ -318,7 +346,7 @@ static PyObject *core_new(PyTypeObject *type, PyObject *words, PyObject *named)
     Core *core = (Core *)allocate(type, 0);
     if (core == NULL)
         return NULL;
-    core->lasso = (struct lasso)LASSO_NONE;
+    core->next = core->previous = core;
     core->lock = PyThread_allocate_lock();
     if (core->lock == NULL) {
         Py_DECREF(core);
@@ -328,10 +356,12 @@ static PyObject *core_new(PyTypeObject *type, PyObject *words, PyObject *named)
 }
 
 /* No call runs: each has a reference of its own. */
-static void core_dealloc(Core *core)
+void core_dealloc(Core *core)
 {
     PyTypeObject *type = Py_TYPE((PyObject *)core);
-    lasso_free(&core->lasso);
+    interner_free(&core->interner);
+    core->next->previous = core->previous;
+    core->previous->next = core->next;
     if (core->lock != NULL)
         PyThread_free_lock(core->lock);
     ((freefunc)PyType_GetSlot(type, Py_tp_free))(core);
@@ -409,6 +439,9 @@ static int load(PyObject *module)
     Py_DECREF(errors);
     set(&core_type, PyType_FromSpec(&spec));
     if (error_of == NULL || wrong_layout == NULL || core_type == NULL || PyModule_AddObjectRef(module, "Core", core_type) < 0)
+        return -1;
+    PyObject *seat = seat_type();
+    if (seat == NULL || PyModule_AddObjectRef(module, "Seat", seat) < 0)
         return -1;
     interpreter = here;
     return 0;

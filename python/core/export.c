@@ -166,7 +166,7 @@ PyObject *core_dictionary_array(Core *core, PyObject *object)
         core_enter(core);
         schema->release = release_schema;
         array->release = release_array;
-        if (fill(&core->lasso, &codes, schema, array) == 0)
+        if (fill(&core->interner.own, &codes, schema, array) == 0)
             pair = PyTuple_Pack(2, first, second);
         PyBuffer_Release(&codes);
     }

@@ -6,9 +6,10 @@
 
 enum { AHEAD = 16 };
 
-void batch_begin(struct batch *batch, struct lasso *lasso, bool appends, uint32_t *codes, size_t first)
+void batch_begin(struct batch *batch, struct interner *interner, bool appends, uint32_t *codes, size_t first)
 {
-    batch->lasso = lasso;
+    batch->interner = interner;
+    batch->lets_go = NULL;
     batch->appends = appends;
     batch->codes = codes;
     batch->first = first;
@@ -18,42 +19,35 @@ void batch_begin(struct batch *batch, struct lasso *lasso, bool appends, uint32_
     memset(batch->present, 0xff, sizeof batch->present);
 }
 
-/* Looks up what was gathered. A null is looked up as the empty text, and has the code of a null. */
-static uint32_t look_up_batch(struct batch *batch, struct lasso_report *report)
+static void run_batch(void *with)
 {
-    uint32_t *codes = batch->codes + batch->first;
-    uint32_t status = lasso_get_batch(batch->lasso, batch->texts, batch->bytes, batch->offsets, batch->rows + 1, LASSO_ABSENT, codes,
-                                      batch->rows, report);
-    for (size_t row = 0; status == LASSO_DONE && batch->has_nulls && row < batch->rows; row++) {
-        if (!(batch->present[row / 8] >> row % 8 & 1))
-            codes[row] = LASSO_NULL;
-    }
-    return status;
+    struct batch *batch = with;
+    struct rows rows = {batch->texts, batch->bytes, batch->offsets, false, batch->rows, batch->has_nulls ? batch->present : NULL};
+    batch->status = interner_rows(batch->interner, batch->appends, &rows, batch->codes + batch->first, &batch->refused);
+    batch->refused += batch->first;
 }
 
 uint32_t batch_end(struct batch *batch)
 {
-    struct lasso_report report;
-    uint32_t status = LASSO_DONE;
+    Core *lets_go = batch->lets_go;
     if (batch->rows == 0)
         return LASSO_DONE;
-    if (batch->appends)
-        status = lasso_intern_batch_nulls(batch->lasso, batch->texts, batch->bytes, batch->offsets, batch->rows + 1, batch->present,
-                                          batch->has_nulls ? (batch->rows + 7) / 8 : 0, LASSO_NULL, batch->codes + batch->first, batch->rows,
-                                          &report);
+    if (lets_go != NULL)
+        core_without_gil(lets_go, run_batch, batch);
     else
-        status = look_up_batch(batch, &report);
-    batch->refused = batch->first + report.at;
-    if (status == LASSO_DONE)
-        batch_begin(batch, batch->lasso, batch->appends, batch->codes, batch->first + batch->rows);
-    return status;
+        run_batch(batch);
+    if (batch->status == LASSO_DONE) {
+        batch_begin(batch, batch->interner, batch->appends, batch->codes, batch->first + batch->rows);
+        batch->lets_go = lets_go;
+    }
+    return batch->status;
 }
 
 /* A text that has no room in a batch, after what was gathered. */
 static uint32_t one_text(struct batch *batch, const uint8_t *text, size_t length)
 {
     uint32_t *code = &batch->codes[batch->first];
-    uint32_t status = batch->appends ? lasso_intern(batch->lasso, text, length, code) : lasso_get(batch->lasso, text, length, code);
+    uint32_t status = interner_wait(batch->interner, batch->appends, text, length, code);
     batch->refused = batch->first;
     if (status == LASSO_NO_SUCH_TEXT) {
         *code = LASSO_ABSENT;
@@ -190,37 +184,65 @@ PyObject *core_check_rows(Core *core, PyObject *words)
     Py_RETURN_NONE;
 }
 
+/* Sets the exception of a refused batch. Returns -1. */
+static int raise_batch(const struct batch *batch, uint32_t status)
+{
+    raise_status(status, status == LASSO_NO_INTERNER ? -1 : (Py_ssize_t)batch->refused);
+    return -1;
+}
+
+/* Takes one more item. Returns -1 with an exception that has the row. */
+static int take(PyObject *item, Py_ssize_t row, PyObject *nulls, struct batch *batch)
+{
+    const uint8_t *text;
+    size_t length;
+    uint32_t status, refused = LASSO_DONE;
+    if (is_text(item)) {
+        refused = text_of(item, &text, &length);
+        status = refused == LASSO_DONE ? batch_text(batch, text, length) : batch_end(batch);
+    } else if (is_null(item, nulls)) {
+        status = batch_null(batch);
+    } else {
+        raise_item(item, row);
+        return -1;
+    }
+    if (status == LASSO_DONE && refused != LASSO_DONE)
+        raise_status(refused, row);
+    else if (status != LASSO_DONE)
+        raise_batch(batch, status);
+    return status == LASSO_DONE && refused == LASSO_DONE ? 0 : -1;
+}
+
+/* Takes an item that other threads may let go while the GIL is. They may have changed the list before. */
+static int take_shared(struct items *items, Py_ssize_t at, Py_ssize_t row, PyObject *nulls, struct batch *batch)
+{
+    items->count = items->list != NULL ? PyList_Size(items->list) : items->count;
+    if (at >= items->count) {
+        PyErr_SetString(PyExc_RuntimeError, "the texts changed while they were encoded");
+        return -1;
+    }
+    PyObject *item = Py_XNewRef(item_at(items, at));
+    int taken = take(item, row, nulls, batch);
+    Py_XDECREF(item);
+    return taken;
+}
+
 /* Interns or looks up the items from start up to stop. Returns -1 with an exception that has the position after `first`. */
-static int pass(const struct items *items, Py_ssize_t start, Py_ssize_t stop, Py_ssize_t first, PyObject *nulls, struct batch *batch)
+static int pass(struct items *items, Py_ssize_t start, Py_ssize_t stop, Py_ssize_t first, PyObject *nulls, struct batch *batch)
 {
     for (Py_ssize_t at = start; at < stop; at++) {
-        const uint8_t *text;
-        size_t length;
-        PyObject *item = item_at(items, at);
-        uint32_t status, refused;
-        read_ahead(items, at + AHEAD, true);
-        if (is_text(item)) {
-            refused = text_of(item, &text, &length);
-            status = refused == LASSO_DONE ? batch_text(batch, text, length) : batch_end(batch);
-            if (status == LASSO_DONE && refused != LASSO_DONE) {
-                raise_status(refused, first + at);
-                return -1;
-            }
-        } else if (is_null(item, nulls)) {
-            status = batch_null(batch);
-        } else {
-            raise_item(item, first + at);
-            return -1;
+        int taken;
+        if (batch->lets_go != NULL)
+            taken = take_shared(items, at, first + at, nulls, batch);
+        else {
+            read_ahead(items, at + AHEAD, true);
+            taken = take(item_at(items, at), first + at, nulls, batch);
         }
-        if (status != LASSO_DONE) {
-            raise_status(status, status == LASSO_NO_INTERNER ? -1 : (Py_ssize_t)batch->refused);
+        if (taken < 0)
             return -1;
-        }
     }
     uint32_t status = batch_end(batch);
-    if (status != LASSO_DONE)
-        raise_status(status, status == LASSO_NO_INTERNER ? -1 : (Py_ssize_t)batch->refused);
-    return status == LASSO_DONE ? 0 : -1;
+    return status == LASSO_DONE ? 0 : raise_batch(batch, status);
 }
 
 PyObject *core_rows(Core *core, PyObject *words)
@@ -243,10 +265,11 @@ PyObject *core_rows(Core *core, PyObject *words)
     items.count = items.list != NULL ? PyList_Size(items.list) : items.count;
     if (start < 0 || first < 0 || start > stop || stop > items.count || first > codes.len / 4 - stop)
         PyErr_SetString(PyExc_RuntimeError, "the texts changed while they were encoded");
-    else if (!core->lasso.live)
+    else if (!interner_is_live(&core->interner))
         raise_status(LASSO_NO_INTERNER, -1);
     else {
-        batch_begin(&batch, &core->lasso, appends, codes.buf, (size_t)(first + start));
+        batch_begin(&batch, &core->interner, appends, codes.buf, (size_t)(first + start));
+        batch.lets_go = core->interner.is_shared ? core : NULL;
         pass(&items, start, stop, first, nulls, &batch);
     }
     PyBuffer_Release(&codes);

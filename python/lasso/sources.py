@@ -7,7 +7,7 @@ from array import array
 from collections.abc import Sequence
 from typing import Any, Protocol
 
-from lasso._core import Core
+from lasso._core import Core, Seat
 
 # How many rows are encoded before Python may run a signal's handler or another thread.
 _ROWS = 65536
@@ -36,7 +36,7 @@ class ArrowStrings(Protocol):
     def __len__(self) -> int: ...
 
 
-def encode_into(core: Core, texts: Any, column: str | None, codes: array[int], appends: bool) -> None:
+def encode_into(core: Core | Seat, texts: Any, column: str | None, codes: array[int], appends: bool) -> None:
     """Appends the codes of texts to ``codes``, which is empty. Absent texts are interned, or else have the code NULL, as nulls have."""
     if column is None and _has_rows(texts):
         _encode_rows(core, texts, codes, appends)
@@ -60,7 +60,7 @@ def _has_rows(texts: Any) -> bool:
     return isinstance(texts, list) or (getattr(texts, "dtype", None) == object) is True
 
 
-def _encode_rows(core: Core, texts: Any, codes: array[int], appends: bool) -> None:
+def _encode_rows(core: Core | Seat, texts: Any, codes: array[int], appends: bool) -> None:
     rows, nulls = _rows_of(texts), _nulls()
     as_they_are = isinstance(rows, list) or rows.dtype == object
     if as_they_are:
@@ -94,7 +94,7 @@ def _nulls() -> tuple[object, ...]:
     return tuple(getattr(pandas, name) for name in ("NA", "NaT") if hasattr(pandas, name))
 
 
-def _encode_buffers(core: Core, texts: Any, codes: array[int], appends: bool) -> None:
+def _encode_buffers(core: Core | Seat, texts: Any, codes: array[int], appends: bool) -> None:
     name = str(getattr(texts, "type", "string"))
     if name not in ("string", "utf8", "large_string", "large_utf8"):
         raise TypeError(f"an Arrow array of {name}, where string or large_string is wanted")

@@ -1,8 +1,8 @@
-//! Two interners of any of the three types are equal if they have the same texts under the same
+//! Two interners of any of the four types are equal if they have the same texts under the same
 //! keys.
 
 use crate::iter::TextList;
-use crate::{Rodeo, RodeoReader, RodeoResolver};
+use crate::{Rodeo, RodeoReader, RodeoResolver, ThreadedRodeo};
 
 fn same_texts(left: &dyn TextList, right: &dyn TextList) -> bool {
     left.len() == right.len() && (0..left.len()).all(|it| left.text(it) == right.text(it))
@@ -31,19 +31,6 @@ equal! {
     [K] RodeoResolver<K>: texts == RodeoResolver<K>: texts;
     [K, S] RodeoResolver<K>: texts == Rodeo<K, S>: handle;
     [K, S] RodeoResolver<K>: texts == RodeoReader<K, S>: handle;
-}
-
-impl<K, S> Eq for Rodeo<K, S> {}
-
-impl<K, S> Eq for RodeoReader<K, S> {}
-
-impl<K> Eq for RodeoResolver<K> {}
-
-#[cfg(feature = "threads")]
-use crate::ThreadedRodeo;
-
-#[cfg(feature = "threads")]
-equal! {
     [K, S] ThreadedRodeo<K, S>: users == ThreadedRodeo<K, S>: users;
     [K, S] ThreadedRodeo<K, S>: users == Rodeo<K, S>: handle;
     [K, S] ThreadedRodeo<K, S>: users == RodeoReader<K, S>: handle;
@@ -53,5 +40,10 @@ equal! {
     [K, S] RodeoResolver<K>: texts == ThreadedRodeo<K, S>: users;
 }
 
-#[cfg(feature = "threads")]
+impl<K, S> Eq for Rodeo<K, S> {}
+
+impl<K, S> Eq for RodeoReader<K, S> {}
+
+impl<K> Eq for RodeoResolver<K> {}
+
 impl<K, S> Eq for ThreadedRodeo<K, S> {}

@@ -30,7 +30,8 @@ struct Shared {
 extern "C" {
     fn lasso_shared_new(shared: *mut Shared) -> u32;
     fn lasso_shared_join(shared: *mut Shared, other: *mut Shared) -> u32;
-    fn lasso_shared_intern(shared: *mut Shared, text: *const u8, len: usize, code: *mut u32) -> u32;
+    fn lasso_shared_intern(shared: *mut Shared, text: *const u8, len: usize, code: *mut u32)
+        -> u32;
     fn lasso_shared_get(shared: *mut Shared, text: *const u8, len: usize, code: *mut u32) -> u32;
     fn lasso_shared_see(shared: *mut Shared) -> u32;
     fn lasso_shared_text(shared: *mut Shared, code: u32, text: *mut LassoText) -> u32;

@@ -1,10 +1,9 @@
-//! A string interner with the names and signatures of lasso 0.7.3, for one thread, over a library
-//! that is proved.
+//! A string interner with the names and signatures of lasso 0.7.3, over a library that is proved.
 //!
 //! An interner stores each distinct text once and returns a small key for it. Equal texts have
-//! equal keys, keys count up from 0, and a key resolves to its text. [`Rodeo`] interns.
-//! [`RodeoReader`] and [`RodeoResolver`] are made from it once all texts are interned; threads may
-//! share them.
+//! equal keys, keys count up from 0, and a key resolves to its text. [`Rodeo`] interns in one
+//! thread, [`ThreadedRodeo`] in many at once. [`RodeoReader`] and [`RodeoResolver`] are made from
+//! either once all texts are interned; threads may share them.
 //!
 //! A program that uses lasso takes this crate in its place by one line of its `Cargo.toml`,
 //! `lasso = { package = "lasso_proved", path = ".." }`, or by one line of Rust:
@@ -32,7 +31,6 @@
 mod equality;
 mod error;
 mod foreign;
-#[cfg(feature = "threads")]
 mod foreign_shared;
 mod interface;
 mod iter;
@@ -43,7 +41,6 @@ mod resolver;
 mod rodeo;
 #[cfg(feature = "serialize")]
 mod serialize;
-#[cfg(feature = "threads")]
 mod threaded;
 
 pub use error::{LassoError, LassoErrorKind, LassoResult};
@@ -54,5 +51,4 @@ pub use limits::{Capacity, MemoryLimits};
 pub use reader::RodeoReader;
 pub use resolver::RodeoResolver;
 pub use rodeo::Rodeo;
-#[cfg(feature = "threads")]
 pub use threaded::ThreadedRodeo;

@@ -282,7 +282,7 @@ impl<K: Key, S: BuildHasher> Rodeo<K, S> {
 }
 
 /// The last position that a text of the library can have.
-const LAST_POSITION: usize = u32::MAX as usize - 1;
+pub(crate) const LAST_POSITION: usize = u32::MAX as usize - 1;
 
 /// The key of a text that is present.
 ///

@@ -4,7 +4,7 @@ use crate::error::or_panic;
 use crate::foreign::{Handle, Seed, SharedHandle};
 use crate::foreign_shared::Users;
 use crate::iter::TextList;
-use crate::rodeo::text_of;
+use crate::rodeo::{key_of, text_of, LAST_POSITION};
 use crate::{
     Capacity, Iter, Key, LassoError, LassoErrorKind, LassoResult, MemoryLimits, RodeoReader,
     RodeoResolver, Spur, Strings,
@@ -15,11 +15,15 @@ use std::hash::BuildHasher;
 use std::marker::PhantomData;
 use std::ops::Index;
 use std::sync::atomic::{AtomicUsize, Ordering};
+use std::sync::{Mutex, MutexGuard, PoisonError};
 
-/// An interner that threads share by reference.
+/// An interner that threads share by reference: each distinct text once, and a small key for each.
 ///
-/// The list of texts is the library's, of which it is proved that one growing list explains each reply.
-/// Only tested: the limit, which is counted here, by the texts' bytes; and the pool of handles.
+/// `K` is the type of its keys. The hasher `S` is kept for the reader that it becomes, and not used:
+/// the library hashes texts by a fixed seed, so whoever chooses them can make them collide.
+///
+/// Calls of different threads go on at once. Only an absent text takes a lock of the whole interner,
+/// and only if a limit was set or the key type has fewer keys than the library.
 ///
 /// ```rust
 /// use lasso_proved::ThreadedRodeo;
@@ -35,10 +39,29 @@ use std::sync::atomic::{AtomicUsize, Ordering};
 pub struct ThreadedRodeo<K = Spur, S = RandomState> {
     pub(crate) users: Users,
     first: usize,
-    used: AtomicUsize,
     limit: AtomicUsize,
+    // Whoever holds it alone appends a text that may be refused.
+    counted: Mutex<Counted>,
     hasher: S,
     key: PhantomData<fn(K) -> K>,
+}
+
+/// How many bytes the texts have, counted up to a position.
+#[derive(Default)]
+struct Counted {
+    texts: usize,
+    bytes: usize,
+}
+
+impl Counted {
+    /// The bytes of all texts of now.
+    fn up_to_now(&mut self, texts: &Users) -> usize {
+        while let Some(text) = texts.text(self.texts) {
+            self.texts += 1;
+            self.bytes += text.len();
+        }
+        self.bytes
+    }
 }
 
 impl<K: Key> ThreadedRodeo<K, RandomState> {
@@ -47,7 +70,8 @@ impl<K: Key> ThreadedRodeo<K, RandomState> {
         Self::with_capacity(Capacity::default())
     }
 
-    /// An interner without texts. The capacity is only counted.
+    /// An interner without texts. The bytes of the capacity are the least that a limit counts, and no
+    /// memory is taken for them.
     pub fn with_capacity(capacity: Capacity) -> Self {
         Self::with_capacity_and_memory_limits(capacity, MemoryLimits::default())
     }
@@ -90,63 +114,94 @@ impl<K: Key, S: BuildHasher> ThreadedRodeo<K, S> {
         Self {
             users: or_panic(Users::new()),
             first: capacity.bytes().get(),
-            used: AtomicUsize::new(0),
             limit: AtomicUsize::new(memory_limits.max_memory_usage()),
+            counted: Mutex::default(),
             hasher: hash_builder,
             key: PhantomData,
         }
     }
 
-    /// The key of a text, which is appended if it is absent.
+    /// The key of a text. An absent text is copied into the interner first.
+    ///
+    /// # Panics
+    ///
+    /// If an absent text is refused, as [`try_get_or_intern`](Self::try_get_or_intern) refuses it.
     #[track_caller]
     pub fn get_or_intern<T: AsRef<str>>(&self, val: T) -> K {
         or_panic(self.try_get_or_intern(val))
     }
 
-    /// The same, or why an absent text was refused.
+    /// The key of a text. An absent text is copied into the interner first.
+    ///
+    /// # Errors
+    ///
+    /// An absent text is refused if no key is left, then if the limit has no room for it, and if
+    /// memory is out. The interner is as it was then. A present text is never refused.
+    ///
+    /// ```rust
+    /// use lasso_proved::{MicroSpur, ThreadedRodeo};
+    ///
+    /// let rodeo: ThreadedRodeo<MicroSpur> = ThreadedRodeo::new();
+    /// for number in 0..255 {
+    ///     assert!(rodeo.try_get_or_intern(number.to_string()).is_ok());
+    /// }
+    /// assert!(rodeo.try_get_or_intern("more").unwrap_err().kind().is_keyspace_exhaustion());
+    /// assert!(rodeo.try_get_or_intern("254").is_ok());
+    /// ```
     pub fn try_get_or_intern<T: AsRef<str>>(&self, val: T) -> LassoResult<K> {
         let text = val.as_ref();
-        let exhausted = LassoError::new(LassoErrorKind::KeySpaceExhaustion);
-        let has_all = K::try_from_usize(u32::MAX as usize - 1).is_some();
-        let limited = self.limit.load(Ordering::Relaxed) != usize::MAX;
-        if limited || !has_all {
-            if let Some(code) = self.users.get(text)? {
-                return K::try_from_usize(code as usize).ok_or(exhausted);
-            }
-            if !has_all && K::try_from_usize(self.users.len()).is_none() {
-                return Err(exhausted);
-            }
-            self.charge(text.len())?;
+        let has_all = K::try_from_usize(LAST_POSITION).is_some();
+        if has_all && self.max_memory_usage() == usize::MAX {
+            return self.users.intern(text).map(key_of);
         }
-        let code = self.users.intern(text)?;
-        K::try_from_usize(code as usize).ok_or(exhausted)
+        match self.users.get(text)? {
+            Some(code) => Ok(key_of(code)),
+            None => self.intern_or_refuse(text),
+        }
     }
 
-    fn charge(&self, bytes: usize) -> LassoResult<()> {
-        let most = self.limit.load(Ordering::Relaxed).max(self.first);
-        self.used
-            .fetch_update(Ordering::Relaxed, Ordering::Relaxed, |used| {
-                used.checked_add(bytes).filter(|sum| *sum <= most)
-            })
-            .map(|_| ())
-            .map_err(|_| LassoError::new(LassoErrorKind::MemoryLimitReached))
+    /// Interns a text that was absent, unless there is no key or the limit has no room for it.
+    #[cold]
+    fn intern_or_refuse(&self, text: &str) -> LassoResult<K> {
+        let mut counted = self.lock_counted();
+        // Another thread may have interned it meanwhile.
+        if let Some(code) = self.users.get(text)? {
+            return Ok(key_of(code));
+        }
+        if K::try_from_usize(self.len()).is_none() {
+            return Err(LassoError::new(LassoErrorKind::KeySpaceExhaustion));
+        }
+        let most = self.max_memory_usage().max(self.first);
+        if text.len() > most.saturating_sub(counted.up_to_now(&self.users)) {
+            return Err(LassoError::new(LassoErrorKind::MemoryLimitReached));
+        }
+        self.users.intern(text).map(key_of)
     }
 
-    /// The same as `get_or_intern`: the text is copied.
+    /// The key of a static text: the same call as [`get_or_intern`](Self::get_or_intern). An absent
+    /// text is copied too.
+    ///
+    /// # Panics
+    ///
+    /// If an absent text is refused.
     #[track_caller]
     pub fn get_or_intern_static(&self, string: &'static str) -> K {
         self.get_or_intern(string)
     }
 
-    /// The same as `try_get_or_intern`.
+    /// The key of a static text: the same call as [`try_get_or_intern`](Self::try_get_or_intern).
+    /// An absent text is copied too, and counts for the limit.
+    ///
+    /// # Errors
+    ///
+    /// Those of `try_get_or_intern`.
     pub fn try_get_or_intern_static(&self, string: &'static str) -> LassoResult<K> {
         self.try_get_or_intern(string)
     }
 
     /// The key of a text, or `None` if it is absent.
     pub fn get<T: AsRef<str>>(&self, val: T) -> Option<K> {
-        let code = or_panic(self.users.get(val.as_ref()))?;
-        K::try_from_usize(code as usize)
+        or_panic(self.users.get(val.as_ref())).map(key_of)
     }
 
     /// Whether the text is present.
@@ -161,7 +216,12 @@ impl<K: Key, S> ThreadedRodeo<K, S> {
         key.into_usize() < self.len()
     }
 
-    /// The text of a key, with no copy.
+    /// The text of a key, with no copy. It stays as long as the interner is borrowed, also while
+    /// others intern.
+    ///
+    /// # Panics
+    ///
+    /// If there is no text of this key.
     #[track_caller]
     pub fn resolve<'a>(&'a self, key: &K) -> &'a str {
         text_of(&self.users, key)
@@ -172,11 +232,11 @@ impl<K: Key, S> ThreadedRodeo<K, S> {
         self.users.text(key.into_usize())
     }
 
-    /// The same as `resolve`.
+    /// The text of a key: the same call as [`resolve`](Self::resolve), with its test and its panic.
     ///
     /// # Safety
     ///
-    /// None is needed; upstream asks that there is a text of the key.
+    /// There is a text of this key.
     pub unsafe fn resolve_unchecked<'a>(&'a self, key: &K) -> &'a str {
         self.resolve(key)
     }
@@ -193,62 +253,77 @@ impl<K, S> ThreadedRodeo<K, S> {
         self.len() == 0
     }
 
-    /// How many texts fit before something grows; here as many as there are.
+    /// As many as there are texts: the list grows piece by piece, and nothing moves.
     pub fn capacity(&self) -> usize {
         self.len()
     }
 
-    /// Sets how many bytes the texts may take.
+    /// Sets how many bytes the texts may have. With fewer than they have now each absent text of at
+    /// least one byte is refused.
+    ///
+    /// ```rust
+    /// use lasso_proved::{MemoryLimits, ThreadedRodeo};
+    ///
+    /// let rodeo = ThreadedRodeo::default();
+    /// rodeo.set_memory_limits(MemoryLimits::for_memory_usage(0));
+    /// assert!(rodeo.try_get_or_intern("x".repeat(4097)).is_err());
+    /// assert!(rodeo.try_get_or_intern("x".repeat(4096)).is_ok());
+    /// ```
     pub fn set_memory_limits(&self, memory_limits: MemoryLimits) {
         self.limit
-            .store(memory_limits.max_memory_usage(), Ordering::Relaxed);
+            .store(memory_limits.max_memory_usage(), Ordering::SeqCst);
     }
 
-    /// How many bytes were charged to the limit, at least those of the capacity.
+    /// How many bytes the texts have, or those of the capacity if that is more.
     pub fn current_memory_usage(&self) -> usize {
-        self.used.load(Ordering::Relaxed).max(self.first)
+        self.lock_counted().up_to_now(&self.users).max(self.first)
     }
 
-    /// How many bytes the texts may take.
+    fn lock_counted(&self) -> MutexGuard<'_, Counted> {
+        self.counted.lock().unwrap_or_else(PoisonError::into_inner)
+    }
+
+    /// How many bytes the texts may have. The bytes of the capacity are always there.
     pub fn max_memory_usage(&self) -> usize {
-        self.limit.load(Ordering::Relaxed)
+        self.limit.load(Ordering::SeqCst)
     }
 
-    /// The keys and texts, up to those that are there now.
+    /// The keys and texts of now, in the order of their keys.
     pub fn iter(&self) -> Iter<'_, K> {
         Iter::new(&self.users)
     }
 
-    /// The texts, up to those that are there now.
+    /// The texts of now, in the order of their keys.
     pub fn strings(&self) -> Strings<'_, K> {
         Strings::new(&self.users)
     }
 
-    fn one_thread(&self) -> Handle {
+    /// Makes it an interner that interns no more, with the same texts under the same keys. They are
+    /// copied.
+    ///
+    /// # Panics
+    ///
+    /// Out of memory.
+    #[must_use]
+    pub fn into_reader(self) -> RodeoReader<K, S> {
+        let room = (self.len(), self.current_memory_usage());
         let mut handle = or_panic(Handle::with_room(
-            self.len(),
-            self.first,
+            room.0,
+            room.1,
             usize::MAX,
             Seed::random(),
         ));
         for text in self.strings() {
             or_panic(handle.intern(text));
         }
-        handle
+        RodeoReader::new(SharedHandle::new(handle), self.hasher)
     }
 
-    /// A reader of the same texts under the same keys. They are copied.
-    pub fn into_reader(self) -> RodeoReader<K, S> {
-        RodeoReader::new(SharedHandle::new(self.one_thread()), self.hasher)
-    }
-
-    /// A resolver of the same texts under the same keys. They are copied.
-    pub fn into_resolver(self) -> RodeoResolver<K>
-    where
-        K: Key,
-        S: BuildHasher,
-    {
-        self.into_reader().into_resolver()
+    /// Copies the texts into one piece of memory, and lets the interner go. What is made resolves
+    /// keys.
+    #[must_use]
+    pub fn into_resolver(self) -> RodeoResolver<K> {
+        RodeoResolver::with_texts(self.strings())
     }
 }
 
@@ -258,12 +333,22 @@ impl Default for ThreadedRodeo {
     }
 }
 
-impl<K: Key + fmt::Debug, S> fmt::Debug for ThreadedRodeo<K, S> {
+/// Shows the texts, and the bytes that they have and may have.
+impl<K, S> fmt::Debug for ThreadedRodeo<K, S> {
     fn fmt(&self, f: &mut fmt::Formatter<'_>) -> fmt::Result {
-        f.debug_map().entries(self.iter()).finish()
+        f.debug_struct("ThreadedRodeo")
+            .field("strings", &self.strings())
+            .field("current_memory_usage", &self.current_memory_usage())
+            .field("max_memory_usage", &self.max_memory_usage())
+            .finish()
     }
 }
 
+/// Interns each item, in their order.
+///
+/// # Panics
+///
+/// If a text is refused.
 impl<Str: AsRef<str>, K: Key, S: BuildHasher + Default> FromIterator<Str> for ThreadedRodeo<K, S> {
     fn from_iter<T: IntoIterator<Item = Str>>(iter: T) -> Self {
         let mut rodeo = Self::with_hasher(S::default());
@@ -272,6 +357,11 @@ impl<Str: AsRef<str>, K: Key, S: BuildHasher + Default> FromIterator<Str> for Th
     }
 }
 
+/// Interns each item, in their order.
+///
+/// # Panics
+///
+/// If a text is refused. The items before it stay.
 impl<K: Key, S: BuildHasher, T: AsRef<str>> Extend<T> for ThreadedRodeo<K, S> {
     fn extend<I: IntoIterator<Item = T>>(&mut self, iter: I) {
         for text in iter {
@@ -280,6 +370,11 @@ impl<K: Key, S: BuildHasher, T: AsRef<str>> Extend<T> for ThreadedRodeo<K, S> {
     }
 }
 
+/// The text of a key.
+///
+/// # Panics
+///
+/// If there is no text of this key.
 impl<K: Key, S: BuildHasher> Index<K> for ThreadedRodeo<K, S> {
     type Output = str;
 

@@ -2,7 +2,7 @@
 
 mod support;
 
-use lasso_proved::{Iter, Key, Rodeo, RodeoReader, RodeoResolver, Spur, Strings};
+use lasso_proved::{Iter, Key, Rodeo, RodeoReader, RodeoResolver, Spur, Strings, ThreadedRodeo};
 use std::sync::{Arc, Barrier};
 use std::thread;
 use support::{text_of, LENGTHS};
@@ -189,6 +189,7 @@ fn what_threads_may_move_and_share() {
     fn moves<T: Send>() {}
     fn shares<T: Send + Sync>() {}
     moves::<Rodeo>();
+    shares::<ThreadedRodeo>();
     shares::<RodeoReader>();
     shares::<RodeoResolver>();
     shares::<Spur>();

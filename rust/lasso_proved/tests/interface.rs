@@ -2,7 +2,7 @@
 
 use lasso_proved::{
     Interner, IntoReader, IntoReaderAndResolver, IntoResolver, Key, LassoResult, Reader, Resolver,
-    Rodeo, RodeoReader, RodeoResolver, Spur,
+    Rodeo, RodeoReader, RodeoResolver, Spur, ThreadedRodeo,
 };
 
 const TEXTS: [&str; 3] = ["red", "green", "a text of more than fourteen bytes"];
@@ -57,6 +57,10 @@ fn an_interner_serves_as_itself_borrowed_and_boxed() {
     intern_all(&mut &mut Rodeo::default());
     intern_all(Box::new(Rodeo::default()));
     intern_all(Box::new(Rodeo::default()) as Box<dyn Interner>);
+    intern_all(ThreadedRodeo::default());
+    intern_all(&ThreadedRodeo::default());
+    intern_all(&mut &ThreadedRodeo::default());
+    intern_all(Box::new(ThreadedRodeo::default()) as Box<dyn Interner>);
 }
 
 #[test]
@@ -92,8 +96,11 @@ fn resolver_of<R: IntoResolver + 'static>(reader: R) -> R::Resolver {
 
 type AnyInterner = dyn IntoReaderAndResolver<Spur, Reader = RodeoReader, Resolver = RodeoResolver>;
 
-fn boxed() -> Box<AnyInterner> {
-    Box::new(Rodeo::default())
+fn boxed() -> [Box<AnyInterner>; 2] {
+    [
+        Box::new(Rodeo::default()),
+        Box::new(ThreadedRodeo::default()),
+    ]
 }
 
 #[test]
@@ -101,14 +108,17 @@ fn interners_become_readers_and_resolvers() {
     read_all(freeze(Rodeo::default()));
     read_all(freeze(Box::new(Rodeo::default())));
     read_all(freeze(Box::new(Box::new(Rodeo::default()))));
-    read_all(freeze(boxed()));
+    read_all(freeze(ThreadedRodeo::default()));
+    resolve_all(resolver_of(freeze(Box::new(ThreadedRodeo::default()))));
+    boxed().map(|interner| read_all(freeze(interner)));
     resolve_all(resolver_of(freeze(Rodeo::default())));
     resolve_all(resolver_of(Box::new(freeze(Rodeo::default()))));
-    let mut interner = boxed();
-    for text in TEXTS {
-        interner.get_or_intern_static(text);
+    for mut interner in boxed() {
+        for text in TEXTS {
+            interner.get_or_intern_static(text);
+        }
+        resolve_all(resolver_of(interner));
     }
-    resolve_all(resolver_of(interner));
 }
 
 /// An interner of another crate. Each call gives another answer, so that none can stand for another.

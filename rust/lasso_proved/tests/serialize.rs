@@ -1,10 +1,12 @@
 //! serde: what interners and keys are written as, and read from.
 #![cfg(feature = "serialize")]
 
-use lasso_proved::{Key, LargeSpur, MicroSpur, MiniSpur, Rodeo, RodeoReader, RodeoResolver, Spur};
-use serde::de::value::{Error, SeqDeserializer};
+use lasso_proved::{
+    Key, LargeSpur, MicroSpur, MiniSpur, Rodeo, RodeoReader, RodeoResolver, Spur, ThreadedRodeo,
+};
+use serde::de::value::{Error, MapDeserializer, SeqDeserializer};
 use serde::de::{Deserialize, IntoDeserializer};
-use serde::ser::{self, Error as _, Impossible, Serialize, SerializeSeq, Serializer};
+use serde::ser::{self, Error as _, Impossible, Serialize, SerializeMap, SerializeSeq, Serializer};
 use std::fmt;
 
 /// A number or a text, as serde writes it to a formatter.
@@ -16,8 +18,29 @@ impl<T: Serialize + ?Sized> fmt::Display for Shown<'_, T> {
     }
 }
 
-/// A sequence as it was written: the length that was announced, and the items.
+/// A sequence as it was written, or a map: the length that was announced, and the items, of a map
+/// each key and its value.
 struct Sequence(Option<usize>, Vec<String>);
+
+impl SerializeMap for Sequence {
+    type Ok = Self;
+    type Error = Error;
+
+    fn serialize_key<T: Serialize + ?Sized>(&mut self, key: &T) -> Result<(), Error> {
+        self.1.push(Shown(key).to_string());
+        Ok(())
+    }
+
+    fn serialize_value<T: Serialize + ?Sized>(&mut self, value: &T) -> Result<(), Error> {
+        let entry = self.1.pop().unwrap() + " = " + &Shown(value).to_string();
+        self.1.push(entry);
+        Ok(())
+    }
+
+    fn end(self) -> Result<Self, Error> {
+        Ok(self)
+    }
+}
 
 impl SerializeSeq for Sequence {
     type Ok = Self;
@@ -33,7 +56,7 @@ impl SerializeSeq for Sequence {
     }
 }
 
-/// A serializer that takes a sequence and nothing else.
+/// A serializer that takes a sequence or a map and nothing else.
 struct Sequences;
 
 macro_rules! refused {
@@ -51,11 +74,15 @@ impl Serializer for Sequences {
     type SerializeTuple = Impossible<Sequence, Error>;
     type SerializeTupleStruct = Impossible<Sequence, Error>;
     type SerializeTupleVariant = Impossible<Sequence, Error>;
-    type SerializeMap = Impossible<Sequence, Error>;
+    type SerializeMap = Sequence;
     type SerializeStruct = Impossible<Sequence, Error>;
     type SerializeStructVariant = Impossible<Sequence, Error>;
 
     fn serialize_seq(self, len: Option<usize>) -> Result<Sequence, Error> {
+        Ok(Sequence(len, Vec::new()))
+    }
+
+    fn serialize_map(self, len: Option<usize>) -> Result<Sequence, Error> {
         Ok(Sequence(len, Vec::new()))
     }
 
@@ -81,7 +108,6 @@ impl Serializer for Sequences {
         serialize_tuple(usize) -> Self::SerializeTuple;
         serialize_tuple_struct(&'static str, usize) -> Self::SerializeTupleStruct;
         serialize_tuple_variant(&'static str, u32, &'static str, usize) -> Self::SerializeTupleVariant;
-        serialize_map(Option<usize>) -> Self::SerializeMap;
         serialize_struct(&'static str, usize) -> Self::SerializeStruct;
         serialize_struct_variant(&'static str, u32, &'static str, usize) -> Self::SerializeStructVariant;
     }
@@ -150,6 +176,29 @@ fn interners_are_read_with_the_keys_of_positions() {
     assert!(read::<Rodeo>(&none).unwrap().is_empty());
     assert!(read::<RodeoReader>(&none).unwrap().is_empty());
     assert!(read::<RodeoResolver>(&none).unwrap().is_empty());
+}
+
+#[test]
+fn a_threaded_interner_is_a_map_of_texts_to_keys() {
+    let rodeo: ThreadedRodeo = ["red", "", "blue"].into_iter().collect();
+    assert_eq!(written(&rodeo), ["red = 1", " = 2", "blue = 3"]);
+    assert_eq!(written(&ThreadedRodeo::default()), [""; 0]);
+
+    fn read(entries: &[(&'static str, u32)]) -> Result<ThreadedRodeo, Error> {
+        let entries = MapDeserializer::new(entries.iter().copied());
+        ThreadedRodeo::deserialize(entries)
+    }
+    assert!(read(&[("blue", 3), ("red", 1), ("", 2)]).unwrap() == rodeo);
+    assert_eq!(read(&[]).unwrap().len(), 0);
+    assert_eq!(rodeo.get_or_intern("green").into_usize(), 3);
+    for wrong in [
+        &[("red", 2)][..],
+        &[("red", 1), ("blue", 3)],
+        &[("red", 1), ("blue", 1)],
+        &[("red", 0)],
+    ] {
+        assert!(read(wrong).is_err(), "{wrong:?}");
+    }
 }
 
 #[test]

@@ -1,9 +1,9 @@
-//! The interfaces of `Rodeo`, `RodeoReader` and `RodeoResolver`, and of what is borrowed or boxed: each
-//! call is the type's own call of that name, or that of the interner behind.
+//! The interfaces of the four types, and of what is borrowed or boxed: each call is the type's own call of that
+//! name, or that of the interner behind.
 
 use crate::{
     Interner, IntoReader, IntoReaderAndResolver, IntoResolver, Key, LassoResult, Reader, Resolver,
-    Rodeo, RodeoReader, RodeoResolver,
+    Rodeo, RodeoReader, RodeoResolver, ThreadedRodeo,
 };
 use std::hash::BuildHasher;
 
@@ -34,6 +34,7 @@ macro_rules! resolves {
 }
 
 resolves!([S] Rodeo<K, S>);
+resolves!([S] ThreadedRodeo<K, S>);
 resolves!([S] RodeoReader<K, S>);
 resolves!([] RodeoResolver<K>);
 
@@ -64,87 +65,55 @@ macro_rules! reads {
 }
 
 reads!(Rodeo);
+reads!(ThreadedRodeo);
 reads!(RodeoReader);
 
-impl<K: Key, S: BuildHasher> Interner<K> for Rodeo<K, S> {
-    fn get_or_intern(&mut self, val: &str) -> K {
-        self.get_or_intern(val)
-    }
-
-    fn try_get_or_intern(&mut self, val: &str) -> LassoResult<K> {
-        self.try_get_or_intern(val)
-    }
-
-    fn get_or_intern_static(&mut self, val: &'static str) -> K {
-        self.get_or_intern_static(val)
-    }
-
-    fn try_get_or_intern_static(&mut self, val: &'static str) -> LassoResult<K> {
-        self.try_get_or_intern_static(val)
-    }
-}
-
-impl<K: Key, S: BuildHasher> IntoReader<K> for Rodeo<K, S> {
-    type Reader = RodeoReader<K, S>;
-
-    fn into_reader(self) -> Self::Reader {
-        self.into_reader()
-    }
-
-    fn into_reader_boxed(self: Box<Self>) -> Self::Reader {
-        (*self).into_reader()
-    }
-}
-
-impl<K: Key, S: BuildHasher> IntoReaderAndResolver<K> for Rodeo<K, S> {}
-
-#[cfg(feature = "threads")]
-mod threads {
-    use super::*;
-    use crate::ThreadedRodeo;
-
-    resolves!([S] ThreadedRodeo<K, S>);
-    reads!(ThreadedRodeo);
-
-    macro_rules! interns {
-        ($name:ty) => {
-            impl<K: Key, S: BuildHasher> Interner<K> for $name {
-                fn get_or_intern(&mut self, val: &str) -> K {
-                    ThreadedRodeo::get_or_intern(self, val)
-                }
-
-                fn try_get_or_intern(&mut self, val: &str) -> LassoResult<K> {
-                    ThreadedRodeo::try_get_or_intern(self, val)
-                }
-
-                fn get_or_intern_static(&mut self, val: &'static str) -> K {
-                    ThreadedRodeo::get_or_intern(self, val)
-                }
-
-                fn try_get_or_intern_static(&mut self, val: &'static str) -> LassoResult<K> {
-                    ThreadedRodeo::try_get_or_intern(self, val)
-                }
+macro_rules! interns {
+    ($name:ty, $type:ident) => {
+        impl<K: Key, S: BuildHasher> Interner<K> for $name {
+            fn get_or_intern(&mut self, val: &str) -> K {
+                $type::get_or_intern(self, val)
             }
-        };
-    }
 
-    interns!(ThreadedRodeo<K, S>);
-    interns!(&ThreadedRodeo<K, S>);
+            fn try_get_or_intern(&mut self, val: &str) -> LassoResult<K> {
+                $type::try_get_or_intern(self, val)
+            }
 
-    impl<K: Key, S: BuildHasher> IntoReader<K> for ThreadedRodeo<K, S> {
-        type Reader = RodeoReader<K, S>;
+            fn get_or_intern_static(&mut self, val: &'static str) -> K {
+                $type::get_or_intern_static(self, val)
+            }
 
-        fn into_reader(self) -> Self::Reader {
-            self.into_reader()
+            fn try_get_or_intern_static(&mut self, val: &'static str) -> LassoResult<K> {
+                $type::try_get_or_intern_static(self, val)
+            }
         }
-
-        fn into_reader_boxed(self: Box<Self>) -> Self::Reader {
-            (*self).into_reader()
-        }
-    }
-
-    impl<K: Key, S: BuildHasher> IntoReaderAndResolver<K> for ThreadedRodeo<K, S> {}
+    };
 }
+
+interns!(Rodeo<K, S>, Rodeo);
+interns!(ThreadedRodeo<K, S>, ThreadedRodeo);
+interns!(&ThreadedRodeo<K, S>, ThreadedRodeo);
+
+macro_rules! freezes {
+    ($name:ident) => {
+        impl<K: Key, S: BuildHasher> IntoReader<K> for $name<K, S> {
+            type Reader = RodeoReader<K, S>;
+
+            fn into_reader(self) -> Self::Reader {
+                self.into_reader()
+            }
+
+            fn into_reader_boxed(self: Box<Self>) -> Self::Reader {
+                (*self).into_reader()
+            }
+        }
+
+        impl<K: Key, S: BuildHasher> IntoReaderAndResolver<K> for $name<K, S> {}
+    };
+}
+
+freezes!(Rodeo);
+freezes!(ThreadedRodeo);
 
 // The calls of `Resolver`, of a type that dereferences to a resolver.
 macro_rules! forward_resolver {

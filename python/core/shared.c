@@ -1,0 +1,96 @@
+/* The type Seat: one thread's handle of an interner that threads share. */
+#include "core.h"
+
+static PyObject *seats;
+
+static PyObject *seat_new(PyTypeObject *type, PyObject *words, PyObject *named)
+{
+    Core *seat = (Core *)core_new(type, words, named);
+    if (seat != NULL)
+        seat->interner.is_shared = true;
+    return (PyObject *)seat;
+}
+
+static PyObject *seat_open(Core *seat, PyObject *none)
+{
+    (void)none;
+    uint32_t status = lasso_shared_new(&seat->interner.shared);
+    if (status != LASSO_DONE)
+        return raise_status(status, -1);
+    Py_RETURN_NONE;
+}
+
+/* A handle of the same interner, for the thread that asks for it. */
+static PyObject *seat_join(Core *seat, PyObject *none)
+{
+    Core *other = (Core *)seat_new(Py_TYPE((PyObject *)seat), NULL, NULL);
+    (void)none;
+    if (other == NULL)
+        return NULL;
+    uint32_t status = lasso_shared_join(&seat->interner.shared, &other->interner.shared);
+    if (status != LASSO_DONE) {
+        Py_DECREF(other);
+        return raise_status(status, -1);
+    }
+    other->next = seat->next;
+    other->previous = seat;
+    seat->next->previous = other;
+    seat->next = other;
+    return (PyObject *)other;
+}
+
+/* Frees every handle of the interner: those of calls that let the GIL go at the end of these. */
+static PyObject *seat_close(Core *seat, PyObject *none)
+{
+    Core *each = seat;
+    (void)none;
+    do {
+        if (each->busy)
+            each->closes = true;
+        else
+            interner_free(&each->interner);
+        each = each->next;
+    } while (each != seat);
+    Py_RETURN_NONE;
+}
+
+static PyMethodDef methods[] = {
+    {"open", (PyCFunction)seat_open, METH_NOARGS, "open($self, /)\n--\n\nMakes an interner without texts."},
+    {"join", (PyCFunction)seat_join, METH_NOARGS, "join($self, /)\n--\n\nAnother handle of the same interner. Raises InternerClosed or OutOfMemory."},
+    {"close", (PyCFunction)seat_close, METH_NOARGS, "close($self, /)\n--\n\nCloses the interner for all of its handles."},
+    {"intern", (PyCFunction)core_intern, METH_O, "intern($self, text, /)\n--\n\nThe code of a text, which is appended if it is absent."},
+    {"get", (PyCFunction)core_get, METH_O, "get($self, text, /)\n--\n\nThe code of a text, or None if it is absent."},
+    {"texts", (PyCFunction)core_texts, METH_VARARGS, "texts($self, start=0, /)\n--\n\nThe texts from a code on, in the order of their codes."},
+    {"_check_rows", (PyCFunction)core_check_rows, METH_VARARGS, "As Core._check_rows."},
+    {"_rows", (PyCFunction)core_rows, METH_VARARGS, "As Core._rows; it lets the GIL go for each batch of 1,024 rows or 32 KiB."},
+    {"_arrow_array", (PyCFunction)core_arrow_array, METH_VARARGS, "As Core._arrow_array."},
+    {"_arrow_stream", (PyCFunction)core_arrow_stream, METH_VARARGS, "As Core._arrow_stream."},
+    {"_buffers", (PyCFunction)core_buffers, METH_VARARGS, "As Core._buffers."},
+    {NULL, NULL, 0, NULL},
+};
+
+static PyGetSetDef properties[] = {
+    {"closed", (getter)core_closed, NULL, "Whether the interner was closed.", NULL},
+    {NULL, NULL, NULL, NULL, NULL},
+};
+
+static PyType_Slot slots[] = {
+    {Py_tp_doc, "One thread's handle of an interner that threads share."},
+    {Py_tp_new, seat_new},
+    {Py_tp_dealloc, core_dealloc},
+    {Py_tp_methods, methods},
+    {Py_tp_getset, properties},
+    {Py_mp_length, core_len},
+    {Py_mp_subscript, core_item},
+    {Py_sq_contains, core_contains},
+    {0, NULL},
+};
+
+static PyType_Spec spec = {"lasso._core.Seat", sizeof(Core), 0, Py_TPFLAGS_DEFAULT, slots};
+
+PyObject *seat_type(void)
+{
+    Py_XDECREF(seats);
+    seats = PyType_FromSpec(&spec);
+    return seats;
+}

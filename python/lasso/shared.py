@@ -1,0 +1,134 @@
+"""The class SharedInterner."""
+
+from __future__ import annotations
+
+import threading
+from array import array
+from collections.abc import Iterable, Iterator
+from types import TracebackType
+from typing import Any, TypeVar
+
+from lasso._core import Seat
+from lasso.codes import NULL, Codes
+from lasso.interner import Interner
+from lasso.sources import ArrowArray, ArrowStream, ArrowStrings, encode_into
+
+_Kind = TypeVar("_Kind", bound="SharedInterner")
+
+
+class _Seats(threading.local):
+    """A handle of the interner for each thread that uses it. It is freed when its thread ends."""
+
+    def __init__(self, first: Seat) -> None:
+        self.seat = first.join()
+
+
+class SharedInterner:
+    """Texts, each once, that threads intern at the same time. A text's code is its position in one list, which only grows and is the same for all
+    threads, from 0.
+
+    Each thread has a handle of its own, which is made when the thread uses the interner first, and freed when the thread ends. ``encode`` and
+    ``get_many`` let other threads run meanwhile, also those that encode into the same interner. There is no limit, and texts are hashed by a fixed
+    seed: strangers can choose texts that collide. The memory is given back at the end of a ``with`` block, by ``close``, or when the interner is
+    garbage. It is not for a child that ``os.fork`` made while other threads ran.
+    """
+
+    __slots__ = ("__dict__", "__weakref__", "_first", "_seats")
+
+    def __init__(self) -> None:
+        self._first = Seat()
+        self._first.open()
+        self._seats = _Seats(self._first)
+
+    def __enter__(self: _Kind) -> _Kind:
+        return self
+
+    def __exit__(
+        self, kind: type[BaseException] | None, fault: BaseException | None, traceback: TracebackType | None
+    ) -> None:
+        self.close()
+
+    def __repr__(self) -> str:
+        return f"<{type(self).__name__}: {'closed' if self.closed else f'{len(self)} texts'}>"
+
+    @property
+    def closed(self) -> bool:
+        """Whether the interner was closed."""
+        return self._first.closed
+
+    def close(self) -> None:
+        """Gives the memory back, whichever thread calls it. A call of another thread ends as without it, or raises InternerClosed: each later one
+        does, but this one, ``len``, which is 0, and ``interner[code]``, which raises IndexError."""
+        self._first.close()
+
+    def intern(self, text: str) -> int:
+        """The code of a text, which is appended if it is absent. Raises NotUtf8; for an absent text CodesExhausted or OutOfMemory, and nothing
+        is appended then."""
+        return self._seats.seat.intern(text)
+
+    def get(self, text: str) -> int | None:
+        """The code of a text, or None if it is absent. Raises NotUtf8."""
+        return self._seats.seat.get(text)
+
+    def __contains__(self, text: str) -> bool:
+        return text in self._seats.seat
+
+    def __getitem__(self, code: int) -> str:
+        return self._first[code] if self.closed else self._seats.seat[code]
+
+    def __len__(self) -> int:
+        return 0 if self.closed else len(self._seats.seat)
+
+    def texts(self, start: int = 0) -> list[str]:
+        """The texts from a code on, up to those of now, in the order of their codes. Raises ValueError for a code below 0."""
+        return self._seats.seat.texts(start)
+
+    def __iter__(self) -> Iterator[str]:
+        return iter(self.texts())
+
+    def encode(
+        self, texts: Iterable[object] | ArrowArray | ArrowStream | ArrowStrings, column: str | None = None
+    ) -> Codes:
+        """The codes of many texts, which are appended if they are absent, as ``Interner.encode`` returns them. It takes and raises the same. New
+        texts of threads that encode at the same time mix."""
+        codes = Codes(self)
+        encode_into(self._seats.seat, texts, column, codes, True)
+        return codes
+
+    def get_many(
+        self, texts: Iterable[object] | ArrowArray | ArrowStream | ArrowStrings, column: str | None = None
+    ) -> list[int | None]:
+        """The code of each text, or None for an absent one and for a null. It takes and raises what ``encode`` does."""
+        codes = array("I")
+        encode_into(self._seats.seat, texts, column, codes, False)
+        return [None if code == NULL else code for code in codes]
+
+    def snapshot(self) -> Interner:
+        """An Interner, for one thread at a time, with copies of the texts of now under the same codes."""
+        made = Interner()
+        encode_into(made, self.texts(), None, array("I"), True)
+        return made
+
+    def _dictionary_array(self, codes: array[int]) -> tuple[object, object]:
+        with self.snapshot() as interner:
+            return interner._dictionary_array(codes)
+
+    def copy(self: _Kind) -> _Kind:
+        """Another shared interner of the same class, with the texts of now, their codes and the attributes."""
+        made = _loaded(type(self), self.texts())
+        made.__dict__.update(self.__dict__)
+        return made
+
+    __copy__ = copy
+
+    def __reduce__(self) -> tuple[Any, ...]:
+        """What pickle keeps: the class, the texts of now and attributes. It raises InternerClosed once the interner is closed."""
+        return _loaded, (type(self), self.texts()), self.__dict__ or None
+
+
+def _loaded(kind: type[_Kind], texts: list[str]) -> _Kind:
+    """A shared interner of a class, with these texts under the codes of their order."""
+    made = kind.__new__(kind)
+    SharedInterner.__init__(made)
+    encode_into(made._seats.seat, texts, None, array("I"), True)
+    return made

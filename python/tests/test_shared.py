@@ -1,0 +1,341 @@
+"""Tests of SharedInterner: each call with worked codes, and eight threads whose replies one list has to explain."""
+
+from __future__ import annotations
+
+import copy
+import ctypes
+import pickle
+import random
+import struct
+import sys
+import threading
+import time
+from array import array
+from collections.abc import Callable, Iterator
+from typing import Any
+
+import pytest
+from producers import Chunks, strings
+
+from lasso import NULL, Interner, InternerClosed, NotUtf8, SharedInterner, WrongLayout
+
+THREADS = 8
+
+
+class Columns:
+    """A large array of strings by its buffers."""
+
+    offset = 0
+    type = "string"
+
+    def __init__(self, texts: list[str]) -> None:
+        self.data = "".join(texts).encode()
+        ends = [0]
+        for text in texts:
+            ends.append(ends[-1] + len(text.encode()))
+        self.offsets = struct.pack(f"<{len(ends)}i", *ends)
+        self.length = len(texts)
+
+    def buffers(self) -> list[Any]:
+        return [None, self.offsets, self.data]
+
+    def __len__(self) -> int:
+        return self.length
+
+
+@pytest.fixture
+def shared() -> Iterator[SharedInterner]:
+    with SharedInterner() as made:
+        yield made
+
+
+def together(*calls: Callable[[], Any]) -> None:
+    """Runs the calls in threads at once. What one raises is raised here."""
+    faults: list[BaseException] = []
+    gate = threading.Barrier(len(calls))
+
+    def run(call: Callable[[], Any]) -> None:
+        gate.wait()
+        try:
+            call()
+        except BaseException as fault:
+            faults.append(fault)
+
+    threads = [threading.Thread(target=run, args=(call,)) for call in calls]
+    for thread in threads:
+        thread.start()
+    for thread in threads:
+        thread.join()
+    if faults:
+        raise faults[0]
+
+
+class Replies:
+    """What a thread asked and got: texts with the codes that they were given, and texts that were absent when it looked them up, each with the
+    number of texts that the thread knew to be there."""
+
+    def __init__(self) -> None:
+        self.codes: list[tuple[str, int]] = []
+        self.absent: list[tuple[str, int]] = []
+        self.known = 0
+
+    def add(self, text: str, code: int) -> None:
+        self.codes.append((text, code))
+        self.known = max(self.known, code + 1)
+
+    def check(self, texts: list[str]) -> None:
+        """One list explains the replies."""
+        code_of = {text: code for code, text in enumerate(texts)}
+        for text, code in self.codes:
+            assert texts[code] == text
+        for text, known in self.absent:
+            assert code_of.get(text, known) >= known
+
+
+def ask(shared: SharedInterner, replies: Replies, seed: int) -> None:
+    """Makes random calls of each kind."""
+    numbers = random.Random(seed)
+    for _ in range(300):
+        words = [f"text {int(3000 * numbers.random() ** 3)}{'é' * (numbers.randrange(9) // 8 * 20)}" for _ in range(40)]
+        for word in words[:10]:
+            replies.add(word, shared.intern(word))
+            code = numbers.randrange(replies.known)
+            replies.add(shared[code], code)
+        for word in words[10:15]:
+            found = shared.get(word)
+            if found is None:
+                replies.absent.append((word, replies.known))
+            else:
+                replies.add(word, found)
+        texts: Any = words if numbers.random() < 0.5 else strings(words)
+        for word, code in zip(words, shared.encode(texts)):
+            replies.add(word, code)
+        assert len(shared) >= replies.known
+        assert shared.get_many(words[:5]) == [dict(replies.codes[-40:])[word] for word in words[:5]]
+
+
+def test_one_list_explains_the_replies_of_eight_threads(shared: SharedInterner) -> None:
+    replies = [Replies() for _ in range(THREADS)]
+    together(*(lambda number=number: ask(shared, replies[number], number) for number in range(THREADS)))
+    texts = shared.texts()
+    assert len(set(texts)) == len(texts) == len(shared)
+    assert set(texts) == {text for each in replies for text, _ in each.codes}
+    for each in replies:
+        each.check(texts)
+
+
+def test_long_columns_are_encoded_at_once(shared: SharedInterner) -> None:
+    rows = [[f"text {row * step % 5003}" for row in range(20000)] for step in range(1, THREADS + 1)]
+    results: list[Any] = [None] * THREADS
+
+    def encode(number: int) -> None:
+        column: Any = Columns(rows[number]) if number % 2 else rows[number]
+        results[number] = shared.encode(column)
+
+    together(*(lambda number=number: encode(number) for number in range(THREADS)))
+    texts = shared.texts()
+    assert (len(texts), len(set(texts))) == (5003, 5003)
+    for codes, texts_of_rows in zip(results, rows):
+        assert [texts[code] for code in codes] == texts_of_rows
+
+
+@pytest.mark.parametrize("kind", [list, Columns])
+def test_others_run_while_a_column_is_encoded(shared: SharedInterner, kind: Any) -> None:
+    column = kind([f"text {row}" for row in range(50000)])
+    began, seen, ended = threading.Event(), [], []
+
+    def encode() -> None:
+        began.set()
+        shared.encode(column)
+        ended.append(True)
+
+    interval = sys.getswitchinterval()
+    thread = threading.Thread(target=encode)
+    try:
+        # From now on a thread goes on until it lets the others run.
+        sys.setswitchinterval(1000)
+        thread.start()
+        began.wait()
+        seen.append(bool(ended))
+    finally:
+        sys.setswitchinterval(interval)
+        thread.join()
+    assert seen == [False]
+
+
+def test_numbers_texts_from_call_to_call(shared: SharedInterner) -> None:
+    assert [shared.intern(text) for text in ["a", "b", "a", "", "grün"]] == [0, 1, 0, 2, 3]
+    assert list(shared.encode(["grün", None, "c", "c"])) == [3, NULL, 4, 4]
+    assert (len(shared), shared.texts(3), list(shared)) == (5, ["grün", "c"], ["a", "b", "", "grün", "c"])
+    assert (shared.get("c"), shared.get("d"), "c" in shared, "d" in shared, len(shared)) == (4, None, True, False, 5)
+    assert (shared[3], shared.texts(5), shared.texts(9)) == ("grün", [], [])
+    assert shared.get_many(["d", "c", None, ""]) == [None, 4, None, 2]
+    for code in (5, -1, 2**40):
+        with pytest.raises(IndexError):
+            shared[code]
+    with pytest.raises(ValueError):
+        shared.texts(-1)
+    assert repr(shared) == "<SharedInterner: 5 texts>"
+
+
+@pytest.mark.parametrize("large", [False, True])
+def test_takes_columns_of_arrow(shared: SharedInterner, large: bool) -> None:
+    texts = ["red", None, "", "blue", None, "red", "grün", "blue", "red", None, "x" * 40000]
+    assert list(shared.encode(strings(texts, large=large))) == [0, NULL, 1, 2, NULL, 0, 3, 2, 0, NULL, 4]
+    assert list(shared.encode(strings(texts, 3, large=large))) == [2, NULL, 0, 3, 2, 0, NULL, 4]
+    assert list(shared.encode(Chunks([strings(["new", "red"], large=large), strings(["new"], large=large)]))) == [5, 0, 5]
+    assert shared.get_many(strings(["absent", "new", None], large=large)) == [None, 5, None]
+    assert shared.texts() == ["red", "", "blue", "grün", "x" * 40000, "new"]
+
+
+def test_takes_texts_that_no_block_of_rows_has_room_for(shared: SharedInterner) -> None:
+    texts = ["red", "x" * 32768, None, "x" * 32769, "grün" * 10000, "red", "y" * 32767, "zz", "x" * 32769]
+    assert list(shared.encode(texts)) == [0, 1, NULL, 2, 3, 0, 4, 5, 2]
+    assert shared.get_many([*texts, "z" * 40000]) == [0, 1, None, 2, 3, 0, 4, 5, 2, None]
+
+
+def test_keeps_the_texts_before_a_refused_one(shared: SharedInterner) -> None:
+    for call in (shared.intern, shared.get):
+        with pytest.raises(NotUtf8):
+            call("\ud800")
+    with pytest.raises(NotUtf8) as caught:
+        shared.encode(["new"] * 5000 + ["\ud800"])
+    assert (caught.value.position, shared.texts()) == (5000, ["new"])
+    columns = {"at a fall": ([0, 3, 1], WrongLayout), "past the bytes": ([0, 3, 9], WrongLayout), "negative": ([0, 3, -1], WrongLayout)}
+    for offsets, error in columns.values():
+        column = Columns(["red", "blue"])
+        column.offsets = struct.pack("<3i", *offsets)
+        with pytest.raises(error) as refused:
+            shared.encode(column)
+        assert (refused.value.position, shared.texts()) == (1, ["new", "red"])
+    column = Columns(["red", "blue"])
+    column.data = b"red\xc3\xc3\xc3\xc3"
+    with pytest.raises(NotUtf8) as caught:
+        shared.encode(column)
+    assert (caught.value.position, len(shared)) == (1, 2)
+    with pytest.raises(TypeError):
+        shared.encode(["newer"] * 5000 + [1])
+    assert len(shared) == 2
+
+
+def test_gives_codes_as_a_dictionary_array(shared: SharedInterner) -> None:
+    codes = shared.encode(["red", None, "blue", "red"])
+    assert codes.interner is shared
+    with Interner() as interner:
+        assert list(interner.encode(codes)) == [0, NULL, 1, 0]
+        assert interner.texts() == ["red", "blue"]
+
+
+def test_is_copied_and_pickled_by_its_texts(shared: SharedInterner) -> None:
+    class Named(SharedInterner):
+        name = ""
+
+    shared.encode(["red", "", "grün", "x" * 5000])
+    made = [shared.copy(), copy.copy(shared), copy.deepcopy(shared)]
+    made += [pickle.loads(pickle.dumps(shared, protocol)) for protocol in range(pickle.HIGHEST_PROTOCOL + 1)]
+    for each in made:
+        with each:
+            assert (type(each), each.texts(), each.intern("new"), each.get("grün")) == (SharedInterner, shared.texts(), 4, 2)
+    with shared.snapshot() as one:
+        assert (type(one), one.texts(), one.intern("new")) == (Interner, shared.texts(), 4)
+    assert len(shared) == 4
+    with Named() as named:
+        named.name = "colours"
+        with named.copy() as copied:
+            assert (type(copied), copied.name) == (Named, "colours")
+    shared.close()
+    for call in (shared.copy, shared.snapshot, lambda: pickle.dumps(shared)):
+        with pytest.raises(InternerClosed):
+            call()
+
+
+def test_tells_that_it_is_closed() -> None:
+    shared = SharedInterner()
+    shared.intern("a")
+    shared.close()
+    shared.close()
+    calls: list[Callable[[], Any]] = [
+        lambda: shared.intern("a"), lambda: shared.get("a"), lambda: "a" in shared, shared.texts, lambda: shared.encode(["a"]),
+        lambda: shared.encode([]), lambda: shared.encode(strings(["a"])), lambda: shared.get_many(["a"]),
+    ]
+    for call in calls:
+        with pytest.raises(InternerClosed):
+            call()
+    # Also in a thread that has not used it before.
+    for call in calls:
+        with pytest.raises(InternerClosed):
+            together(call)
+    with pytest.raises(IndexError):
+        shared[0]
+    assert (shared.closed, len(shared), repr(shared)) == (True, 0, "<SharedInterner: closed>")
+
+
+def test_is_closed_while_others_go_on() -> None:
+    rows = [f"text {row}" for row in range(20000)]
+    for kind in (list, Columns):
+        shared, ready = SharedInterner(), threading.Barrier(THREADS)
+
+        def use() -> None:
+            ready.wait()
+            with pytest.raises(InternerClosed):
+                for _ in range(1000):
+                    assert len(shared.encode(kind(rows))) == 20000
+                    shared.intern("text 1")
+
+        def close() -> None:
+            ready.wait()
+            while not shared.closed and len(shared) < 10000:
+                pass
+            shared.close()
+
+        together(*[use] * (THREADS - 1), close)
+        assert shared.closed
+
+
+def test_a_list_changes_while_it_is_encoded(shared: SharedInterner) -> None:
+    rows: list[Any] = [f"text {row}" for row in range(100000)]
+
+    def shrink() -> None:
+        while rows:
+            del rows[-100:]
+            time.sleep(0)
+
+    def encode() -> None:
+        while rows:
+            try:
+                shared.encode(rows)
+            except RuntimeError as fault:
+                assert "the texts changed" in str(fault)
+
+    together(encode, encode, shrink)
+
+
+def test_a_handle_is_freed_when_its_thread_ends(shared: SharedInterner) -> None:
+    try:
+        mallinfo = ctypes.CDLL(None).mallinfo2
+    except AttributeError:
+        pytest.skip("the C library doesn't tell how much memory is in use")
+
+    class Info(ctypes.Structure):
+        _fields_ = [(name, ctypes.c_size_t) for name in ("arena", "ordblks", "smblks", "hblks", "hblkhd", "usmblks", "fsmblks", "uordblks")]
+        _fields_ += [("fordblks", ctypes.c_size_t), ("keepcost", ctypes.c_size_t)]
+
+    mallinfo.restype = Info
+
+    def used() -> int:
+        info = mallinfo()
+        return int(info.uordblks + info.hblkhd)
+
+    column = Columns([f"text {row % 1000}" for row in range(10000)])
+    together(lambda: shared.encode(column))
+    before = used()
+    for _ in range(100):
+        together(lambda: shared.encode(column))
+    # A handle that makes as many calls has 128 KiB of hints.
+    assert used() - before < 20 * 131072
+
+
+def test_each_interner_has_its_own_codes() -> None:
+    with SharedInterner() as one, SharedInterner() as other:
+        one.encode(["red", "blue"])
+        assert (other.intern("blue"), one.intern("blue"), list(array("I", other.encode(["red"])))) == (0, 1, [1])

@@ -1,0 +1,361 @@
+//! The interner that threads share: each call, what is refused, and up to 64 threads at once.
+
+mod support;
+
+use lasso_proved::{
+    Capacity, Key, LassoErrorKind, MemoryLimits, MicroSpur, MiniSpur, Rodeo, RodeoReader,
+    RodeoResolver, Spur, ThreadedRodeo,
+};
+use std::collections::hash_map::RandomState;
+use std::collections::HashSet;
+use std::num::NonZeroUsize;
+use std::sync::{Arc, Barrier};
+use std::thread;
+use support::{text_of, Numbers, LENGTHS};
+
+const MANY: usize = 64;
+
+fn key<K: Key>(position: usize) -> K {
+    K::try_from_usize(position).unwrap()
+}
+
+fn limited(first: usize, limit: usize) -> ThreadedRodeo {
+    ThreadedRodeo::with_capacity_and_memory_limits(
+        Capacity::for_bytes(NonZeroUsize::new(first).unwrap()),
+        MemoryLimits::for_memory_usage(limit),
+    )
+}
+
+/// Runs the work of each number below `threads` in a thread of its own, all at once, and returns what
+/// they return.
+fn at_once<T: Send>(threads: usize, work: impl Fn(usize) -> T + Sync) -> Vec<T> {
+    let gate = Barrier::new(threads);
+    thread::scope(|scope| {
+        let running: Vec<_> = (0..threads)
+            .map(|number| {
+                let (gate, work) = (&gate, &work);
+                scope.spawn(move || {
+                    gate.wait();
+                    work(number)
+                })
+            })
+            .collect();
+        running
+            .into_iter()
+            .map(|thread| thread.join().unwrap())
+            .collect()
+    })
+}
+
+#[test]
+fn each_constructor_makes_an_empty_interner() {
+    let (capacity, limits) = (Capacity::for_strings(9), MemoryLimits::new(5000));
+    let made: [ThreadedRodeo; 8] = [
+        ThreadedRodeo::default(),
+        ThreadedRodeo::new(),
+        ThreadedRodeo::with_capacity(capacity),
+        ThreadedRodeo::with_memory_limits(limits),
+        ThreadedRodeo::with_capacity_and_memory_limits(capacity, limits),
+        ThreadedRodeo::with_hasher(RandomState::new()),
+        ThreadedRodeo::with_capacity_and_hasher(capacity, RandomState::new()),
+        ThreadedRodeo::with_capacity_memory_limits_and_hasher(capacity, limits, RandomState::new()),
+    ];
+    let none = usize::MAX;
+    for (rodeo, limit) in made
+        .iter()
+        .zip([none, none, none, 5000, 5000, none, none, 5000])
+    {
+        assert!(rodeo.is_empty() && rodeo.iter().next().is_none());
+        assert_eq!(
+            (rodeo.max_memory_usage(), rodeo.current_memory_usage()),
+            (limit, 4096)
+        );
+        assert_eq!(rodeo.get_or_intern("red"), key(0));
+    }
+}
+
+#[test]
+fn each_call_in_one_thread() {
+    let rodeo: ThreadedRodeo = ThreadedRodeo::new();
+    for (position, length) in LENGTHS.into_iter().enumerate() {
+        let (text, this) = (text_of(7, length), key(position));
+        assert_eq!((rodeo.get(&text), rodeo.contains(&text)), (None, false));
+        assert_eq!(
+            (rodeo.try_resolve(&this), rodeo.contains_key(&this)),
+            (None, false)
+        );
+        assert_eq!(rodeo.get_or_intern(&text), this);
+        assert_eq!(rodeo.try_get_or_intern(&text), Ok(this));
+        assert_eq!(
+            (rodeo.get(&text), rodeo.contains(&text)),
+            (Some(this), true)
+        );
+        assert_eq!(
+            (rodeo.resolve(&this), rodeo.try_resolve(&this)),
+            (&text[..], Some(&text[..]))
+        );
+        assert!(rodeo.contains_key(&this) && rodeo[this] == text);
+        // SAFETY: there is a text of this key.
+        assert_eq!(unsafe { rodeo.resolve_unchecked(&this) }, text);
+        assert_eq!((rodeo.len(), rodeo.is_empty()), (position + 1, false));
+        assert!(rodeo.capacity() >= rodeo.len());
+    }
+    assert_eq!(rodeo.get_or_intern_static("static"), key(7));
+    assert_eq!(rodeo.try_get_or_intern_static("static"), Ok(key(7)));
+    assert!(rodeo
+        .iter()
+        .map(|(this, text)| (this.into_usize(), text.len()))
+        .eq(LENGTHS.into_iter().chain([6]).enumerate()));
+    assert_eq!(
+        (rodeo.strings().len(), rodeo.strings().last()),
+        (8, Some("static"))
+    );
+}
+
+#[test]
+#[should_panic(expected = "no text has the key of position 100: there are 0 texts")]
+fn resolve_panics_past_the_texts() {
+    ThreadedRodeo::default().resolve(&key(100));
+}
+
+#[test]
+fn a_panic_in_one_thread_leaves_the_interner_to_others() {
+    let rodeo = Arc::new(ThreadedRodeo::default());
+    let other = Arc::clone(&rodeo);
+    let ended = thread::spawn(move || {
+        other.get_or_intern("red");
+        other.resolve(&key(9)).len()
+    });
+    assert!(ended.join().is_err());
+    assert_eq!(
+        (rodeo.get("red"), rodeo.get_or_intern("blue")),
+        (Some(key(0)), key(1))
+    );
+}
+
+#[test]
+#[should_panic(expected = "its memory limit has no room for the text")]
+fn get_or_intern_panics_at_the_limit() {
+    limited(10, 10).get_or_intern("0123456789x");
+}
+
+#[test]
+fn the_limit_counts_the_bytes_of_texts() {
+    let rodeo = limited(10, 10);
+    let first = rodeo.get_or_intern("0123456789");
+    for text in ["x", "a text of more than ten bytes"] {
+        for refused in [
+            rodeo.try_get_or_intern(text),
+            rodeo.try_get_or_intern_static(text),
+        ] {
+            assert!(refused.unwrap_err().kind().is_memory_limit());
+        }
+        assert_eq!(rodeo.get(text), None);
+    }
+    assert_eq!(rodeo.try_get_or_intern("0123456789"), Ok(first));
+    assert_eq!(
+        (rodeo.current_memory_usage(), rodeo.max_memory_usage()),
+        (10, 10)
+    );
+    rodeo.set_memory_limits(MemoryLimits::new(20));
+    assert_eq!(rodeo.try_get_or_intern("9876543210"), Ok(key(1)));
+    assert!(rodeo.try_get_or_intern("x").is_err());
+    assert_eq!((rodeo.current_memory_usage(), rodeo.len()), (20, 2));
+    rodeo.set_memory_limits(MemoryLimits::default());
+    rodeo.get_or_intern("what is interned without a limit");
+    assert_eq!(rodeo.current_memory_usage(), 52);
+    rodeo.set_memory_limits(MemoryLimits::new(0));
+    assert!(rodeo.try_get_or_intern("x").is_err() && rodeo.try_get_or_intern("").is_ok());
+}
+
+#[test]
+fn threads_share_what_a_limit_leaves() {
+    for limit in [4096, 10_000, 30_001] {
+        let rodeo = limited(1, limit);
+        let refused = at_once(16, |number| {
+            let mut numbers = Numbers(number as u64 + 1);
+            let mut refused = Vec::new();
+            for _ in 0..400 {
+                let text = text_of(numbers.below(3000), 4 + numbers.below(60));
+                match rodeo.try_get_or_intern(&text) {
+                    Ok(this) => assert_eq!(rodeo.resolve(&this), text),
+                    Err(error) => {
+                        assert_eq!(error.kind(), LassoErrorKind::MemoryLimitReached);
+                        refused.push(text.len());
+                    }
+                }
+            }
+            refused
+        });
+        let used: usize = rodeo.strings().map(str::len).sum();
+        assert_eq!(rodeo.current_memory_usage(), used);
+        assert!(used <= limit && !refused[0].is_empty());
+        assert!(refused.iter().flatten().all(|length| used + length > limit));
+    }
+}
+
+#[test]
+fn limits_fall_while_threads_intern() {
+    let rodeo = limited(1, 40_000);
+    at_once(9, |number| {
+        for step in 0..400 {
+            if number == 0 {
+                rodeo.set_memory_limits(MemoryLimits::new(40_000 - 100 * step));
+            } else {
+                let _ = rodeo.try_get_or_intern(text_of(number * 1000 + step, 50));
+            }
+        }
+    });
+    assert!(rodeo.current_memory_usage() <= 40_000);
+    assert!(rodeo.try_get_or_intern("x".repeat(101)).is_err());
+}
+
+#[test]
+fn threads_share_the_last_keys() {
+    let rodeo: ThreadedRodeo<MicroSpur> = ThreadedRodeo::new();
+    let taken = at_once(MANY, |number| {
+        (0..30)
+            .filter(
+                |step| match rodeo.try_get_or_intern(text_of(number * 100 + step, 20)) {
+                    Ok(_) => true,
+                    Err(error) => {
+                        assert!(error.kind().is_keyspace_exhaustion());
+                        false
+                    }
+                },
+            )
+            .count()
+    });
+    assert_eq!((taken.iter().sum::<usize>(), rodeo.len()), (255, 255));
+    assert_eq!(rodeo.iter().count(), 255);
+    assert!(rodeo
+        .into_reader()
+        .iter()
+        .all(|(this, _)| this.into_usize() < 255));
+}
+
+#[test]
+fn the_first_text_has_the_first_key_in_64_threads() {
+    for round in 0..20 {
+        let rodeo: ThreadedRodeo<MiniSpur> = ThreadedRodeo::new();
+        at_once(MANY, |number| {
+            let intern = |text| match (number + round) % 2 {
+                0 => rodeo.get_or_intern(text),
+                _ => rodeo.get_or_intern_static(text),
+            };
+            assert_eq!([intern("red"), intern("red")], [key(0), key(0)]);
+        });
+        assert_eq!(rodeo.len(), 1);
+    }
+}
+
+/// What one list has to explain: the texts and keys that a thread was told.
+fn told(rodeo: &ThreadedRodeo, seed: usize) -> Vec<(String, Spur)> {
+    let (mut numbers, mut told) = (Numbers(seed as u64 + 1), Vec::new());
+    let mut kept: Vec<(&str, usize)> = Vec::new();
+    for _ in 0..300 {
+        let number = numbers.below(1 + numbers.0 as usize % 2000);
+        let text = text_of(number, [5, 14, 15, 40][number % 4]);
+        let before = rodeo.get(&text);
+        let this = rodeo.get_or_intern(&text);
+        assert!(before.is_none() || before == Some(this));
+        assert_eq!(
+            (rodeo.get(&text), rodeo.resolve(&this)),
+            (Some(this), &text[..])
+        );
+        assert!(rodeo.len() > this.into_usize());
+        let any = numbers.below(rodeo.len());
+        let other = rodeo.resolve(&key(any));
+        assert_eq!(rodeo.get(other), Some(key(any)));
+        kept.push((other, any));
+        told.push((text, this));
+    }
+    assert!(kept
+        .iter()
+        .all(|(text, at)| rodeo.resolve(&key(*at)).as_ptr() == text.as_ptr()));
+    told
+}
+
+#[test]
+fn one_list_explains_what_64_threads_are_told() {
+    for threads in [1, 2, 8, MANY] {
+        let rodeo = ThreadedRodeo::default();
+        let replies = at_once(threads, |number| told(&rodeo, number));
+        let texts: Vec<&str> = rodeo.strings().collect();
+        assert_eq!(texts.iter().collect::<HashSet<_>>().len(), texts.len());
+        let mut seen = vec![false; texts.len()];
+        for (text, this) in replies.iter().flatten() {
+            assert_eq!(texts[this.into_usize()], text);
+            seen[this.into_usize()] = true;
+        }
+        assert!(seen.into_iter().all(|it| it));
+    }
+}
+
+#[test]
+fn threads_that_end_leave_their_texts() {
+    let rodeo = ThreadedRodeo::default();
+    let texts: Vec<&str> = (0..200)
+        .map(|number| {
+            let intern = || rodeo.resolve(&rodeo.get_or_intern(text_of(number, 30)));
+            thread::scope(|scope| scope.spawn(intern).join().unwrap())
+        })
+        .collect();
+    assert!(rodeo.strings().eq(texts));
+}
+
+#[test]
+fn it_is_frozen_under_the_same_keys() {
+    let texts = || LENGTHS.iter().map(|length| text_of(3, *length));
+    let rodeo: ThreadedRodeo<MicroSpur> = texts().collect();
+    let reader: RodeoReader<MicroSpur> = rodeo.into_reader();
+    for (position, text) in texts().enumerate() {
+        assert_eq!(reader.get(&text), Some(key(position)));
+        assert_eq!(reader.resolve(&key(position)), text);
+    }
+    assert_eq!((reader.len(), reader.get("absent")), (LENGTHS.len(), None));
+    let rodeo: ThreadedRodeo<MicroSpur> = texts().collect();
+    let resolver: RodeoResolver<MicroSpur> = rodeo.into_resolver();
+    assert!(resolver.strings().eq(texts()));
+    assert!(ThreadedRodeo::default().into_reader().is_empty());
+    assert!(ThreadedRodeo::default().into_resolver().is_empty());
+}
+
+#[test]
+fn equality_is_that_of_texts_in_their_order() {
+    let lists: [&[&str]; 5] = [&[], &["a"], &["a", "b"], &["b", "a"], &["a", "b", ""]];
+    for (left, right) in lists
+        .iter()
+        .flat_map(|left| lists.iter().map(move |right| (left, right)))
+    {
+        let this: ThreadedRodeo = left.iter().collect();
+        let other: ThreadedRodeo = right.iter().collect();
+        let rodeo: Rodeo = right.iter().collect();
+        let (reader, resolver) = (rodeo.clone().into_reader(), rodeo.clone().into_resolver());
+        let equal = [
+            this == other,
+            this == rodeo,
+            this == reader,
+            this == resolver,
+        ];
+        assert_eq!(equal, [left == right; 4], "{left:?} {right:?}");
+        assert_eq!(
+            [rodeo == this, reader == this, resolver == this],
+            [left == right; 3]
+        );
+    }
+}
+
+#[test]
+fn it_is_a_collection_of_texts() {
+    let mut rodeo: ThreadedRodeo = ["red", "blue", "red"].into_iter().collect();
+    rodeo.extend(["green", "blue"]);
+    rodeo.extend([String::from("grün")]);
+    assert!(rodeo.strings().eq(["red", "blue", "green", "grün"]));
+    let shown = r#"ThreadedRodeo { strings: ["red", "blue", "green", "grün"], current_memory_usage: 4096, "#;
+    assert!(format!("{rodeo:?}").starts_with(shown));
+    assert_eq!(
+        format!("{:?}", rodeo.iter()),
+        r#"["red", "blue", "green", "grün"]"#
+    );
+}

@@ -1,0 +1,411 @@
+/* Threads intern into one shared interner of lasso.h, and one list has to explain every reply. trials/shared builds and runs it.
+
+   usage: shared rounds SECONDS SEED     rounds of 1 to 16 threads for so many seconds, and at least one
+          shared refused                 calls in one thread, each made again if it is out of memory
+
+   In a round each of some places makes calls by a handle of its own. Now and then the thread of a place ends: it joins a handle for the next
+   thread of the place and frees its own, while others go on. Each reply is noted with the times before and after the call. No call takes a second
+   in which all threads together ran for a second: on a busy machine the thread that others wait for may not run. */
+#include "lasso.h"
+
+#include <pthread.h>
+#include <stdatomic.h>
+#include <stdio.h>
+#include <stdlib.h>
+#include <string.h>
+#include <time.h>
+
+enum { MOST_PLACES = 16, CALLS = 20000, TEXTS = 16 * CALLS + 1000, LIVES = 8, KEPT = 64, LONG = 400 };
+enum kind { ZIPF, DISTINCT, FEW, STARVED, KINDS };
+enum call { INTERN, GET, RESOLVE, LEN };
+
+static const uint64_t SECOND = 1000000000;
+
+/* A reply: the call's times in nanoseconds, the number of its text, and a code or the length. UINT32_MAX is no code, or no text. */
+struct reply {
+    uint64_t start, end;
+    enum call call;
+    uint32_t number, code;
+};
+
+struct place {
+    pthread_t threads[LIVES];
+    struct lasso_shared handle;
+    int lives, life;
+    uint32_t number, state, done;
+    uint64_t busy, longest, ran;
+    struct reply replies[CALLS];
+    struct lasso_text kept[KEPT];
+    uint32_t kept_number[KEPT];
+};
+
+static struct place places[MOST_PLACES];
+static enum kind kind;
+static int place_count;
+static bool is_raced;
+static atomic_bool is_written;
+
+#define FAULT(...) (fprintf(stderr, __VA_ARGS__), fputc('\n', stderr), exit(1))
+
+static uint64_t now(clockid_t clock)
+{
+    struct timespec time;
+    clock_gettime(clock, &time);
+    return (uint64_t)time.tv_sec * SECOND + (uint64_t)time.tv_nsec;
+}
+
+static uint32_t next(uint32_t *state)
+{
+    *state ^= *state << 13;
+    *state ^= *state >> 17;
+    return *state ^= *state << 5;
+}
+
+/* A number's text: mostly short, some longer and not ASCII, few of a bucket's size. Returns its length. */
+static size_t text_of(uint32_t number, uint8_t room[LONG])
+{
+    const char *form = number % 7 ? "%u" : number % 49 ? "a longer text, gr\xc3\xbcn, of number %u" : "%u, and %300s";
+    return (size_t)snprintf((char *)room, LONG, form, (unsigned)number, "x");
+}
+
+/* The number of a text, if it is one of these. */
+static uint32_t number_of(const uint8_t *text, size_t length)
+{
+    uint8_t want[LONG];
+    size_t at = 0;
+    uint64_t number = 0;
+    while (at < length && (text[at] < '0' || text[at] > '9'))
+        at++;
+    for (; at < length && text[at] >= '0' && text[at] <= '9' && number < TEXTS; at++)
+        number = number * 10 + (uint64_t)(text[at] - '0');
+    if (number >= TEXTS || text_of((uint32_t)number, want) != length || memcmp(want, text, length) != 0)
+        FAULT("a text that nobody interned, of %zu bytes", length);
+    return (uint32_t)number;
+}
+
+/* The number of the next text of a place. */
+static uint32_t choose(struct place *place)
+{
+    uint32_t random = next(&place->state) >> 12, skewed;
+    switch (kind) {
+    case FEW:
+        return random % 50;
+    case ZIPF:
+        skewed = (uint32_t)((uint64_t)random * random >> 20);
+        return (uint32_t)((uint64_t)skewed * skewed >> 26);
+    default:
+        return is_raced ? place->done : place->done * MOST_PLACES + place->number;
+    }
+}
+
+/* Interns or looks up a text, and counts how often that was busy. */
+static uint32_t call_text(struct place *place, enum call call, const uint8_t *text, size_t length, uint32_t *code)
+{
+    uint32_t status;
+    if (place->state % 2)
+        return call == INTERN ? lasso_shared_intern_wait(&place->handle, text, length, code)
+                              : lasso_shared_get_wait(&place->handle, text, length, code);
+    while ((status = call == INTERN ? lasso_shared_intern(&place->handle, text, length, code)
+                                    : lasso_shared_get(&place->handle, text, length, code)) == LASSO_BUSY) {
+        place->busy++;
+        sched_yield();
+    }
+    return status;
+}
+
+/* Resolves a code by a copy, or has its text lent, which is kept now and then. */
+static void resolve(struct place *place, struct reply *reply)
+{
+    struct lasso_text lent = LASSO_NO_TEXT;
+    uint8_t room[LONG];
+    size_t whole = 0;
+    bool copies = next(&place->state) % 2;
+    uint32_t status = copies ? lasso_shared_resolve(&place->handle, reply->code, room, sizeof room, &whole)
+                             : lasso_shared_text_now(&place->handle, reply->code, &lent);
+    reply->end = now(CLOCK_MONOTONIC);
+    if (status != LASSO_DONE) {
+        if (status != LASSO_NO_SUCH_CODE)
+            FAULT("status %u of a code", (unsigned)status);
+        return;
+    }
+    reply->number = copies ? number_of(room, whole) : number_of(lent.bytes, lent.length);
+    if (!copies) {
+        place->kept[place->done % KEPT] = lent;
+        place->kept_number[place->done % KEPT] = reply->number;
+    }
+}
+
+/* Makes one call, and notes the reply. */
+static void make_call(struct place *place, struct reply *reply, enum call call, uint32_t number)
+{
+    uint8_t text[LONG];
+    size_t length = text_of(number, text);
+    uint32_t status = LASSO_DONE;
+    *reply = (struct reply){.call = call, .number = UINT32_MAX, .code = UINT32_MAX};
+    if (call == RESOLVE) /* one code of those that there may be */
+        reply->code = place->done == 0 ? 0 : place->replies[next(&place->state) % place->done].code + next(&place->state) % 3 / 2;
+    reply->start = now(CLOCK_MONOTONIC);
+    if (call == RESOLVE) {
+        resolve(place, reply);
+    } else if (call == LEN) {
+        reply->code = (uint32_t)lasso_shared_len(&place->handle);
+        reply->end = now(CLOCK_MONOTONIC);
+    } else {
+        status = call_text(place, call, text, length, &reply->code);
+        reply->end = now(CLOCK_MONOTONIC);
+        reply->number = number;
+    }
+    if (status != LASSO_DONE && (call != GET || status != LASSO_NO_SUCH_TEXT))
+        FAULT("status %u of call %d", (unsigned)status, (int)call);
+}
+
+/* Whether a call took a second in which the threads ran for one: `ran` is for how long they had run shortly before it. */
+static void see_time(struct place *place, const struct reply *reply)
+{
+    uint64_t took = reply->end - reply->start;
+    place->longest = took > place->longest ? took : place->longest;
+    if (took > SECOND && now(CLOCK_PROCESS_CPUTIME_ID) - place->ran > SECOND)
+        FAULT("a call took %.1f s with %d threads", (double)took / 1e9, place_count);
+    if (took > SECOND / 100 || place->done % 64 == 0)
+        place->ran = now(CLOCK_PROCESS_CPUTIME_ID);
+}
+
+/* The call that a place makes next. Where a writer may starve, the others look up absent texts, which takes a lock, as long as it writes. */
+static enum call choose_call(struct place *place)
+{
+    uint32_t random = next(&place->state) >> 8 & 15;
+    if (kind == STARVED)
+        return place->number == 0 ? INTERN : GET;
+    return random < 9 ? INTERN : random < 12 ? GET : random < 15 ? RESOLVE : LEN;
+}
+
+static void *work(void *argument)
+{
+    struct place *place = argument;
+    struct lasso_shared handle = LASSO_SHARED_NONE;
+    uint32_t last = CALLS * (uint32_t)(place->life + 1) / (uint32_t)place->lives;
+    place->ran = now(CLOCK_PROCESS_CPUTIME_ID);
+    while (place->done < last && !(kind == STARVED && place->number != 0 && is_written)) {
+        struct reply *reply = &place->replies[place->done];
+        make_call(place, reply, choose_call(place), choose(place));
+        see_time(place, reply);
+        place->done++;
+        if (kind == STARVED && place->number != 0 && place->done == last)
+            place->done = 0; /* what a reader was told first is noted no more */
+    }
+    if (kind == STARVED && place->number == 0)
+        is_written = true;
+    if (++place->life == place->lives)
+        return NULL;
+    if (lasso_shared_join(&place->handle, &handle) != LASSO_DONE)
+        FAULT("no handle for the next thread");
+    lasso_shared_free(&place->handle);
+    place->handle = handle;
+    if (pthread_create(&place->threads[place->life], NULL, work, place) != 0)
+        FAULT("no thread");
+    return NULL;
+}
+
+/* By number and by code, from all replies: which code a text has, when a reply first showed it, and when it was first given to intern. */
+static uint32_t code_of[TEXTS], number_at[TEXTS];
+static uint64_t shown[TEXTS], begun[TEXTS];
+
+static void gather(void)
+{
+    memset(code_of, 0xff, sizeof code_of);
+    memset(number_at, 0xff, sizeof number_at);
+    memset(shown, 0xff, sizeof shown);
+    memset(begun, 0xff, sizeof begun);
+    for (struct place *place = places; place < places + place_count; place++)
+        for (struct reply *reply = place->replies; reply < place->replies + place->done; reply++) {
+            uint32_t number = reply->number, code = reply->code;
+            if (reply->call == LEN || number == UINT32_MAX || code == UINT32_MAX)
+                continue;
+            if (code >= TEXTS || (code_of[number] != UINT32_MAX && code_of[number] != code)
+                || (number_at[code] != UINT32_MAX && number_at[code] != number))
+                FAULT("text %u has the codes %u and %u, or code %u two texts", (unsigned)number, (unsigned)code_of[number], (unsigned)code,
+                      (unsigned)code);
+            code_of[number] = code;
+            number_at[code] = number;
+            shown[code] = reply->end < shown[code] ? reply->end : shown[code];
+            if (reply->call == INTERN)
+                begun[code] = reply->start < begun[code] ? reply->start : begun[code];
+        }
+}
+
+/* When the list can have had the first texts of a number at the earliest, and when it had to have them at the latest. */
+static uint64_t earliest[TEXTS + 1], latest[TEXTS + 1];
+
+static void order(size_t length)
+{
+    earliest[0] = 0;
+    latest[length] = UINT64_MAX;
+    for (size_t code = 0; code < length; code++) {
+        if (number_at[code] == UINT32_MAX || begun[code] == UINT64_MAX)
+            FAULT("nobody interned the text of code %zu of %zu", code, length);
+        earliest[code + 1] = begun[code] > earliest[code] ? begun[code] : earliest[code];
+    }
+    for (size_t code = length; code > 0; code--)
+        latest[code - 1] = shown[code - 1] < latest[code] ? shown[code - 1] : latest[code];
+}
+
+/* The list had at least `texts` texts when the reply ended: those were given to intern before. */
+static void check_has(const struct reply *reply, size_t texts, size_t length)
+{
+    if (texts > length || earliest[texts] > reply->end)
+        FAULT("a reply of call %d knows %zu texts of %zu, and not all were interned before it ended", (int)reply->call, texts, length);
+}
+
+/* The list had not yet `texts` texts when the reply began: no reply that ended before had shown them. */
+static void check_lacks(const struct reply *reply, size_t texts, size_t length)
+{
+    if (texts <= length && latest[texts - 1] < reply->start)
+        FAULT("a reply of call %d does not know %zu texts, which were shown before it began", (int)reply->call, texts);
+}
+
+static void check_reply(const struct reply *reply, size_t length)
+{
+    if (reply->call == LEN) {
+        check_has(reply, reply->code, length);
+        check_lacks(reply, (size_t)reply->code + 1, length);
+    } else if (reply->number != UINT32_MAX && reply->code != UINT32_MAX) {
+        check_has(reply, (size_t)reply->code + 1, length);
+    } else if (reply->call == RESOLVE && reply->code != UINT32_MAX) {
+        check_lacks(reply, (size_t)reply->code + 1, length);
+    } else if (reply->call == GET && code_of[reply->number] != UINT32_MAX) {
+        check_lacks(reply, (size_t)code_of[reply->number] + 1, length);
+    }
+}
+
+/* One growing list of distinct texts explains all replies, and lent texts are as they were. */
+static size_t check_round(struct lasso_shared *shared)
+{
+    size_t length = lasso_shared_len(shared), calls = 0;
+    struct lasso_text lent = LASSO_NO_TEXT;
+    gather();
+    order(length);
+    for (struct place *place = places; place < places + place_count; place++) {
+        for (struct reply *reply = place->replies; reply < place->replies + place->done; reply++)
+            check_reply(reply, length);
+        for (int at = 0; at < KEPT; at++)
+            if (place->kept[at].length > 0 && number_of(place->kept[at].bytes, place->kept[at].length) != place->kept_number[at])
+                FAULT("a lent text has changed");
+        calls += place->done;
+    }
+    for (uint32_t code = 0; code < length; code++)
+        if (lasso_shared_text_now(shared, code, &lent) != LASSO_DONE || number_of(lent.bytes, lent.length) != number_at[code])
+            FAULT("code %u has another text in the end", (unsigned)code);
+    if (lasso_shared_text_now(shared, (uint32_t)length, &lent) != LASSO_NO_SUCH_CODE)
+        FAULT("there is a text past the last one");
+    return calls;
+}
+
+/* Draws a round, and gives each place a handle. */
+static void begin_round(uint32_t *state, struct lasso_shared *shared)
+{
+    kind = (enum kind)(next(state) >> 8 & 3);
+    place_count = kind == STARVED ? MOST_PLACES : (int)(next(state) >> 8) % MOST_PLACES + 1;
+    is_raced = next(state) >> 8 & 1;
+    is_written = false;
+    if (lasso_shared_new(shared) != LASSO_DONE)
+        FAULT("no interner");
+    for (int at = 0; at < place_count; at++) {
+        struct place *place = &places[at];
+        memset(place, 0, sizeof *place);
+        place->number = (uint32_t)at;
+        place->state = next(state);
+        place->lives = kind == STARVED ? 1 : (int)(next(state) >> 8) % LIVES + 1;
+        if (lasso_shared_join(shared, &place->handle) != LASSO_DONE)
+            FAULT("no handle");
+    }
+    if (next(state) >> 8 & 1)
+        lasso_shared_free(shared);
+}
+
+/* Runs the places of a round. Returns how many calls they made. */
+static size_t run_round(uint32_t *state)
+{
+    struct lasso_shared shared = LASSO_SHARED_NONE;
+    begin_round(state, &shared);
+    for (int at = 0; at < place_count; at++)
+        if (pthread_create(&places[at].threads[0], NULL, work, &places[at]) != 0)
+            FAULT("no thread");
+    for (int at = 0; at < place_count; at++)
+        for (int life = 0; life < places[at].lives; life++)
+            pthread_join(places[at].threads[life], NULL);
+    if (!shared.live && lasso_shared_join(&places[0].handle, &shared) != LASSO_DONE)
+        FAULT("no handle in the end");
+    for (int at = 0; at < place_count; at++)
+        lasso_shared_free(&places[at].handle);
+    size_t calls = check_round(&shared);
+    lasso_shared_free(&shared);
+    return calls;
+}
+
+static int run_rounds(double seconds, uint32_t seed)
+{
+    uint64_t start = now(CLOCK_MONOTONIC), calls = 0, busy = 0, longest = 0, rounds = 0;
+    uint32_t state = seed * 2654435769u | 1;
+    do {
+        calls += run_round(&state);
+        for (int at = 0; at < place_count; at++) {
+            busy += places[at].busy;
+            longest = places[at].longest > longest ? places[at].longest : longest;
+        }
+        rounds++;
+    } while ((double)(now(CLOCK_MONOTONIC) - start) < seconds * 1e9);
+    printf("%llu rounds, %llu calls, busy %llu times, the longest call %.3f s\n", (unsigned long long)rounds, (unsigned long long)calls,
+           (unsigned long long)busy, (double)longest / 1e9);
+    return 0;
+}
+
+/* Whether a call is to be made again: it was out of memory, and nothing has changed. */
+static bool again(uint32_t status, struct lasso_shared *shared, size_t length)
+{
+    if (status != LASSO_DONE && status != LASSO_NO_MEMORY)
+        FAULT("status %u where memory was refused", (unsigned)status);
+    if (status == LASSO_NO_MEMORY && lasso_shared_len(shared) != length)
+        FAULT("out of memory, and the interner has another length");
+    return status == LASSO_NO_MEMORY;
+}
+
+/* Every call in one thread, with more texts than the first buckets and the hints are made for. The requests are the library's alone. */
+static int run_refused(void)
+{
+    static uint8_t long_text[200000];
+    struct lasso_shared first = LASSO_SHARED_NONE, other = LASSO_SHARED_NONE, *handles[] = {&first, &other};
+    uint8_t text[LONG];
+    uint32_t code = 0;
+    memset(long_text, 'x', sizeof long_text);
+    while (again(lasso_shared_new(&first), &first, 0))
+        continue;
+    while (again(lasso_shared_join(&first, &other), &first, 0))
+        continue;
+    for (uint32_t call = 0; call < 12000; call++) {
+        uint32_t number = call < 6000 ? call : call - 6000;
+        size_t length = text_of(number, text), texts = call < 6000 ? call : 6000;
+        while (again(lasso_shared_intern(handles[call % 2], text, length, &code), &first, texts))
+            continue;
+        while (again(lasso_shared_get(handles[call / 2 % 2], text, length, &code), &first, texts + (call < 6000)))
+            continue;
+        if (code != number)
+            FAULT("text %u has the code %u", (unsigned)number, (unsigned)code);
+    }
+    while (again(lasso_shared_intern(&other, long_text, sizeof long_text, &code), &first, 6000))
+        continue;
+    if (code != 6000 || lasso_shared_len(&first) != 6001)
+        FAULT("a long text has the code %u", (unsigned)code);
+    lasso_shared_free(&first);
+    lasso_shared_free(&other);
+    return puts("6001 texts") < 0;
+}
+
+int main(int count, char **words)
+{
+    if (count == 2 && strcmp(words[1], "refused") == 0)
+        return run_refused();
+    if (count == 4 && strcmp(words[1], "rounds") == 0)
+        return run_rounds(strtod(words[2], NULL), (uint32_t)strtoul(words[3], NULL, 10));
+    fputs("usage: shared rounds SECONDS SEED, or shared refused\n", stderr);
+    return 2;
+}
