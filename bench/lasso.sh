@@ -100,7 +100,7 @@ figures_of_lasso_lines() {
 # The machine, the date and the load, which the tables and pictures are of.
 print_occasion() {
     date -u '+%-d %B %Y, %H:%M UTC'
-    sed -n 's/^model name[[:space:]]*: //p' /proc/cpuinfo | head -n 1
+    sed -n '/^model name/{s/^[^:]*: //p;q}' /proc/cpuinfo
     echo "$(nproc) processors, load $(cut -d ' ' -f 1-3 /proc/loadavg)"
     rustc --version
 }

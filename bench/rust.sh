@@ -17,7 +17,7 @@ build_rust() {
         exit 1
     fi
     [ -n "${UPSTREAM:-}" ] || return 0
-    ln -sfn "$(realpath -- "$UPSTREAM")" "$OUT/upstream-source"
+    ln -sfn "$(realpath -- "$UPSTREAM")" "$OUT/upstream-sources"
     if ! build_over_crates upstream hashbrown serde dashmap ahash; then
         cat "$OUT/upstream.log" >&2
         exit 1

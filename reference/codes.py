@@ -167,7 +167,7 @@ def columns_of(data, options, dictionaries=0):
             code = None if code == NO_CODE else code
         else:
             word = line_at(f"{what} is missing")
-            if not re.fullmatch(b"-|[0-9]{1,20}", word):
+            if not re.fullmatch(b"-|[0-9]{1,20}", word) or word != b"-" and int(word) >= 2**64:
                 raise Ends(2, f"{what} is not a code")
             code = None if word == b"-" else int(word)
         if code is not None and code >= count:

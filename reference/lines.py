@@ -32,6 +32,24 @@ def options_of(words):
     return None if is_wrong else (limit, workers)
 
 
+def others(words, data):
+    """What workers may do in place of what `lasso_lines` returns. Under a limit the order in which they intern decides whether all lines
+    fit, and which one doesn't; a text that doesn't fit never does later, so it is refused where it first comes."""
+    limit, workers = options_of(words) or (None, None)
+    found = lines_of(data)
+    if workers in (None, 1) or not all(map(is_utf8, found)):
+        return []
+    first = {}
+    for number, line in enumerate(found, 1):
+        first.setdefault(line, number)
+    size, results = sum(map(len, first)), []
+    if size > 4096:
+        results.append((1, b"", f"line ({'|'.join(map(str, first.values()))}): .*memory limit.*"))
+    if size <= max(limit, 4096):
+        results.append((0, b"".join(line + b"\n" for line in sorted(first)), ""))
+    return results
+
+
 def lasso_lines(words, data):
     """The status, the output (or a pattern of it) and a pattern of the message."""
     if words == ["--help"]:

@@ -95,6 +95,7 @@ def some_words(random, program, are_short):
     words = [verb] if program == "codes" else []
     for name in random.sample(names, random.randrange(len(names) + 1)):
         value = str({"--limit": random.choice([0, 4096, 4100, 9000, 30000, 2**64 - 1]), "--top": random.choice([0, 1, 3]), "--workers": random.choice([1, 2] if are_short else [1, 2, 4, 64]), "--null": random.choice([*["NA", "", "-", "é", "0", "a"] * 3, "a\nb"])}.get(name))
+        value = random.choice(WORDS) if random.random() < 0.02 else value
         if name in ("--utf8", "--binary", "--quiet"):
             words.append(name)
         elif program == "codes" and random.random() < 0.3:
@@ -123,16 +124,19 @@ def some_case(random, program, are_short):
 CAUSES = {"lines": ("", ""), "codes": (": Is a directory", ": No storage space")}
 
 
-def wanted_of(case):
-    """The status, the output (or a pattern of it) and a pattern of the message."""
+def results_of(case):
+    """What the program may do: each status, output (or a pattern of it) and pattern of the message. The first is that of one thread."""
     is_folder = case.source == "folder"
-    status, output, message = REFERENCES[case.program](case.words, b"" if is_folder else case.data)
+    data = b"" if is_folder else case.data
+    more = lines.others(case.words, data) if case.program == "lines" else []
     no_read, no_write = CAUSES[case.program]
-    if is_folder and status != 3 and not isinstance(output, re.Pattern):
-        return 4, b"", "read failed" + no_read
-    if case.output == "full" and output:
-        return 4, b"", "write failed" + no_write
-    return status, b"" if case.output == "full" else output, message
+    for status, output, message in [REFERENCES[case.program](case.words, data), *more]:
+        if is_folder and status != 3 and not isinstance(output, re.Pattern):
+            yield 4, b"", "read failed" + no_read
+        elif case.output == "full" and output:
+            yield 4, b"", "write failed" + no_write
+        else:
+            yield status, b"" if case.output == "full" else output, message
 
 
 def run(case, path):
@@ -159,32 +163,21 @@ def run(case, path):
 
 
 def fits(found, wanted):
-    """Whether bytes or a text are those that are wanted, or fit their pattern."""
-    if isinstance(wanted, re.Pattern):
-        return bool(wanted.fullmatch(found))
-    return found == wanted
+    """Whether the status, output and message of a run are those of a result."""
+    status, output, message = wanted
+    pattern = re.compile(message + "\n" if message else "", re.DOTALL)
+    is_output = output.fullmatch(found[1]) if isinstance(output, re.Pattern) else found[1] == output
+    return found[0] == status and bool(is_output) and bool(pattern.fullmatch(found[2]))
 
 
 def difference(case, path):
     """What differs between the program and the reference, or None."""
-    status, output, message = wanted_of(case)
-    found_status, found_output, found_message = run(case, path)
-    pattern = re.compile(message + "\n" if message else "", re.DOTALL)
-    if found_status == status and fits(found_output, output) and fits(found_message, pattern):
+    results, found = list(results_of(case)), run(case, path)
+    if any(fits(found, wanted) for wanted in results):
         return None
-    if is_other_refusal(case, found_status, found_output, found_message):
-        return None
-    return f"status {found_status}, wanted {status}\noutput {found_output[:500]!r}, wanted {output if isinstance(output, re.Pattern) else output[:500]!r}\nmessage {found_message[:500]!r}, wanted {message!r}"
-
-
-def is_other_refusal(case, status, output, message):
-    """Whether workers of lasso_lines refused a line that may be refused: which one under a limit, if several don't fit, depends on their order."""
-    options = lines.options_of(case.words) if case.program == "lines" else None
-    if not options or options[1] in (None, 1) or status != 1 or output:
-        return False
-    lengths = {text: len(text) for text in lines.lines_of(case.data)}
-    refused = re.fullmatch("line ([0-9]+): .*memory limit.*\n", message)
-    return bool(refused) and 1 <= int(refused[1]) <= len(lines.lines_of(case.data)) and sum(lengths.values()) > 4096
+    (status, output, message), (wanted, wanted_output, pattern) = found, results[0]
+    shown = wanted_output if isinstance(wanted_output, re.Pattern) else wanted_output[:500]
+    return f"status {status}, wanted {wanted}\noutput {output[:500]!r}, wanted {shown!r}\nmessage {message[:500]!r}, wanted {pattern!r}"
 
 
 def smallest(case, path):
