@@ -33,11 +33,12 @@ def options_of(words):
 
 
 def others(words, data):
-    """What workers may do in place of what `lasso_lines` returns. Under a limit the order in which they intern decides whether all lines
-    fit, and which one doesn't; a text that doesn't fit never does later, so it is refused where it first comes."""
+    """What workers may do in place of what `lasso_lines` returns. Under a limit their order decides whether all lines fit, and which one
+    doesn't; and a line may go into any bucket with room, also that of one worker, of which `Account` knows the current one alone. A text
+    that doesn't fit never does later, so it is refused where it first comes."""
     limit, workers = options_of(words) or (None, None)
     found = lines_of(data)
-    if workers in (None, 1) or not all(map(is_utf8, found)):
+    if workers is None or not all(map(is_utf8, found)):
         return []
     first = {}
     for number, line in enumerate(found, 1):

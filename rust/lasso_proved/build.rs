@@ -84,7 +84,13 @@ fn link_by_pkg_config() -> Result<(), String> {
             told.trim()
         ));
     }
-    for word in &words_of(&String::from_utf8_lossy(&output.stdout)) {
+    let words = words_of(&String::from_utf8_lossy(&output.stdout));
+    // The loader doesn't look into such a folder, and an rpath reaches no program of another crate.
+    let unknown = words.iter().find_map(|word| word.strip_prefix("-Wl,-rpath,"));
+    if let Some(folder) = unknown {
+        return link_archive(Path::new(folder));
+    }
+    for word in &words {
         if let Some(folder) = word.strip_prefix("-L") {
             println!("cargo:rustc-link-search=native={folder}");
         } else if let Some(library) = word.strip_prefix("-l") {
