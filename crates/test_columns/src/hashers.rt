@@ -44,7 +44,7 @@ where
     Ok(rodeo.len() == count && stand_for(rodeo, codes, texts))
 }
 
-// The same over a new interner with this hasher.
+// Encodes the texts over a new interner with this hasher, and checks their codes.
 fn encodes_by<R: AllocGlobal + Threads + Wait + Sync, S: BuildHasher + Send + Sync + Drop>(
     rt: &R,
     hasher: S,

@@ -85,7 +85,7 @@ fn refuses_long<R: AllocGlobal + Threads + Wait + Sync>(
     )
 }
 
-// The same of 6000 letters.
+// Whether the limit refuses a text of 6000 letters, and leaves the number of texts and the limit.
 fn limit_holds<R: AllocGlobal + Threads + Wait + Sync>(
     rt: &R,
     rodeo: &SpurThreadedRodeo,

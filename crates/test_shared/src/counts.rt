@@ -74,7 +74,7 @@ fn a_frozen_form_has_each_count_of_texts(rt: HostRuntime) -> Result<(), Fail> {
     Ok(())
 }
 
-// The same, but of the last chunk of a list only the first few texts: writing takes long.
+// Numbers of texts to write: of the last chunk of a list only the first few, as writing takes long.
 static WRITTEN: [usize; 18] = [
     0, 1, 2, 16, 17, 18, 49, 50, 64, 113, 114, 241, 242, 300, 1000, 1009, 1010, 1100,
 ];

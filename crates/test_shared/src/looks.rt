@@ -34,9 +34,10 @@ pub(super) enum Look {
     Walks(usize, &'static str),
     /// Comparisons with each form of the list give this.
     Compares(List, bool),
-    /// The same, also with forms of other hashers and with frozen forms of interners that threads share.
+    /// Comparisons with each form of the list give this, also with other hashers and with frozen forms of
+    /// interners that threads share.
     ComparesAll(List, bool),
-    /// The same with the forms for one thread alone.
+    /// Comparisons with each form of the list for one thread give this.
     ComparesSingle(List, bool),
 }
 

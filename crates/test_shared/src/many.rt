@@ -77,7 +77,7 @@ fn keeps_limit<R: AllocGlobal + Wait>(
     Ok(met && limit(rt, shared) == bytes && usage(rt, shared) == used && len(shared) == count)
 }
 
-// The same with limits that leave no byte, some, and one too few. No limit is set before and after.
+// Keeps limits that leave no byte, some, and one too few. No limit is set before and after.
 fn keeps_limits<R: AllocGlobal + Wait>(rt: &R, shared: &Shared, used: usize) -> LassoResult<bool> {
     let mut all = limit(rt, shared) == usize::MAX;
     for more in [0, 3000, used.saturating_sub(1)] {

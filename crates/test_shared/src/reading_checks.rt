@@ -35,7 +35,7 @@ pub(super) fn runs_in<K: Key, S: BuildHasher + Default + Drop, R: AllocGlobal + 
     Ok(())
 }
 
-/// The same with a new interner.
+/// Goes through the rows with a new interner.
 pub(super) fn runs_as<K: Key, S: BuildHasher + Default + Drop, R: AllocGlobal + Wait + Abort>(
     rt: &R,
     origin: Origin,
@@ -46,7 +46,7 @@ pub(super) fn runs_as<K: Key, S: BuildHasher + Default + Drop, R: AllocGlobal + 
     runs_in(rt, &shared, looks, case)
 }
 
-/// The same with the default keys and hasher.
+/// Goes through the rows with a new interner of the default keys and hasher.
 pub(super) fn runs<R: AllocGlobal + Wait + Abort>(
     rt: &R,
     origin: Origin,

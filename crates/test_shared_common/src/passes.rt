@@ -185,7 +185,7 @@ fn holds_by<K: Key, S: BuildHasher + Drop, R: AllocGlobal + Wait>(
     }
 }
 
-// The same by a new pass.
+// Makes the call by a new pass. Returns whether it returned what it has to.
 fn holds_by_new<K: Key, S: BuildHasher + Drop, R: AllocGlobal + Wait>(
     rt: &R,
     shared: &ThreadedRodeo<K, S>,
@@ -288,7 +288,7 @@ pub fn first_wrong_of<K: Key, S: BuildHasher + Drop, R: AllocGlobal + Wait>(
     first_wrong_with(rt, shared, &mut one, &mut other, steps, case)
 }
 
-/// The same in two threads, of which each makes other calls. Returns whether all returned what they have to.
+/// Makes calls in two threads, each other ones. Returns whether all returned what they have to.
 pub fn are_right_beside<R: AllocGlobal + Threads + Wait + Sync>(
     rt: &R,
     shared: &Shared,

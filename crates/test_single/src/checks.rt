@@ -21,7 +21,7 @@ pub fn is_so(rt: &impl Abort, holds: bool, what: &str) {
     assert!(rt; holds, "{what}");
 }
 
-// The same for a row of a table.
+// Fails the test if this does not hold of the row of a table.
 pub fn is_so_at(rt: &impl Abort, holds: bool, row: usize) {
     assert!(rt; holds, "row {row}");
 }

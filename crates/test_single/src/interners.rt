@@ -142,7 +142,7 @@ fn interns_number<K: Key, S: BuildHasher>(
     }
 }
 
-// The same for each of the numbers below `count`, in order.
+// Whether interning each of the numbers below `count` in decimal, in order, gives the key of this number.
 pub fn interns_numbers<K: Key, S: BuildHasher>(
     alloc: Global,
     rodeo: &mut Rodeo<K, S, Global>,

@@ -13,7 +13,7 @@ type Positions = HashMap<String, usize>;
 pub struct Lines {
     /// The lines, in their order.
     pub texts: Vec<String>,
-    /// The same lines in another order, so that a look-up seldom finds its neighbour at hand.
+    /// The lines in another order, so that a look-up seldom finds its neighbour in a cache.
     pub again: Vec<String>,
     /// The distinct lines, in the order in which each comes first.
     pub distinct: Vec<String>,

@@ -122,7 +122,7 @@ impl Opened {
             && fits(rt, &self.log, &self.list, &self.spine, &mut self.pass, text) == wanted
     }
 
-    // The same with no spine.
+    // Whether a bucket that is found without the spine takes the text, if it has to.
     fn fits_anywhere<R: Wait>(&mut self, rt: &R, text: &str, wanted: bool) -> bool {
         !text.is_empty() && fits_anywhere(rt, &self.log, &self.list, &mut self.pass, text) == wanted
     }

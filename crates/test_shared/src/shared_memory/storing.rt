@@ -24,7 +24,7 @@ fn begins(alloc: Global, bytes: usize, limit: u64) -> LassoResult<NewLog<Spur>>
     Ok(Log::open_with(texts, limit))
 }
 
-// The same with its bucket alone.
+// A log with an empty bucket of `bytes` bytes, and that bucket.
 pub(super) fn one_bucket(
     alloc: Global,
     bytes: usize,
@@ -40,7 +40,7 @@ pub(super) fn one_bucket(
     Ok((log, bucket))
 }
 
-// The same with its spine and the list of its buckets.
+// A log with an empty bucket of `bytes` bytes, its spine and the list of its buckets.
 pub(super) fn opens(
     alloc: Global,
     bytes: usize,
@@ -147,7 +147,7 @@ pub(super) fn fits<R: Wait>(
     true
 }
 
-// The same with no spine.
+// Copies the text into a bucket that is found without the spine, and returns whether one had room for it.
 pub(super) fn fits_anywhere<R: Wait>(
     rt: &R,
     log: &Log<Spur>,
