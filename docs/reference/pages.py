@@ -237,7 +237,7 @@ class Reference:
             if rows:
                 parts.append(f"<h2>{title}</h2>{table(rows)}")
         if elsewhere:
-            parts.append(f"<h2>Also by this name</h2>{table(elsewhere)}")
+            parts.append(f"<h2>Passed on from other modules</h2>{table(elsewhere)}")
         functions = [self.call(home, item, item.members[0], url, "") for home, item in self.functions_in(module)]
         if functions:
             parts.append("<h2>Functions</h2>" + "".join(functions))
