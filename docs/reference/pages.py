@@ -126,17 +126,17 @@ class Reference:
 
     def home_of_type(self, module, name):
         """The crate of a type that code of a module names, or None."""
-        if (module.crate, name) in self.types:
-            return module.crate
         found = [crate for crate, other in self.types if other == name]
-        return module.uses.get(name, found[0]) if len(found) == 1 or module.uses.get(name) in found else None
+        for crate in (module.crate, module.uses.get(name)):
+            if crate in found:
+                return crate
+        return found[0] if len(found) == 1 else None
 
     def typed(self, text, module):
         """Code of a module with a link at each type that has a page."""
         def link(shown):
             home = self.home_of_type(module, shown[2])
-            place = page_of_type(home, shown[2]) if home in {crate for crate, name in self.types if name == shown[2]} else None
-            return f'{shown[1]}<a href="{place}">{shown[2]}</a>{shown[3]}' if place else shown[0]
+            return f'{shown[1]}<a href="{page_of_type(home, shown[2])}">{shown[2]}</a>{shown[3]}' if home else shown[0]
 
         return TYPE_SHOWN.sub(link, code(text))
 
