@@ -16,6 +16,11 @@ KINDS = ("struct", "enum", "trait", "type")
 WORD = re.compile(r"[A-Za-z_][\w'-]*(?:\.[A-Za-z_][\w'-]*)*|\S|\s+")
 FORMATTER = HtmlFormatter(nowrap=True)
 SEARCH_SUMMARY = 90
+# A name in highlighted code that may be a type's.
+TYPE_SHOWN = re.compile(r'(<span class="(?:n|nc|nb|kt)">)([A-Z]\w*)(</span>)')
+FIELD = re.compile(r"^(?:    ///.*\n)*    pub (?!ghost).*,$", re.MULTILINE)
+EXAMPLES = "lasso_guide"
+LEMMAS = "lemmas.html"
 
 
 def code(text):
@@ -23,15 +28,16 @@ def code(text):
     return highlight(text, RustLexer(stripnl=False), FORMATTER)
 
 
-def prose(text):
-    """The HTML of a comment in Markdown."""
-    return markdown.markdown(text, extensions=["fenced_code", "codehilite", "tables"], extension_configs={"codehilite": {"guess_lang": False}})
+def prose(text, level=4):
+    """The HTML of a comment in Markdown, whose headings begin at a level of the page's."""
+    shown = markdown.markdown(text, extensions=["fenced_code", "codehilite", "tables"], extension_configs={"codehilite": {"guess_lang": False}})
+    return re.sub(r"<(/?)h([1-6])>", lambda tag: f"<{tag[1]}h{min(6, int(tag[2]) + level - 1)}>", shown)
 
 
 def first_sentence(text):
     """The first sentence of a comment, without marks."""
     words = " ".join(text.split("\n\n")[0].split()).replace("`", "")
-    return re.split(r"(?<=[.:]) ", words)[0]
+    return re.split(r"(?<=\.) ", words)[0]
 
 
 Entry = collections.namedtuple("Entry", "name kind url summary")
@@ -40,10 +46,12 @@ Entry = collections.namedtuple("Entry", "name kind url summary")
 class Reference:
     """All that the pages link to: modules, types and definitions with their pages."""
 
-    def __init__(self, root, modules, definitions, std_words, tasks):
+    def __init__(self, root, modules, definitions, lemmas, std_words, tasks):
         self.root = root
         self.modules = modules
         self.definitions = definitions
+        self.constructors = {f"{key.rpartition('.')[0]}.{name}": key for key, one in definitions.items() for name in one.constructors}
+        self.lemmas = lemmas
         self.std_words = std_words
         self.tasks = tasks
         self.exports = self.exported()
@@ -94,17 +102,19 @@ class Reference:
 
     def linked_word(self, word, names):
         shown = html.escape(word)
-        key = names.get(word) or names.get(f"◌{word}◌")
+        key = names.get(word) or names.get(f"◌{word}◌") or (word if word in self.std_words and not NAME.match(word) else None)
         if not key:
             return self.linked_member(word, names)
+        key = key if key in self.definitions else self.constructors.get(key, key)
         url = self.url_of_definition(key)
         if url and key in self.definitions:
             return f'<a class="word" data-word="{html.escape(key)}" href="{url}">{shown}</a>'
         if url:
             return f'<a href="{url}">{shown}</a>'
-        said = self.std_words.get(key.rpartition(".")[2])
+        said = self.std_words.get(key.rpartition(".")[2]) or self.std_words.get(word)
         if said:
-            return f'<abbr title="{html.escape(said)}" tabindex="0">{shown}</abbr>'
+            stop = ' tabindex="0"' if NAME.match(word) else ""
+            return f'<abbr title="{html.escape(said)}"{stop}>{shown}</abbr>'
         return shown
 
     def linked_member(self, word, names):
@@ -113,6 +123,22 @@ class Reference:
         if dot and first in names and NAME.fullmatch(first):
             return self.linked_word(first, names) + html.escape(dot + rest)
         return html.escape(word)
+
+    def home_of_type(self, module, name):
+        """The crate of a type that code of a module names, or None."""
+        found = [crate for crate, other in self.types if other == name]
+        for crate in (module.crate, module.uses.get(name)):
+            if crate in found:
+                return crate
+        return found[0] if len(found) == 1 else None
+
+    def typed(self, text, module):
+        """Code of a module with a link at each type that has a page."""
+        def link(shown):
+            home = self.home_of_type(module, shown[2])
+            return f'{shown[1]}<a href="{page_of_type(home, shown[2])}">{shown[2]}</a>{shown[3]}' if home else shown[0]
+
+        return TYPE_SHOWN.sub(link, code(text))
 
     def source_link(self, file, line):
         return f'<a class="source" href="../../{file}">{html.escape(file)}:{line}</a>'
@@ -144,7 +170,7 @@ class Reference:
         of = f' <small>of <code>{html.escape(item.trait)}</code></small>' if item.trait else ""
         return (
             f'<section class="call" id="{place}"><h3><a href="#{place}">{html.escape(call.name)}</a>{of}</h3>'
-            f'<pre class="signature">{code(call.signature)}</pre>{prose(call.docs)}{self.clauses(call, names)}'
+            f'<pre class="signature">{self.typed(call.signature, module)}</pre>{prose(call.docs)}{self.clauses(call, names)}'
             f"<p>{self.source_link(module.file, call.line)}</p></section>"
         )
 
@@ -180,10 +206,10 @@ class Reference:
         for (crate, name), (module, item) in self.types.items():
             url = page_of_type(crate, name)
             self.entries.append(Entry(name, item.kind, url, first_sentence(item.docs)[:SEARCH_SUMMARY]))
-            declared = item.head + (" {" + item.body + "}" if item.kind in ("enum",) else "")
+            declared = item.head + shown_body(item)
             body = (
                 f'<p class="path">{crate}</p><h1><small>{item.kind}</small> {name}</h1>'
-                f'<pre class="signature">{code(declared)}</pre>{prose(item.docs)}'
+                f'<pre class="signature">{self.typed(declared, module)}</pre>{prose(item.docs, 2)}'
                 f"<p>{self.source_link(module.file, item.line)}</p>"
                 f"{self.contract_view(crate, name)}{self.calls_of_type(crate, name, url)}"
             )
@@ -196,7 +222,7 @@ class Reference:
             name = "::".join((module.crate, *module.path))
             url = page_of_module(module)
             self.entries.append(Entry(name, "module", url, first_sentence(module.docs)[:SEARCH_SUMMARY]))
-            yield url, name, f"<h1><small>module</small> {name}</h1>{prose(module.docs)}{self.inside(module, url)}"
+            yield url, name, f"<h1><small>module</small> {name}</h1>{prose(module.docs, 2)}{self.inside(module, url)}"
 
     def inside(self, module, url):
         """What a module has: its modules, types and functions, and for a guide the whole file."""
@@ -211,17 +237,17 @@ class Reference:
             if rows:
                 parts.append(f"<h2>{title}</h2>{table(rows)}")
         if elsewhere:
-            parts.append(f"<h2>Also by this name</h2>{table(elsewhere)}")
+            parts.append(f"<h2>Passed on from other modules</h2>{table(elsewhere)}")
         functions = [self.call(home, item, item.members[0], url, "") for home, item in self.functions_in(module)]
         if functions:
             parts.append("<h2>Functions</h2>" + "".join(functions))
-        if module.crate == "lasso_guide" and module.path:
+        if module.crate == EXAMPLES and module.path:
             with open(os.path.join(self.root, module.file), encoding="utf-8") as source:
-                parts.append(f"<h2>The whole file</h2><pre>{code(source.read())}</pre>")
+                parts.append(f"<h2>The whole file</h2><pre>{self.typed(source.read(), module)}</pre>")
         return "".join(parts)
 
     def exports_of(self, module):
-        """The types and modules of other crates that a module exports, as rows of a table."""
+        """The types, modules and functions from elsewhere that a module exports, as rows of a table."""
         rows = []
         for path, name, _ in module.exports:
             crate = path.split("::")[0]
@@ -230,7 +256,19 @@ class Reference:
                 rows.append((page_of_type(crate, name), name, first_sentence(self.types[crate, name][1].docs)))
             elif home and crate != module.crate:
                 rows.append((page_of_module(home), name, first_sentence(home.docs)))
+            else:
+                rows += self.function_exported(module, path.split("::"), name)
         return rows
+
+    def function_exported(self, module, path, name):
+        """A function of another page that a module exports, as a row or none."""
+        crate = path[0] if path[0] in {one.crate for one in self.modules} else module.crate
+        for home in self.modules:
+            if home.crate == crate and (home.path or (crate,))[-1] == path[-1]:
+                page = next(one for one in self.modules if one.is_public and self.is_shown_in(home, one))
+                for item in home.items if page is not module else ():
+                    if item.kind == "fn" and item.name == name and self.is_reached(home, item):
+                        yield f"{page_of_module(page)}#{anchor(name)}", name, first_sentence(item.docs)
 
     def is_shown_in(self, home, module):
         """Whether what a module defines is listed with the other: the nearest module above that a caller can name."""
@@ -258,25 +296,38 @@ class Reference:
             url = f"words.{module.replace('.specs.', '.')}.html"
             parts = []
             for one in found:
-                place = anchor(one.name)
-                summary = " ".join(one.docs.split())[:SEARCH_SUMMARY]
-                self.entries.append(Entry(one.name, "word", f"{url}#{place}", summary))
-                parts.append(
-                    f'<section class="call" id="{place}"><h3><a href="#{place}">{html.escape(one.name)}</a></h3>'
-                    f"{prose(one.docs)}<pre>{self.linked(one.text, one.names)}</pre>"
-                    f"<p>{self.source_link(one.file, one.line)}</p></section>"
-                )
+                parts.append(self.definition(one, "word", one.name, url))
             yield url, module, f"<h1><small>words of contracts</small> {module}</h1>" + "".join(parts)
+
+    def definition(self, one, kind, title, url):
+        """A definition or a lemma with its comment and text."""
+        place = anchor(title)
+        self.entries.append(Entry(title, kind, f"{url}#{place}", " ".join(one.docs.split())[:SEARCH_SUMMARY]))
+        return (
+            f'<section class="call" id="{place}"><h3><a href="#{place}">{html.escape(title)}</a></h3>'
+            f"{prose(one.docs)}<pre>{self.linked(one.text, one.names)}</pre>"
+            f"<p>{self.source_link(one.file, one.line)}</p></section>"
+        )
+
+    def page_of_lemmas(self):
+        """The lemmas that a caller's proof cites."""
+        parts = ["<h1>Lemmas</h1><p>What a caller's proof cites of the crate <code>lasso</code>. Its laws are functions.</p>"]
+        for crate, name, about, found in self.lemmas:
+            parts.append(f"<h2><small>{crate}</small> {name}</h2>{prose(about, 3)}")
+            parts += [self.definition(one, "lemma", f"{name}.{one.name}", LEMMAS) for one in found]
+        yield LEMMAS, "Lemmas", "".join(parts)
 
     def front_page(self, introduction):
         """What a reader sees first: what lasso is, what one may want, and all crates."""
         tasks = [(self.url_of_call(call), call, task) for task, call in self.tasks]
         crates = [module for module in self.modules if not module.path]
         rows = [(page_of_module(one), one.crate, first_sentence(one.docs)) for one in crates]
+        examples = [(page_of_module(one), one.path[0], first_sentence(one.docs)) for one in self.modules if one.crate == EXAMPLES and len(one.path) == 1]
+        proving = [(LEMMAS, "lemmas", "What a caller's proof cites."), ("module.lasso.laws.html", "laws", "Laws that a caller's body calls.")]
         return (
             f"<h1>lasso: a proved string interner</h1>{introduction}<h2>I want to ..</h2>"
             f'<table>{"".join(f"<tr><td>{html.escape(task)}</td><td><a href={chr(34)}{url}{chr(34)}><code>{call}</code></a></td></tr>" for url, call, task in tasks)}</table>'
-            f"<h2>Crates</h2>{table(rows)}"
+            f"<h2>Callers to copy</h2>{table(examples)}<h2>To prove</h2>{table(proving)}<h2>Crates</h2>{table(rows)}"
         )
 
     def url_of_call(self, call):
@@ -292,6 +343,14 @@ class Reference:
     def words(self):
         """The comment and the text of each definition, for the box that opens at its name."""
         return json.dumps({key: [" ".join(one.docs.split()), one.text] for key, one in self.definitions.items()}, ensure_ascii=False)
+
+
+def shown_body(item):
+    """Of an enum its variants, of a struct its public fields."""
+    if item.kind == "enum":
+        return " {" + item.body + "}"
+    fields = FIELD.findall(item.body) if item.kind == "struct" else []
+    return " {\n" + "\n".join(fields) + "\n}" if fields else ""
 
 
 def anchor(name):

@@ -5,13 +5,23 @@ const found = document.getElementById("found");
 const box = document.getElementById("box");
 const MOST = 40;
 
+// How well an entry fits: 0 is best, from NONE on it does not fit. Of several words each has to fit.
+const NONE = 4;
+
 function rank(entry, asked) {
+  const words = asked.split(/\s+/);
+  if (words.length === 1) return rankWord(entry, asked);
+  const worst = Math.max(...words.map((word) => rankWord(entry, word)));
+  return worst + words.reduce((sum, word) => sum + rankWord(entry, word), 0) / (NONE * words.length + 1);
+}
+
+function rankWord(entry, asked) {
   const name = entry[0].toLowerCase();
   const last = name.split("::").pop();
   if (last === asked || name === asked) return 0;
   if (last.startsWith(asked)) return 1;
   if (name.includes(asked)) return 2;
-  return entry[3].toLowerCase().includes(asked) ? 3 : 4;
+  return entry[3].toLowerCase().includes(asked) ? 3 : NONE;
 }
 
 function show() {
@@ -19,7 +29,7 @@ function show() {
   found.replaceChildren();
   found.hidden = asked === "";
   if (found.hidden) return;
-  const ranked = SEARCH.map((entry) => [rank(entry, asked), entry]).filter((pair) => pair[0] < 4);
+  const ranked = SEARCH.map((entry) => [rank(entry, asked), entry]).filter((pair) => pair[0] < NONE);
   ranked.sort((one, other) => one[0] - other[0] || one[1][0].length - other[1][0].length);
   for (const [, [name, kind, url, summary]] of ranked.slice(0, MOST)) {
     const line = document.createElement("li");

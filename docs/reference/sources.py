@@ -16,6 +16,9 @@ ITEM = re.compile(
     r"^(?P<indent> {0,4})(?P<how>(?:pub(?:\(\w+\))? |const |unsafe |final |extern \"C\" |default )*)"
     r"(?P<kind>fn|struct|enum|trait|impl|type|const|static)\b *(?P<rest>.*)$"
 )
+USED = re.compile(r"^(?:pub )?use (lasso\w*)(?:::\w+)*?::(?:\{([^}]*)\}|(\w+));", re.MULTILINE)
+CONSTRUCTOR = re.compile(r"^  ([A-Za-z][\w']*) :")
+LEMMA = re.compile(r"^( *)pub ([\w'-]+) : ")
 DEFINITION = re.compile(r"^(?:abbrev pub|unfoldable pub|pub record|pub data|pub|pub syntax) ([\w'◌≡]+)")
 NAME = re.compile(r"[A-Za-z_][\w'-]*")
 
@@ -59,7 +62,7 @@ class Item:
 
 @dataclasses.dataclass
 class Module:
-    """A file of code. `names` has the definition that each imported name of a clause means."""
+    """A file of code. `names` has the definition that each imported name of a clause means, `uses` the crate of each type it uses."""
 
     crate: str
     path: tuple
@@ -69,11 +72,13 @@ class Module:
     items: list
     names: dict
     exports: list
+    uses: dict
 
 
 @dataclasses.dataclass
 class Definition:
-    """A definition of a file of specs: its comment, its text, and what the names of the file mean."""
+    """A definition of a file of specs, or a lemma of proofs: its comment, its text, what the names of the file mean, and of a
+    type its constructors."""
 
     key: str
     name: str
@@ -82,6 +87,7 @@ class Definition:
     file: str
     line: int
     names: dict
+    constructors: tuple = ()
 
 
 def read(path):
@@ -227,6 +233,11 @@ def exports_of(text):
     return found
 
 
+def used_in(text):
+    """Of each name that a file uses of a crate of the repository, that crate."""
+    return {word.strip(): crate for crate, group, one in USED.findall(text) for word in (group or one).split(",")}
+
+
 def modules_of(root, crate):
     """The modules of a crate, its root first, without those of tests."""
     folder = os.path.join(root, "crates", crate, "src")
@@ -238,7 +249,7 @@ def modules_of(root, crate):
         text = read(file)
         docs = "\n".join(line[3:].removeprefix(" ") for line in text.split("\n") if line.startswith("//!"))
         relative = os.path.relpath(file, root)
-        found.append(Module(crate, path, relative, docs, is_public, items_of(text), imports(text), exports_of(text)))
+        found.append(Module(crate, path, relative, docs, is_public, items_of(text), imports(text), exports_of(text), used_in(text)))
         tests = set(re.findall(r"#\[cfg\(test\)\]\n(?:pub )?mod (\w+);", text))
         home = "" if name == top else name.removesuffix(".rt") + "/"
         for how, module in MODULE.findall(text):
@@ -276,4 +287,40 @@ def definitions_in(text, module, file):
             end -= 1
         name = match.group(1)
         docs = comment_above(lines, number, "--")
-        yield Definition(f"{module}.{name}", name, docs, "\n".join(lines[number:end]), file, number + 1, {**names, **own})
+        made = constructors_in(lines[number:end]) if line.startswith("pub data ") else ()
+        own.update({word: f"{module}.{word}" for word in made if word[0].isupper()})
+        yield Definition(f"{module}.{name}", name, docs, "\n".join(lines[number:end]), file, number + 1, {**names, **own}, made)
+
+
+def constructors_in(lines):
+    """The constructors of a type that is defined in these lines."""
+    return tuple(match.group(1) for match in map(CONSTRUCTOR.match, lines) if match)
+
+
+def lemmas_of(root, crate):
+    """The lemmas that a crate passes on to callers, by file: of each file its crate, name and comment, and the lemmas."""
+    listed = read(os.path.join(root, "crates", crate, "proofs", "Lib.antt"))
+    homes = [(crate, name) for name in re.findall(r"^pub mod (\w+)$", listed, re.MULTILINE)]
+    homes += re.findall(r"^pub use Rattle\.(\w+)\.proofs\.(\w+)$", listed, re.MULTILINE)
+    for home, name in homes:
+        file = f"crates/{home}/proofs/{name}.antt"
+        text = read(os.path.join(root, file))
+        about = "\n".join(line[2:].removeprefix(" ") for line in text.split("\nuse ")[0].split("\n") if line.startswith("--"))
+        yield home, name, about, list(lemmas_in(text, f"{home}.proofs.{name}", file))
+
+
+def lemmas_in(text, module, file):
+    """The public lemmas of a file of proofs, each after the parameters of its block."""
+    lines, names, block = text.split("\n"), imports(text), ""
+    for number, line in enumerate(lines):
+        if line and not line.startswith((" ", "--")):
+            block = line if line.startswith("module _ ") else ""
+        match = LEMMA.match(line)
+        if not match:
+            continue
+        indent, name = match.groups()
+        end = number + 1
+        while end < len(lines) and lines[end].startswith(indent + "  "):
+            end += 1
+        statement = "\n".join(([block] if block and indent else []) + lines[number:end])
+        yield Definition(f"{module}.{name}", name, comment_above(lines, number, "--"), statement, file, number + 1, names)

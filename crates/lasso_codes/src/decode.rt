@@ -23,7 +23,7 @@ use std::io::{Read, Write};
 ///
 /// # Errors
 /// A damaged column, a null if `null` is `None`, a text that is refused or not let in, a failed read, or out of memory: the
-/// lines before it were written. After a failed write, a beginning of the lines was written.
+/// lines before it were written. After a failed write, a prefix of the lines was written.
 pub fn decode<R: Read + Drop, W: Write + Drop>(
     rule: TextRule,
     input: &mut Input<R>,

@@ -18,7 +18,7 @@ use std::io::{Read, Write};
 /// Reads the columns of the input, and then writes the column that `merge` writes, without its entries.
 ///
 /// # Errors
-/// Those of `merge`, with nothing written. After a failed write, a beginning of the column was written.
+/// Those of `merge`, with nothing written. After a failed write, a prefix of the column was written.
 pub fn dictionary<R: Read + Drop, W: Write + Drop>(
     rule: TextRule,
     input: &mut Input<R>,

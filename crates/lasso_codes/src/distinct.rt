@@ -21,7 +21,7 @@ use std::io::{Read, Write};
 ///
 /// # Errors
 /// The first line that is refused or not let in, a failed read, or out of memory: the distinct lines before
-/// it were written. After a failed write, a beginning of the distinct lines was written.
+/// it were written. After a failed write, a prefix of the distinct lines was written.
 pub fn distinct<R: Read + Drop, W: Write + Drop>(
     rule: TextRule,
     input: &mut Input<R>,

@@ -38,7 +38,7 @@ use std::thread::Threads;
 ///
 /// # Errors
 /// A line that is refused or not let in, a failed read, or out of memory: nothing is written. After a
-/// failed write, a beginning of the column was written.
+/// failed write, a prefix of the column was written.
 pub fn encode<H: AllocGlobal + Threads + Sync, R: Read + Drop, W: Write + Drop>(
     rt: &H,
     input: &mut Input<R>,

@@ -69,7 +69,7 @@ impl fmt::Display for Ending<'_> {
     }
 }
 
-/// Prints the reason, if one is told, and returns the exit status. If it can't be printed, the status is the same.
+/// Prints the reason, if there is one, and returns the exit status. If it can't be printed, the status is the same.
 pub fn end<R: Eprint>(rt: &R, ending: &Ending<'_>) -> ExitCode
     ensures { exit_status result ≡ ending_status ending.now }
 {

@@ -30,7 +30,7 @@ use std::io::{Read, Write};
 ///
 /// # Errors
 /// A damaged column, a text that is refused or not let in, a failed read, or out of memory: nothing is written. After a
-/// failed write, a beginning of the column was written.
+/// failed write, a prefix of the column was written.
 pub fn merge<R: Read + Drop, W: Write + Drop>(
     rule: TextRule,
     input: &mut Input<R>,

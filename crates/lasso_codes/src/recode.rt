@@ -32,7 +32,7 @@ use std::io::{Read, Write};
 ///
 /// # Errors
 /// A dictionary with entries, no column after it, a damaged column, a text that the dictionary lacks, that is refused or
-/// not let in, a failed read, or out of memory: nothing is written. After a failed write, a beginning of the column was
+/// not let in, a failed read, or out of memory: nothing is written. After a failed write, a prefix of the column was
 /// written.
 pub fn recode<R: Read + Drop, W: Write + Drop>(
     rule: TextRule,

@@ -24,7 +24,7 @@ use std::sync::Wait;
 ///
 /// A line that is refused or is not UTF-8 ends the run after the answers to the lines before it. So does
 /// out of memory at a line. Out of memory before the first line is reported as line 0, and nothing is
-/// written. After a failed read or write, what was written is a beginning of the report. Hashes have the fixed seed.
+/// written. After a failed read or write, what was written is a prefix of the report. Hashes have the fixed seed.
 pub fn run<R: AllocGlobal + Wait, I: ByteReader, O: ByteWriter>(
     rt: &R,
     reader: &mut I,

@@ -74,7 +74,7 @@ pub fn run_words<R: AllocGlobal + Threads + Wait + Sync, I: ByteReader, O: ByteW
     }
 }
 
-/// Writes a help text, and flushes it. Returns `WriteFailed` if that fails; a beginning of the text was written then.
+/// Writes a help text, and flushes it. Returns `WriteFailed` if that fails; a prefix of the text was written then.
 pub fn show<O: ByteWriter>(writer: &mut O, text: &str) -> Result<(), RunFault>
     ensures text { Writes O.delivered O.pending writer.old writer.new (WritesAll text.now result) }
     ensures writes { O.failures writer.new ≡ O.failures writer.old + failed_writes result }

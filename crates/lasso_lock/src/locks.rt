@@ -82,7 +82,7 @@ impl<X: Fits> TaggedMutex<X> {
         }
     }
 
-    // The same, if somebody else had the lock.
+    // Waits for the mutex, and takes the value out, after another thread was faster.
     #[inline(never)]
     fn wait<R: Wait>(&self, rt: &R) -> (TaggedMutexGuard<'_, X>, X)
         ensures { (result.0 ≡ self.now) × X.fits self.now result.1 }
@@ -115,7 +115,7 @@ impl<X: Fits> TaggedMutex<X> {
         }
     }
 
-    // The same, if somebody else had the lock.
+    // Tries a few more times to lock the mutex, after another thread was faster.
     #[inline(never)]
     fn look_again(&self) -> Option<(TaggedMutexGuard<'_, X>, X)>
         ensures { IfSome result (λ r. (r.0 ≡ self.now) × X.fits self.now r.1) }
@@ -232,7 +232,7 @@ impl<X: Fits + Drop> TaggedRwLock<X> {
         }
     }
 
-    // The same, where a writer had the lock or another reader was faster.
+    // Waits to read, after a writer had the lock or another reader was faster.
     #[inline(never)]
     fn wait_to_read<R: Wait>(&self, rt: &R) -> TaggedRwLockReadGuard<'_, X>
         ensures { result.tag ≡ self.now }
@@ -263,7 +263,7 @@ impl<X: Fits + Drop> TaggedRwLock<X> {
         }
     }
 
-    // The same, where a writer had the lock or another reader was faster.
+    // Tries a few more times to read, after a writer had the lock or another reader was faster.
     #[inline(never)]
     fn look_to_read(&self) -> Option<TaggedRwLockReadGuard<'_, X>>
         ensures { IfSome result (λ r. r.tag ≡ self.now) }
@@ -287,7 +287,7 @@ impl<X: Fits + Drop> TaggedRwLock<X> {
         }
     }
 
-    // The same, if somebody else had the lock.
+    // Tries a few more times to write, after another thread had the lock.
     #[inline(never)]
     fn look_to_write(&self) -> Option<(TaggedRwLockWriteGuard<'_, X>, X)>
         ensures { IfSome result (λ r. (r.0 ≡ self.now) × X.fits self.now r.1) }
@@ -323,7 +323,7 @@ impl<X: Fits + Drop> TaggedRwLock<X> {
         }
     }
 
-    // The same, if somebody else had the lock.
+    // Waits to write, and takes the value out, after another thread had the lock.
     #[inline(never)]
     fn wait_to_write<R: Wait>(&self, rt: &R) -> (TaggedRwLockWriteGuard<'_, X>, X)
         ensures { (result.0 ≡ self.now) × X.fits self.now result.1 }

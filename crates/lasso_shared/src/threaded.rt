@@ -33,8 +33,8 @@ use std::hash::BuildHasher;
 use std::marker::Model;
 pub use walking::{Iter, Strings};
 
-/// An interner that threads share. A contract sees its book and what it opened with, which its maker fixes; what is
-/// known of its history is in the passes.
+/// An interner that threads share. A contract sees its book and what it opened with, which its constructor fixes;
+/// what is known of its history is in the passes.
 ///
 /// ```rust
 /// let rodeo: SpurThreadedRodeo = ThreadedRodeo::default(rt.alloc())?;

@@ -40,7 +40,7 @@ const FAR_SHARE: usize = 4;
 /// What is kept between texts that are looked up one after another: guesses at the positions of a batch of
 /// them, and how many texts of the batch were far.
 ///
-/// Looking ahead costs about a quarter of a look-up, and saves most of one if its memory is out of the
+/// Prefetching costs about a quarter of a look-up, and saves most of one if its memory is out of the
 /// nearer caches. So it is done if at least a quarter of the texts of the last batch were present and far.
 /// A text is far if all texts up to it take more than `NEAR_BYTES`, were they as long as it is. A text that
 /// comes often was mostly interned early, so it has a low position, and stays in the caches however large
@@ -174,7 +174,7 @@ pub fn look_ahead<K: Key, S: BuildHasher, A: Allocator>(
     rodeo.guess_all(texts, &mut batch.guesses);
 }
 
-/// `Rodeo::get` for the next text of the batch. It may be another text than was looked ahead at.
+/// `Rodeo::get` for the next text of the batch. It may be another text than was prefetched.
 #[inline(always)]
 pub fn get_next<K: Key, S: BuildHasher, A: Allocator>(
     rodeo: &Rodeo<K, S, A>,
@@ -197,8 +197,8 @@ pub fn get_next<K: Key, S: BuildHasher, A: Allocator>(
     key
 }
 
-/// `Rodeo::try_get_or_intern` for the next text of the batch. It may be another text than was looked ahead
-/// at. A new text is appended in line, so that a program with one call of it has all of it in one function.
+/// `Rodeo::try_get_or_intern` for the next text of the batch. It may be another text than was prefetched.
+/// A new text is appended in line, so that a program with one call of it has all of it in one function.
 #[inline(always)]
 pub fn intern_next<K: Key, S: BuildHasher, A: Allocator + Clone>(
     rodeo: &mut Rodeo<K, S, A>,

@@ -184,7 +184,7 @@ pub(super) fn is_so(rt: &impl Abort, holds: bool, what: &str) {
     assert!(rt; holds, "{what}");
 }
 
-// The same for a row of a table.
+// Fails the test unless this holds of the row of a table.
 pub(super) fn is_so_at(rt: &impl Abort, holds: bool, row: usize) {
     assert!(rt; holds, "row {row}");
 }

@@ -129,7 +129,7 @@ fn right_steps(
     Ok(steps.len())
 }
 
-// The same from a first step on an interner that was just made.
+// Takes all steps on an interner that was just made. Fails unless each is right.
 fn runs<R: AllocGlobal + Abort>(rt: &R, rodeo: &mut SpurRodeo, steps: &[Step]) -> Result<(), Fail> {
     let mut codes = Vec::new(rt.alloc());
     all_right(

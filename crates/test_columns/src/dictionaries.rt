@@ -631,7 +631,7 @@ fn a_refused_request_leaves_the_first_texts(rt: HostRuntime) -> Result<(), Fail>
     with_each_refused(&rt, Script::Appends(&layout, &texts))
 }
 
-// The same for the interner that `read_dictionary` makes. A refused call gives its memory back.
+// Each memory request of `read_dictionary` is refused once. A refused call gives its memory back.
 #[test]
 fn a_refused_request_ends_a_reading(rt: HostRuntime) -> Result<(), Fail> {
     static OFFSETS_OF_FIVE: [u32; 6] = OFFSETS;

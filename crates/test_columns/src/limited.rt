@@ -16,7 +16,7 @@ pub fn limited(alloc: Global) -> LassoResult<SpurRodeo>
     Rodeo::with_capacity_and_memory_limits(alloc, capacity, limits)
 }
 
-/// The same, as an interner that threads share.
+/// An interner as `limited`, which threads share.
 pub fn limited_shared(alloc: Global) -> LassoResult<SpurThreadedRodeo> {
     let capacity = Capacity::for_bytes(10);
     let limits = MemoryLimits::new(10);

@@ -95,7 +95,7 @@ pub(super) fn are_encoded<R: AllocGlobal + Threads + Sync>(
     decodes(rt.alloc(), rodeo, codes, texts)
 }
 
-// The same of a column over an interner of one text or none.
+// Whether a column has these codes over an interner of one text or none, and is decoded from them.
 pub(super) fn is_encoded<R: AllocGlobal + Threads + Sync>(
     rt: &R,
     opening: &[&str],
@@ -106,7 +106,7 @@ pub(super) fn is_encoded<R: AllocGlobal + Threads + Sync>(
     are_encoded(rt, opening, &texts, &column.codes, way)
 }
 
-// The same of a long column over an interner without texts.
+// Whether a long column is encoded over an interner without texts, and decoded.
 pub(super) fn encodes_long<R: AllocGlobal + Threads + Sync>(
     rt: &R,
     numbers: Numbers,
@@ -183,7 +183,7 @@ fn merges_columns(
     merges(alloc, &opening, &texts, codes, count)
 }
 
-// The same of columns that print these numbers.
+// Merges a column that prints the second numbers into an interner of the first.
 fn merges_numbers(alloc: Global, first: &[u32], second: &[u32]) -> Result<bool, Fail> {
     let codes = codes_of_both(alloc, first, second)?;
     let added = codes.get(first.len()..).ok_or("too few codes")?;

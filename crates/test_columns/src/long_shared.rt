@@ -121,7 +121,7 @@ fn opens_and_encodes<R: AllocGlobal + Threads + Wait + Sync>(
     encodes(rt, rodeo, case, way, usage)
 }
 
-// The same on an interner with these bytes in its first bucket.
+// Encodes after an opening, on an interner with these bytes in its first bucket.
 fn follows<R: AllocGlobal + Threads + Wait + Sync>(
     rt: &R,
     case: Case<'_>,
@@ -192,7 +192,7 @@ fn column_follows<R: AllocGlobal + Threads + Wait + Sync>(
     follows_each_way(rt, case, usage)
 }
 
-// The same of the column of these numbers.
+// Encodes the column of these numbers after the opening's texts.
 fn numbers_follow<R: AllocGlobal + Threads + Wait + Sync>(
     rt: &R,
     numbers: Numbers,

@@ -48,7 +48,7 @@ pub(super) fn stand_for<S: BuildHasher + Drop>(
     true
 }
 
-// The same of the usual hasher.
+// Whether there is one code for each text, and it resolves to the text, with the usual hasher.
 pub(super) fn are_codes(rodeo: &SpurThreadedRodeo, codes: &[u32], texts: &[&str]) -> bool {
     stand_for(rodeo, codes, texts)
 }

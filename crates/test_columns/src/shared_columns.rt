@@ -86,7 +86,7 @@ fn refuses_long<R: AllocGlobal + Threads + Wait + Sync>(
     )
 }
 
-// The same of 6000 letters.
+// Whether the limit refuses a text of 6000 letters, and leaves the number of texts and the limit.
 fn limit_holds<R: AllocGlobal + Threads + Wait + Sync>(
     rt: &R,
     rodeo: &SpurThreadedRodeo,
@@ -289,7 +289,7 @@ fn encode_both<R: AllocGlobal + Threads + Wait + Sync>(
     Ok(first? && second? && rodeo.len() == 20_000)
 }
 
-// The same over a new interner.
+// Encodes both columns at the same time over a new interner.
 fn encodes_both<R: AllocGlobal + Threads + Wait + Sync>(
     rt: &R,
     columns: (&[&str], &[&str]),
@@ -300,7 +300,7 @@ fn encodes_both<R: AllocGlobal + Threads + Wait + Sync>(
     encode_both(rt, &rodeo, columns, call, workers)
 }
 
-// The same of columns with these texts, by each call, and by one worker and two.
+// Encodes columns with these texts at the same time, by each call, and by one worker and two.
 fn encodes_each_way<R: AllocGlobal + Threads + Wait + Sync>(
     rt: &R,
     one: &[String],
@@ -376,7 +376,7 @@ fn encodes_often<R: AllocGlobal + Threads + Wait + Sync>(
     Ok(all)
 }
 
-// The same, and says when it is done.
+// Encodes the twenty texts by `encodes_often`, and says when it is done.
 fn encodes_until_done<R: AllocGlobal + Threads + Wait + Sync>(
     rt: &R,
     rodeo: &SpurThreadedRodeo,
@@ -403,7 +403,7 @@ fn limits_stay<R: AllocGlobal + Threads + Wait + Sync>(
     Ok(encoded? && set && rodeo.len() == 7)
 }
 
-// The same over a new interner, whose first bucket has room for all texts.
+// Encodes while limits are set, over a new interner whose first bucket has room for all texts.
 fn limits_stay_new<R: AllocGlobal + Threads + Wait + Sync>(
     rt: &R,
     workers: usize,

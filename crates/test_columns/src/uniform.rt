@@ -99,7 +99,7 @@ fn is_shared_by<R: AllocGlobal + Threads + Wait + Sync>(
     shares(rt, &rodeo, texts, wanted, way)
 }
 
-// The same by each call and each number of workers, each time over a new interner.
+// Encodes the texts by each call and each number of workers, each time over a new interner.
 fn is_shared<R: AllocGlobal + Threads + Wait + Sync>(
     rt: &R,
     texts: &[&str],
@@ -140,7 +140,7 @@ fn is_encoded_each_way<R: AllocGlobal + Threads + Wait + Sync>(
     are_encoded_each_way(rt, &texts, &column.codes)
 }
 
-// The same of the columns of each number of texts.
+// Encodes columns of each number of texts, in each way.
 fn columns_are_encoded<R: AllocGlobal + Threads + Wait + Sync>(
     rt: &R,
     are_alike: bool,
@@ -204,7 +204,7 @@ where
     Ok(rodeo.len() == count && stand_for(rodeo, codes, texts))
 }
 
-// The same over a new interner with this hasher.
+// Encodes the texts over a new interner with this hasher, and checks their codes.
 fn encodes_by<R: AllocGlobal + Threads + Wait + Sync, S: BuildHasher + Send + Sync + Drop>(
     rt: &R,
     hasher: S,

@@ -20,7 +20,7 @@ pub fn lettered(alloc: Global, letter: &str, count: u32) -> Result<Vec<String>, 
     Ok(texts)
 }
 
-/// The same as static texts.
+/// The static texts of the letter and each number below `count`, from 0 on.
 pub fn lettered_static(alloc: Global, letter: &str, count: u32) -> Result<Vec<&'static str>, Fail> {
     let mut texts = Vec::new(alloc);
     for number in 0..count {

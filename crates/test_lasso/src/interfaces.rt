@@ -253,7 +253,7 @@ fn freezes_to_reader<R: AllocGlobal + Abort + Wait>(
     shows_reader(rt, reader_by(rt, boxed_hello(rt.alloc()), freezing))
 }
 
-// The same as a resolver.
+// A frozen box of `Hello, world!` has it alone, as a resolver.
 fn freezes_to_resolver<R: AllocGlobal + Abort + Wait>(
     rt: &R,
     freezing: Freezing,

@@ -43,7 +43,7 @@ fn fixed_hashes(alloc: Global, texts: &[String]) -> Result<usize, AllocError> {
     Ok(distinct(&hashes(alloc, &FixedState::new(), texts)?))
 }
 
-// The same under these keys.
+// How many hashes the texts have under these keys.
 fn keyed_hashes(alloc: Global, texts: &[String], keys: [u8; 16]) -> Result<usize, Fail> {
     let hasher = keyed_by(keys);
     Ok(distinct(&hashes(alloc, &hasher, texts)?))

@@ -237,7 +237,7 @@ pub fn object_interns_as_one(interner: &mut dyn SpurInterner, text: &str) -> Las
     Ok(is_same & is_found & is_back)
 }
 
-/// The same of a box, which is dropped then.
+/// Interns the text twice in a boxed object, as `object_interns_as_one` does, and drops the box.
 pub fn boxed_object_interns_as_one(
     mut interner: Box<dyn SpurInterner + Drop>,
     text: &str,
@@ -248,7 +248,7 @@ pub fn boxed_object_interns_as_one(
     object_interns_as_one(&mut *interner, text)
 }
 
-/// The same of a box of a `SpurRodeo`, which becomes an object here.
+/// Interns the text twice in a boxed `SpurRodeo`, which becomes an object here.
 pub fn boxed_rodeo_object_interns_as_one(rodeo: Box<SpurRodeo>, text: &str) -> LassoResult<bool>
     ensures one { IfOk result IsTrue }
     ensures refused { IfErr result (λ error. (position_of rodeo.value.texts text.now ≡ None) × ((error ≡ KeySpaceExhaustion) ↔ (⟦<Spur as Key>⟧.key_at (length rodeo.value.texts) ≡ None))) }

@@ -165,7 +165,7 @@ pub fn runs<R: Abort + Wait>(
     Ok(())
 }
 
-/// The same on an interner that was just made.
+/// Makes the calls in order on an interner that was just made.
 pub fn runs_on<R: Abort + Wait>(
     rt: &R,
     made: LassoResult<SpurThreadedRodeo>,
@@ -175,7 +175,7 @@ pub fn runs_on<R: Abort + Wait>(
     runs(rt, &shared, steps)
 }
 
-/// The same on an interner of default capacity without a limit.
+/// Makes the calls in order on an interner of default capacity without a limit.
 pub fn runs_fresh<R: AllocGlobal + Abort + Wait>(rt: &R, steps: &[Step]) -> Result<(), Fail> {
     runs_on(rt, fresh(rt.alloc()), steps)
 }

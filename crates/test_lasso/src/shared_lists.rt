@@ -127,7 +127,7 @@ fn writes<R: AllocGlobal + Abort + Wait>(
     Ok(())
 }
 
-// The same on an interner without a text.
+// Makes the calls on an interner without a text, and writes it as this.
 fn writes_fresh<R: AllocGlobal + Abort + Wait>(
     rt: &R,
     steps: &[Step],

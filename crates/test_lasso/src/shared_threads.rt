@@ -130,7 +130,7 @@ fn has_one_key<R: Wait>(
     Ok(all)
 }
 
-// The same for the first hundred texts. Says when it is done.
+// Interns each of the first hundred texts, and looks it up. Says when it is done.
 fn have_one_key<R: Wait>(
     rt: &R,
     shared: &SpurThreadedRodeo,

@@ -172,7 +172,7 @@ fn is_key_of<K: Key, T: Resolver<K>>(resolver: &T, key: K, text: Option<&str>) -
         && looks_up_alike(resolver, key)
 }
 
-// The same of the key with this number. `false` if there is no such key.
+// Whether the key with this number stands for this text, or for none. `false` if there is no such key.
 fn stands_for<K: Key, T: Resolver<K>>(resolver: &T, number: usize, text: Option<&str>) -> bool {
     match K::try_from_usize(number) {
         Some(key) => is_key_of(resolver, key, text),

@@ -128,7 +128,7 @@ fn number_by_both<R: Wait>(
     })
 }
 
-// The same as `have_one_key`, without its clause `same`.
+// Interns the text by both passes, as `have_one_key`, but promises nothing of the passes (no clause `same`).
 fn one_key<R: Wait>(
     rt: &R,
     shared: &Shared,

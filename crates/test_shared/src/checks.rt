@@ -18,7 +18,7 @@ pub fn is_so(rt: &impl Abort, holds: bool, what: &str) {
     assert!(rt; holds, "{what}");
 }
 
-// The same, of the case with this number.
+// Fails unless this holds of the case with this number.
 pub fn is_so_at(rt: &impl Abort, holds: bool, number: usize) {
     assert!(rt; holds, "{number}");
 }
@@ -40,7 +40,7 @@ pub fn runs_in<K: Key, S: BuildHasher + Drop, R: AllocGlobal + Wait + Abort>(
     Ok(())
 }
 
-// The same in a new interner.
+// Makes the calls in order in a new interner.
 pub fn runs_as<K: Key, S: BuildHasher + Default + Drop, R: AllocGlobal + Wait + Abort>(
     rt: &R,
     maker: Maker,
@@ -51,7 +51,7 @@ pub fn runs_as<K: Key, S: BuildHasher + Default + Drop, R: AllocGlobal + Wait + 
     runs_in(rt, &shared, steps, case)
 }
 
-// The same with the default keys and hasher.
+// Makes the calls in order in a new interner with the default keys and hasher.
 pub fn runs<R: AllocGlobal + Wait + Abort>(
     rt: &R,
     maker: Maker,
@@ -60,7 +60,7 @@ pub fn runs<R: AllocGlobal + Wait + Abort>(
     runs_as::<Spur, FixedState, R>(rt, maker, steps, PLAIN)
 }
 
-// The same in a new interner for each of the sizes and each of the calls.
+// Makes the calls in order in a new interner for each of the sizes and each of the calls.
 pub fn runs_each<K: Key, R: AllocGlobal + Wait + Abort>(
     rt: &R,
     maker: Maker,

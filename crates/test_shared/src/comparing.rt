@@ -295,7 +295,8 @@ pub(super) fn compares<K: Key, S: BuildHasher + Default + Drop, R: AllocGlobal +
     )
 }
 
-/// The same with forms of two more hashers, and with frozen forms of interners that threads share.
+/// Whether the comparison with each form gives this, also with forms of two more hashers and with frozen forms
+/// of interners that threads share.
 pub(super) fn compares_all<K: Key, S: BuildHasher + Default + Drop, R: AllocGlobal + Wait>(
     rt: &R,
     shared: &ThreadedRodeo<K, S>,

@@ -183,7 +183,7 @@ fn takes<K: Key, S: BuildHasher + Default + Drop, R: AllocGlobal + Wait + Abort>
     shows_as::<K, S, R>(rt, Origin::Array(list), READ.as_slice(), case)
 }
 
-// The same of each text, with two hashers.
+// Takes each pair of texts in each way, with two hashers.
 fn takes_each_text<K: Key, R: AllocGlobal + Wait + Abort>(rt: &R) -> Result<(), Fail> {
     for pair in TEXTS.iter() {
         takes::<K, FixedState, R>(rt, *pair)?;

@@ -219,7 +219,7 @@ fn both_find_in_several_shards<R: AllocGlobal + Threads + Wait + Sync>(
     Ok((here?, there?) == (FOUND.len(), FOUND.len()))
 }
 
-// The same with all texts in one shard.
+// Whether two threads find exactly `TEXTS` in the interner, which are in one shard.
 fn both_find_in_one_shard<R: AllocGlobal + Threads + Wait + Sync>(
     rt: &R,
     shared: &ThreadedRodeo<Spur, SameState>,
@@ -232,7 +232,7 @@ fn both_find_in_one_shard<R: AllocGlobal + Threads + Wait + Sync>(
     Ok((here?, there?) == (FOUND.len(), FOUND.len()))
 }
 
-// The same with each text's shard chosen by its first byte.
+// Whether two threads find exactly `TEXTS` in the interner, whose shards the first bytes choose.
 fn both_find_by_first_bytes<R: AllocGlobal + Threads + Wait + Sync>(
     rt: &R,
     shared: &ThreadedRodeo<Spur, FirstState>,

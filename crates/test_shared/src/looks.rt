@@ -41,9 +41,10 @@ pub(super) enum Look {
     Walks(usize, &'static str),
     /// Comparisons with each form of the list give this.
     Compares(List, bool),
-    /// The same, also with forms of other hashers and with frozen forms of interners that threads share.
+    /// Comparisons with each form of the list give this, also with other hashers and with frozen forms of
+    /// interners that threads share.
     ComparesAll(List, bool),
-    /// The same with the forms for one thread alone.
+    /// Comparisons with each form of the list for one thread give this.
     ComparesSingle(List, bool),
 }
 
@@ -281,7 +282,7 @@ pub(super) fn shows_in<K: Key, S: BuildHasher + Default + Drop, R: AllocGlobal +
     Ok(())
 }
 
-/// The same with a new interner.
+/// Goes through the rows with a new interner.
 pub(super) fn shows_as<K: Key, S: BuildHasher + Default + Drop, R: AllocGlobal + Wait + Abort>(
     rt: &R,
     origin: Origin,
@@ -292,7 +293,7 @@ pub(super) fn shows_as<K: Key, S: BuildHasher + Default + Drop, R: AllocGlobal +
     shows_in(rt, &shared, looks, case)
 }
 
-/// The same with the default keys and hasher.
+/// Goes through the rows with a new interner of the default keys and hasher.
 pub(super) fn shows_rows<R: AllocGlobal + Wait + Abort>(
     rt: &R,
     origin: Origin,

@@ -79,7 +79,7 @@ fn keeps_limit<R: AllocGlobal + Wait>(
     Ok(met && limit(rt, shared) == bytes && usage(rt, shared) == used && len(shared) == count)
 }
 
-// The same with limits that leave no byte, some, and one too few. No limit is set before and after.
+// Keeps limits that leave no byte, some, and one too few. No limit is set before and after.
 fn keeps_limits<R: AllocGlobal + Wait>(rt: &R, shared: &Shared, used: usize) -> LassoResult<bool> {
     let mut all = limit(rt, shared) == usize::MAX;
     for more in [0, 3000, used.saturating_sub(1)] {
@@ -304,7 +304,7 @@ fn a_frozen_form_has_each_count_of_texts(rt: HostRuntime) -> Result<(), Fail> {
     Ok(())
 }
 
-// The same, but of the last chunk of a list only the first few texts: writing takes long.
+// Numbers of texts to write: of the last chunk of a list only the first few, as writing takes long.
 static WRITTEN: [usize; 18] = [
     0, 1, 2, 16, 17, 18, 49, 50, 64, 113, 114, 241, 242, 300, 1000, 1009, 1010, 1100,
 ];

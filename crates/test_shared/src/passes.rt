@@ -188,7 +188,7 @@ fn lend_alike<R: Wait>(
     Ok(first && both_lend(shards, other, one, 0, "q") == (false, false))
 }
 
-// The same of two new passes.
+// Interns a text by each of two new passes, and checks what each has then seen.
 fn new_passes_lend_alike<R: Wait>(rt: &R, shards: &SpurShards) -> LassoResult<bool> {
     let mut one = pass_of(shards);
     let mut other = pass_of(shards);

@@ -87,7 +87,7 @@ fn makes_all_calls<R: AllocGlobal + Wait>(
     Ok(all)
 }
 
-// The same, and says when it is done.
+// Makes each call for each of `COUNT` texts, and says when it is done.
 fn makes_all_calls_until_done<R: AllocGlobal + Wait>(
     rt: &R,
     shared: &Shared,
@@ -152,7 +152,7 @@ fn are_refused<R: Wait>(rt: &R, shared: &Shared, texts: &[String]) -> bool {
     all
 }
 
-// The same, and says when it is done.
+// Whether the limit refuses each copy of the texts. Says when it is done.
 fn are_refused_until_done<R: Wait>(
     rt: &R,
     shared: &Shared,
@@ -176,7 +176,7 @@ fn sets_beside_copies<R: Threads + Wait + Sync>(rt: &R, shared: &Shared, texts: 
     set && refused
 }
 
-// The same. Fails unless no text is interned.
+// Sets limits beside interns, and fails unless each is refused and no text is interned.
 fn refuses_all<R: AllocGlobal + Threads + Wait + Sync + Abort>(
     rt: &R,
     shared: &Shared,

@@ -133,7 +133,7 @@ impl Opened {
             && fits(rt, &self.log, &self.list, &self.spine, &mut self.pass, text) == wanted
     }
 
-    // The same with no spine.
+    // Whether a bucket that is found without the spine takes the text, if it has to.
     fn fits_anywhere<R: Wait>(&mut self, rt: &R, text: &str, wanted: bool) -> bool {
         !text.is_empty() && fits_anywhere(rt, &self.log, &self.list, &mut self.pass, text) == wanted
     }
@@ -221,7 +221,7 @@ fn begins(alloc: Global, bytes: usize, limit: u64) -> LassoResult<NewLog<Spur>>
     Ok(Log::open_with(texts, limit))
 }
 
-// The same with its bucket alone.
+// A log with an empty bucket of `bytes` bytes, and that bucket.
 pub(super) fn one_bucket(
     alloc: Global,
     bytes: usize,
@@ -237,7 +237,7 @@ pub(super) fn one_bucket(
     Ok((log, bucket))
 }
 
-// The same with its spine and the list of its buckets.
+// A log with an empty bucket of `bytes` bytes, its spine and the list of its buckets.
 pub(super) fn opens(
     alloc: Global,
     bytes: usize,
@@ -344,7 +344,7 @@ pub(super) fn fits<R: Wait>(
     true
 }
 
-// The same with no spine.
+// Copies the text into a bucket that is found without the spine, and returns whether one had room for it.
 pub(super) fn fits_anywhere<R: Wait>(
     rt: &R,
     log: &Log<Spur>,

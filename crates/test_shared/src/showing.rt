@@ -260,7 +260,7 @@ fn print_each<R: AllocGlobal + Abort>(
     );
 }
 
-// The same of walks of the interner.
+// The debug text of both walks of the interner has to be right after one text, and after both.
 fn print_walks<R: AllocGlobal + Abort>(rt: &R, shared: &Shared) {
     let mut strings = shared.strings();
     let mut walk = shared.iter();

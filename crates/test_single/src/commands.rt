@@ -118,7 +118,7 @@ fn runs<R: AllocGlobal + Abort>(
     Ok(())
 }
 
-// The same on an interner with a first bucket of 4 bytes, under a limit of 4 bytes.
+// Runs the commands on an interner with a first bucket of 4 bytes, under a limit of 4 bytes.
 fn runs_on_four_bytes<R: AllocGlobal + Abort>(
     rt: &R,
     commands: &[Call<'_>],

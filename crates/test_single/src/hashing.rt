@@ -271,7 +271,7 @@ fn interns_once(
     interns(rodeo, text, Ok(number)) && is_made(made, count)
 }
 
-// The same for a static text.
+// Whether interning the static text returns the key of this number, and `count` texts were hashed by then.
 fn keeps_once(
     rodeo: &mut Counted<'_>,
     text: &'static str,

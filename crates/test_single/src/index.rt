@@ -63,7 +63,7 @@ impl<'a, S: BuildHasher + Drop> Entered<'a, S> {
         Ok(())
     }
 
-    // The same, in the slot where a search for the text ends.
+    // Enters the text at this position, in the slot where a search for the text ends.
     fn enter_located(&mut self, position: usize) -> LassoResult<()> {
         if let Some(text) = self.texts.get(position) {
             if let Some(key) = Spur::try_from_usize(position) {
@@ -82,7 +82,7 @@ impl<'a, S: BuildHasher + Drop> Entered<'a, S> {
         self.index.find(&self.texts, &self.hasher, text)
     }
 
-    // The same, with a list that counts the texts read.
+    // Finds the text with a list that counts the texts read.
     fn find_counted(&self, read: &Cell<u64>, text: &str) -> Option<usize> {
         read.set(0);
         let texts = CountedTexts::new(self.texts, read);

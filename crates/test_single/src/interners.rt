@@ -144,7 +144,7 @@ fn interns_number<K: Key, S: BuildHasher>(
     }
 }
 
-// The same for each of the numbers below `count`, in order.
+// Whether interning each of the numbers below `count` in decimal, in order, gives the key of this number.
 pub fn interns_numbers<K: Key, S: BuildHasher>(
     alloc: Global,
     rodeo: &mut Rodeo<K, S, Global>,
@@ -176,7 +176,7 @@ pub fn is_so(rt: &impl Abort, holds: bool, what: &str) {
     assert!(rt; holds, "{what}");
 }
 
-// The same for a row of a table.
+// Fails the test if this does not hold of the row of a table.
 pub fn is_so_at(rt: &impl Abort, holds: bool, row: usize) {
     assert!(rt; holds, "row {row}");
 }

@@ -37,7 +37,7 @@ pub fn limited<K: Key>(
     Ok(ThreadedRodeo::with_capacity_and_memory_limits(alloc, room, limits)?)
 }
 
-/// The same without a limit.
+/// An interner with a first bucket of `bytes` bytes, without a limit.
 pub fn with_bytes<K: Key>(alloc: Global, bytes: usize) -> Result<ThreadedRodeo<K, FixedState>, Fail>
     requires { 0 < bytes }
 {
@@ -141,7 +141,7 @@ pub fn kept<K: Key, S: BuildHasher + Drop, R: Wait>(
     Ok(shared.try_get_or_intern_static(rt, text)?.into_usize())
 }
 
-/// The same as `copied`, by `get_or_intern`.
+/// Interns a copied text by `get_or_intern`, and returns its number.
 pub fn copied_so<K: Key, S: BuildHasher + Drop, R: Wait>(
     rt: &R,
     shared: &ThreadedRodeo<K, S>,
@@ -150,7 +150,7 @@ pub fn copied_so<K: Key, S: BuildHasher + Drop, R: Wait>(
     Ok(shared.get_or_intern(rt, text)?.into_usize())
 }
 
-/// The same as `kept`, by `get_or_intern_static`.
+/// Interns a static text by `get_or_intern_static`, and returns its number.
 pub fn kept_so<K: Key, S: BuildHasher + Drop, R: Wait>(
     rt: &R,
     shared: &ThreadedRodeo<K, S>,

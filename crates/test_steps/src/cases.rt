@@ -146,7 +146,7 @@ fn text_for(
     }
 }
 
-// The same of a text that there may be.
+// What the text of a row stands for, if it has one.
 fn some_text_for(
     alloc: Global,
     formed: &mut Formed,
@@ -159,7 +159,7 @@ fn some_text_for(
     }
 }
 
-// The same of a number that there may be.
+// What the number of a row stands for, if it has one.
 fn some_number_for(case: Case, number: Option<usize>) -> Option<usize> {
     match number {
         Some(number) => Some(number_for(case, number)),
@@ -167,7 +167,7 @@ fn some_number_for(case: Case, number: Option<usize>) -> Option<usize> {
     }
 }
 
-// The same of a reply.
+// What the reply of a row stands for.
 fn reply_for(case: Case, reply: Reply) -> Reply {
     match reply {
         Ok(number) => Ok(number_for(case, number)),
@@ -175,7 +175,7 @@ fn reply_for(case: Case, reply: Reply) -> Reply {
     }
 }
 
-// The same of the numbers of a list.
+// What the numbers of a list stand for.
 fn list_for(case: Case, list: List) -> List {
     match list {
         List::Numbers(first, end) => List::Numbers(number_for(case, first), number_for(case, end)),

@@ -157,7 +157,7 @@ pub enum Step {
     IsLimited(usize),
     /// Interns the text by each of `WAYS`, and returns its number each time, or why it is refused.
     EachInterns(&'static str, Reply),
-    /// The same by each of `COPYING`.
+    /// Interns the text by each of `COPYING`, and returns its number each time, or why it is refused.
     EachCopies(&'static str, Reply),
     /// Interns the text by the call. Its key resolves to it, and it is found under its number.
     Resolves(Way, &'static str),
@@ -179,7 +179,7 @@ pub enum Step {
     /// Interns copies of the texts of the list, each by one of two calls, in turn, and again by the other. Each has
     /// its position as its number.
     Copies(List),
-    /// The same with the static texts.
+    /// Interns static texts of the list, each by one of two calls, in turn, and again by the other.
     Keeps(List),
     /// Reads the text of the key of each position of the list, and those of the next positions, which have none.
     Lists(List),
@@ -336,7 +336,7 @@ fn fills_at<K: Key, S: BuildHasher + Drop, R: AllocGlobal + Wait>(
     Ok(all)
 }
 
-// The same of each number below the count.
+// Interns texts of the letters and each number below the count by the call, and checks their keys.
 fn fills<K: Key, S: BuildHasher + Drop, R: AllocGlobal + Wait>(
     rt: &R,
     shared: &ThreadedRodeo<K, S>,
@@ -367,7 +367,7 @@ fn shows_at<K: Key, S: BuildHasher + Drop, R: AllocGlobal + Wait>(
     Ok(all)
 }
 
-// The same of each number below the count.
+// Looks texts of the letters and each number below the count up by `get`, and checks their keys.
 fn shows<K: Key, S: BuildHasher + Drop, R: AllocGlobal + Wait>(
     rt: &R,
     shared: &ThreadedRodeo<K, S>,

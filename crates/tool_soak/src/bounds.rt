@@ -293,8 +293,7 @@ pub fn note_reigns(
     Ok(())
 }
 
-/// The same limits, each until the first of those that were surely set after it. The only error is out of
-/// memory.
+/// The limits, each until the first of those that were surely set after it. The only error is out of memory.
 pub fn ended(alloc: Global, reigns: &[Reign]) -> Result<Vec<Reign>, AllocError> {
     let mut all = Vec::new(alloc);
     for reign in reigns {

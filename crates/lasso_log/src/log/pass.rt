@@ -105,7 +105,7 @@ impl<K: Key> Pass<K> {
         self.learn_seen(&other.seen);
     }
 
-    /// Does nothing. Contracts learn that of two passes of one interner one has seen a beginning of what the
+    /// Does nothing. Contracts learn that of two passes of one interner one has seen a prefix of what the
     /// other has seen.
     pub fn prove_comparable(&self, other: &Pass<K>)
         requires { self.now.of ≡ other.now.of }

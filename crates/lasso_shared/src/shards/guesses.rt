@@ -47,7 +47,7 @@ impl Guess {
         if self.is_alike { self.position } else { None }
     }
 
-    /// Has the pass keep a hint of the text's position, or counts the hint that told it.
+    /// Has the pass keep a hint of the text's position, or counts the hint that gave it.
     #[inline(always)]
     pub(super) fn keep_in<K: Key>(self, pass: &mut Pass<K>, position: u64)
         requires { position < length (list_of pass.old.of pass.old.notes) }

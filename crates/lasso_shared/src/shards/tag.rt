@@ -9,8 +9,8 @@ use std::hash::BuildHasher;
 /// How many shards there are.
 pub const SHARDS: usize = 16;
 
-/// What a shard's lock knows: the log, the hasher, and the number of the shard. A maker has the first two in
-/// here while it makes the locks; what the locks keep of them exists in proofs alone.
+/// What a shard's lock knows: the log, the hasher, and the number of the shard. A constructor has the first two
+/// in here while it makes the locks; what the locks keep of them exists in proofs alone.
 #[derive(Drop)]
 pub struct ShardTag<K: Key, S: BuildHasher + Drop> {
     pub log: Log<K>,

@@ -249,7 +249,7 @@ fn check_comparisons<R: AllocGlobal + Wait + Abort>(
     Ok(())
 }
 
-// The same with the frozen forms.
+// Checks what the comparisons of the interner with each frozen form return.
 fn check_frozen<R: Wait + Abort>(
     rt: &R,
     interner: &Interner<Spur>,

@@ -217,7 +217,7 @@ pub(super) fn copies<R: Wait>(
     Some(range.fill(log.era(), text))
 }
 
-// The same with a new pass.
+// Copies a text by a new pass, and gives the piece.
 fn copies_once<R: Wait>(
     rt: &R,
     log: &Log<Spur>,

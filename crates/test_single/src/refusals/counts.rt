@@ -166,7 +166,7 @@ fn are_fills_counted<K: Key, A: Allocator + Clone>(
     Ok(is_first && is_clone && is_second)
 }
 
-// The same for the interner that was made, and its reader.
+// Whether `allocated_bytes` is right for the interner that was made, and its reader.
 fn is_made_counted<K: Key, A: Allocator + Clone>(
     alloc: Global,
     memory: &Memory,
@@ -192,7 +192,7 @@ fn is_counted<K: Key>(alloc: Global, count: usize, step: usize) -> Result<bool, 
     )
 }
 
-// The same for each type of key that has 255 keys.
+// Whether `allocated_bytes` is right for interners of each type of key that has 255 keys.
 fn is_counted_by_each_key(alloc: Global, count: usize, step: usize) -> Result<bool, Fail> {
     Ok(
         is_counted::<MicroSpur>(alloc, count, step)?

@@ -125,7 +125,7 @@ fn reads_value<A: Allocator + Clone>(
     }
 }
 
-// The same from the value of the JSON text.
+// Reads an interner from the value of the JSON text, and checks its state.
 fn reads_interner<R: AllocGlobal + Abort>(
     rt: &R,
     memory: &Memory,

@@ -473,7 +473,7 @@ fn texts_of_a_list_are_hashed_once_over_a_large_index(rt: HostRuntime) -> Result
     hashes_once(&rt, &rodeo, texts.as_slice(), &made)
 }
 
-// The same in a reader.
+// Looks the texts up in a reader, where each has to be hashed once.
 fn reader_hashes<R: AllocGlobal + Abort>(
     rt: &R,
     reader: &RodeoReader<Spur, CountingState<'_>, Global>,
@@ -501,7 +501,7 @@ fn texts_of_a_list_are_hashed_once_in_a_reader(rt: HostRuntime) -> Result<(), Fa
     reader_hashes(&rt, &rodeo.into_reader(), texts.as_slice(), &made)
 }
 
-// The same of interning, with other absent texts last, of which each is interned.
+// Rows of texts to intern, with other absent texts last, each of which is interned.
 static INTERNING: [Row; 4] = [
     (0, 0, 63, 32, 33),
     (0, 0, 64, 32, 34),
@@ -550,7 +550,7 @@ fn is_list(texts: Option<&[&str]>, wanted: Option<&[&str]>) -> bool {
     }
 }
 
-// The same of a `Rodeo`, a reader and a resolver: the texts of the keys, if each key has one.
+// Whether a `Rodeo`, a reader and a resolver give the texts of the keys, if each key has one.
 fn resolves(
     rodeo: &Small,
     alloc: Global,
