@@ -5,8 +5,8 @@ use crate::timing::{
     tenths_if,
 };
 use anyhow::Result;
-use lasso::{FixedState, Key, LassoResult, Rodeo, Spur, SpurRodeo, TextState};
 use lasso::keyed::keyed_by;
+use lasso::{FixedState, Key, LassoResult, Rodeo, Spur, SpurRodeo, TextState};
 use std::alloc::Global;
 use std::hash::BuildHasher;
 use std::rt::Clock;
