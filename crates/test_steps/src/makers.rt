@@ -1,5 +1,5 @@
 //! Interners that a row describes, and a thread that sets limits while another one calls the interner.
-use crate::calls::{Shared, limit, pass_of, set_limit, set_limit_as};
+use crate::calls::{Caller, Shared, limit, set_limit};
 use crate::cases::{Case, number_for};
 use crate::texts::{List, items_of};
 use lasso_parts::keys::Key;
@@ -97,8 +97,7 @@ const MOST: usize = 1_000_000;
 /// Sets this limit, by a pass or without one.
 pub fn set_limit_by<R: Wait>(rt: &R, shared: &Shared, bytes: usize, by_pass: bool) {
     if by_pass {
-        let mut pass = pass_of(shared);
-        set_limit_as(rt, shared, &mut pass, bytes);
+        Caller::new(shared).set_limits(rt, MemoryLimits::new(bytes));
     } else {
         set_limit(rt, shared, bytes);
     }

@@ -1,8 +1,8 @@
 //! Calls of an interner as rows, each with what it has to return. One function makes the calls of all rows, so
 //! a test that is a list of rows is proved as fast as one of a single call. Rows are cheapest in a `static`.
 use crate::calls::{
-    allocated, contains, copied, copied_as, copied_so, found, found_as, kept, kept_as, kept_so,
-    len, limit, number, pass_of, set_limit, usage,
+    Caller, allocated, contains, copied, copied_so, found, kept, kept_so, len, limit, number,
+    set_limit, usage,
 };
 use crate::texts::{KeyNumbers, List, counted, items_of, numeral};
 use lasso_parts::keys::Key;
@@ -86,8 +86,7 @@ fn copied_by_pass<K: Key, S: BuildHasher + Drop, R: Wait>(
     shared: &ThreadedRodeo<K, S>,
     text: &str,
 ) -> LassoResult<usize> {
-    let mut pass = pass_of(shared);
-    Ok(copied_as(rt, shared, &mut pass, text)?.into_usize())
+    Ok(Caller::new(shared).copied(rt, text)?.into_usize())
 }
 
 // Interns a static text by a new pass. Returns its number.
@@ -96,8 +95,7 @@ fn kept_by_pass<K: Key, S: BuildHasher + Drop, R: Wait>(
     shared: &ThreadedRodeo<K, S>,
     text: &'static str,
 ) -> LassoResult<usize> {
-    let mut pass = pass_of(shared);
-    Ok(kept_as(rt, shared, &mut pass, text)?.into_usize())
+    Ok(Caller::new(shared).kept(rt, text)?.into_usize())
 }
 
 /// A call by a pass, and what it has to return.
@@ -273,9 +271,9 @@ fn is_last<K: Key, S: BuildHasher + Drop, R: Wait>(
     text: &str,
     number: usize,
 ) -> bool {
-    let mut pass = pass_of(shared);
+    let mut caller = Caller::new(shared);
     let next = number.saturating_add(1);
-    found_as(rt, shared, &mut pass, text) == Some(number)
+    caller.found(rt, text) == Some(number)
         && finds(rt, shared, text, Some(number))
         && reads(shared, number, Some(text))
         && reads(shared, next, None)
