@@ -1,15 +1,24 @@
-"""Prints the table of single calls from lines `PROGRAM TEXTS CALL NANOSECONDS` on standard input, one for each round: the least and the middle
-of the rounds, of `ours`, of the best of the programs that are named after the hashes, and of `std`, with the ratios of ours to both, and the goal
-of the ratio to the best. A reader and a resolver have a goal too: their ratio to the index of a list of std."""
-
-import sys
+"""The tables of single calls: beside the best that Rust has and std, beside calls with all texts over texts of given sizes, and of the crate
+rust/lasso_proved; and of interners that are cleared and filled again, and of texts that collide under the fixed seed."""
+import os
 from statistics import median
 
+from measuring import CALLS as OURS
+from measuring import OUT, best_hashes, build_library, end_with, is_built_over_crates, keep, priority, reordered, rustc, said_lines, times_by_key
+
+BEST = f"{OUT}/best/release/calls"
+STANDARD = f"{OUT}/calls-std"
+PROVED = f"{OUT}/proved/release/proved"
+# lasso 0.7.3, if UPSTREAM names a folder of its sources, whose Cargo.toml takes hashbrown from the system's packages.
+UPSTREAM = f"{OUT}/upstream/release/upstream"
+SIZES_OF_BEST = f"{OUT}/best/release/sizes"
+ROUNDS = 15
+SIZED_ROUNDS = 5
 CALLS = ("new", "present", "absent", "try_resolve", "reader", "resolver")
 FROZEN = ("reader", "resolver")
 
 # The goal of the least by the least of the best, or of the index for `reader` and `resolver`.
-GOALS = {
+SINGLE_GOALS = {
     (90_000, "new"): 1.0, (100_000, "new"): 1.1, (1_000_000, "new"): 0.4,
     (90_000, "present"): 0.95, (100_000, "present"): 0.95, (1_000_000, "present"): 0.75,
     (90_000, "absent"): 0.75, (100_000, "absent"): 0.75, (1_000_000, "absent"): 0.85,
@@ -18,17 +27,30 @@ GOALS = {
     (100_000, "resolver"): 0.5, (1_000_000, "resolver"): 0.5,
 }
 
+# The call with all texts of each single call, if there is one.
+WHOLE = {"new": None, "present": "present_all", "absent": "absent_all", "resolve": "resolve_all"}
 
-def read_rounds(lines):
-    """The times of all rounds by program, count of texts and call."""
-    rounds = {}
-    for line in lines:
-        program, count, call, time = line.split()
-        rounds.setdefault((program, int(count), call), []).append(float(time))
-    return rounds
+# The goal of the least of a call with all texts by the least of single calls, by the call and the bytes of a text.
+SIZED_GOALS = {
+    ("present", 7): {10_000: 1.02, 100_000: 0.95, 1_000_000: 0.75},
+    ("present", 35): {10_000: 1.02, 100_000: 0.6, 1_000_000: 0.65},
+    ("present", 200): {10_000: 0.95, 100_000: 0.5, 1_000_000: 0.5},
+    ("absent", 7): {10_000: 1.02, 100_000: 0.95, 1_000_000: 0.85},
+    ("absent", 35): {10_000: 1.02, 100_000: 0.95, 1_000_000: 0.85},
+    ("absent", 200): {10_000: 1.02, 100_000: 0.95, 1_000_000: 0.85},
+    ("resolve", 35): {10_000: 1.02, 100_000: 0.8, 1_000_000: 0.7},
+}
+
+# Of the crate, by the count and the bytes of texts.
+CRATE_GOALS = {
+    (100_000, 7): {"new": 1.1, "present": 1.1, "get": 1.2, "resolve": 1.2},
+    (100_000, 35): {"new": 1.0, "present": 1.2, "get": 1.2, "resolve": 1.2},
+    (100_000, 200): {"new": None, "present": None, "get": None, "resolve": None},
+    (10_000, 7): {"new": 1.1, "present": 1.3, "get": 1.3, "resolve": 2.0},
+}
 
 
-def best_of(rounds, count, call):
+def best_single(rounds, count, call):
     """The least and the middle of the fastest hash, each by itself, with the name of the first. `None` where there is no such program."""
     times = {key[0]: value for key, value in rounds.items() if key[1:] == (count, call) and key[0] not in ("ours", "std")}
     if not times:
@@ -37,28 +59,182 @@ def best_of(rounds, count, call):
     return min(times[name]), min(map(median, times.values())), name
 
 
-def pair(times):
+def single_pair(times):
     return f"{times[0]:>10.1f}{times[1]:>10.1f}" if times else f"{'-':>10}{'-':>10}"
 
 
-def ratios(ours, other):
+def single_ratios(ours, other):
     return f"{ours[0] / other[0]:>8.2f}{ours[1] / other[1]:>8.2f}" if other else f"{'-':>8}{'-':>8}"
 
 
-def main():
-    rounds = read_rounds(sys.stdin)
+def print_single(lines):
+    """Prints the table of lines `PROGRAM TEXTS CALL NANOSECONDS`, one for each round: the least and the middle of the rounds, of `ours`, of the best of
+    the programs that are named after the hashes, and of `std`, with the ratios of ours to both, and the goal of the ratio to the best. A reader
+    and a resolver have a goal too: their ratio to the index of a list of std."""
+    rounds = {(program, int(count), call): times for (program, count, call), times in times_by_key(lines, 3).items()}
     print(f"{'texts':<9}{'call':<13}{'Rodeo':>10}{'middle':>10}{'best':>10}{'middle':>10} {'hash':<6}{'ratio':>8}{'middle':>8}"
           f"{'std':>10}{'middle':>10}{'ratio':>8}{'middle':>8}{'goal':>7}")
     for count in sorted({key[1] for key in rounds}):
         for call in CALLS:
             times = rounds[("ours", count, call)]
             ours = min(times), median(times)
-            best = best_of(rounds, count, call)
+            best = best_single(rounds, count, call)
             times = rounds[("std", count, "index" if call in FROZEN else call)]
             std = min(times), median(times)
-            goal = GOALS.get((count, call))
-            print(f"{count:<9}{call:<13}{pair(ours)}{pair(best)} {best[2] if best else '-':<6}{ratios(ours, best)}"
-                  f"{pair(std)}{ratios(ours, std)}{'' if goal is None else f'{goal:>7.2f}'}")
+            goal = SINGLE_GOALS.get((count, call))
+            print(f"{count:<9}{call:<13}{single_pair(ours)}{single_pair(best)} {best[2] if best else '-':<6}{single_ratios(ours, best)}"
+                  f"{single_pair(std)}{single_ratios(ours, std)}{'' if goal is None else f'{goal:>7.2f}'}")
 
 
-main()
+def by_size(lines):
+    """The times of lines `PROGRAM TEXTS BYTES CALL NANOSECONDS` by count, bytes and call, and then by program."""
+    rounds = {}
+    for (program, count, size, call), times in times_by_key(lines, 4).items():
+        rounds.setdefault((int(count), int(size), call), {})[program] = times
+    return rounds
+
+
+def best_sized(times):
+    """The least and the middle of the fastest of the programs but ours, each by itself, with the name of the first; `None` without one."""
+    others = [name for name in times if name != "ours"]
+    if not others:
+        return None
+    name = min(others, key=lambda other: min(times[other]))
+    return min(times[name]), min(median(times[other]) for other in others), name
+
+
+def least_and_middle(times):
+    return min(times), median(times)
+
+
+def sized_pair(times):
+    return f"{times[0]:>9.1f}{times[1]:>9.1f}" if times else f"{'':>18}"
+
+
+def sized_ratios(one, other):
+    return f"{one[0] / other[0]:>7.2f}{one[1] / other[1]:>8.2f}" if one and other else f"{'':>15}"
+
+
+def print_sized(lines):
+    """Prints the table of lines `PROGRAM TEXTS BYTES CALL NANOSECONDS`, one for each round: the least and the middle of the rounds of our single call, of
+    the best of the programs that are named after the hashes with their ratios, and of our call with all texts, with its ratios to our single call
+    and the goal of the first."""
+    rounds = by_size(lines)
+    print(f"{'texts':<9}{'bytes':<6}{'call':<9}{'one':>9}{'middle':>9}{'best':>9}{'middle':>9} {'hash':<6}{'ratio':>7}{'middle':>8}"
+          f"{'all':>9}{'middle':>9}{'to one':>7}{'middle':>8}{'goal':>7}")
+    for count, size in sorted({key[:2] for key in rounds}):
+        for call, whole in WHOLE.items():
+            times = rounds[count, size, call]
+            one = least_and_middle(times["ours"])
+            best = best_sized(times)
+            every = least_and_middle(rounds[count, size, whole]["ours"]) if whole else None
+            goal = SIZED_GOALS.get((call, size), {}).get(count)
+            line = (f"{count:<9}{size:<6}{call:<9}{sized_pair(one)}{sized_pair(best)} {best[2] if best else '-':<6}{sized_ratios(one, best)}"
+                    f"{sized_pair(every)}{sized_ratios(every, one)}{'' if goal is None else f'{goal:>7.2f}'}")
+            print(line.rstrip())
+
+
+def crate_ratios(ours, others):
+    """The ratio of the least times, and that of the middle ones, to the least of the others'."""
+    least, middle = min(map(min, others)), min(map(median, others))
+    return f"{least:>8.1f}{middle:>8.1f}", f"{min(ours) / least:>7.2f}{median(ours) / middle:>8.2f}"
+
+
+def print_crate(lines):
+    """Prints the table of the same lines of lasso_proved: the least and the middle of the rounds, of `ours` and of the baseline with the least one, the
+    ratios of ours to it, and the goal of the ratio of the least. The same ratios to `lasso`, which is lasso 0.7.3, come last."""
+    rounds = by_size(lines)
+    print(f"{'texts':<9}{'bytes':<7}{'call':<9}{'crate':>8}{'middle':>8}{'best':>8}{'middle':>8} {'program':<12}{'ratio':>7}{'middle':>8}{'goal':>7}"
+          f"{'lasso':>8}{'middle':>8}{'ratio':>7}{'middle':>8}")
+    for (count, size), goals in CRATE_GOALS.items():
+        for call, goal in goals.items():
+            times = rounds[count, size, call]
+            ours, lasso = times.pop("ours"), times.pop("lasso", None)
+            line = f"{count:<9}{size:<7}{call:<9}{min(ours):>8.1f}{median(ours):>8.1f}"
+            if times:
+                best, compared = crate_ratios(ours, times.values())
+                line += f"{best} {min(times, key=lambda name: min(times[name])):<12}{compared}{goal or '-':>7}"
+            if lasso:
+                line += "".join(crate_ratios(ours, [lasso]))
+            print(line)
+
+
+def rounds_of_calls(first, hashes):
+    """All rounds of single calls, each program in turn."""
+    for _ in range(ROUNDS):
+        yield from reordered("ours", (1, 0), [*first, OURS, "round"])
+        yield from said_lines("std", [*first, STANDARD])
+        for name in hashes:
+            yield from said_lines(name, [*first, BEST, name])
+
+
+def rounds_of_sized_calls(first, hashes):
+    """The same over texts of given sizes."""
+    for _ in range(SIZED_ROUNDS):
+        yield from reordered("ours", (2, 0, 1), [*first, OURS, "sizes"])
+        for name in hashes:
+            yield from said_lines(name, [*first, BEST, name, "sizes"])
+
+
+def build_standard():
+    """Builds the same calls over std."""
+    rustc(STANDARD, "calls.rs", "--edition", "2021")
+
+
+def measure_calls(hashes):
+    """The tables of single calls, and of calls with all texts."""
+    build_standard()
+    first = priority()
+    print_single(keep("calls", rounds_of_calls(first, hashes)))
+    print()
+    print_sized(keep("sizes", rounds_of_sized_calls(first, hashes)))
+
+
+def rounds_of_crate(first):
+    """All rounds of the crate's calls, each program in turn."""
+    hashes = best_hashes()
+    for _ in range(ROUNDS):
+        yield from said_lines("ours", [*first, PROVED])
+        if os.environ.get("UPSTREAM"):
+            yield from said_lines("lasso", [*first, UPSTREAM])
+        for name in hashes:
+            for kept in (name, f"kept-{name}"):
+                yield from said_lines(kept, [*first, SIZES_OF_BEST, kept])
+
+
+def build_crate(baseline, *crates):
+    """Builds a program over the crate or over lasso 0.7.3."""
+    if not is_built_over_crates(baseline, *crates):
+        end_with(baseline)
+
+
+def measure_rust():
+    """The table of the crate rust/lasso_proved."""
+    build_library()
+    os.environ["LASSO_LIB_DIR"] = f"{os.getcwd()}/out"
+    build_crate("proved", "serde")
+    if os.environ.get("UPSTREAM"):
+        link = f"{OUT}/upstream-source"
+        if os.path.islink(link):
+            os.remove(link)
+        os.symlink(os.path.realpath(os.environ["UPSTREAM"]), link)
+        build_crate("upstream", "hashbrown", "serde", "dashmap", "ahash")
+    print_crate(keep("rust", rounds_of_crate(priority())))
+
+
+def print_table(number, lines):
+    """Prints lines `NAME CALL NUMBER NANOSECONDS` in columns."""
+    for line in [f"name call {number} nanoseconds", *lines]:
+        name, call, count, time = line.split()
+        print(f"{name:<20}{call:<14}{count:>9}{time:>13}", flush=True)
+
+
+def measure_refill():
+    """The table of interners that are cleared and filled again, here and in Rust."""
+    rustc(f"{OUT}/refill", "refill.rs")
+    print_table("texts", keep("refill.lines", [*said_lines("Rodeo", [OURS, "refill"]), *said_lines("HashMap", [f"{OUT}/refill"])]))
+
+
+def measure_collide():
+    """The table of texts that collide under the fixed seed, with the hasher of that seed and with a keyed one."""
+    print_table("texts", keep("collide", said_lines("Rodeo", [OURS, "collide"])))

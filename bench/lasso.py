@@ -1,8 +1,86 @@
-"""Prints the tables of the last `bench/run lasso`, whose figures are in the folder that is given: Markdown, for bench/lasso.md."""
+"""The tables beside the published crate lasso, and the figures of their pictures, as ratios of ours to others.
 
+cargo fetches lasso 0.7.3 from crates.io. LASSO_SOURCE=path takes its sources from a folder instead, and the crates that it uses from the system's
+packages."""
+import os
+import re
 import sys
+import time
 
-from lasso_figures import CALLS, COUNTS, RIVALS, SIZES, THREADS, WAYS, Figures
+from calls import STANDARD as STANDARD_CALLS
+from calls import build_standard
+from measuring import CALLS as OURS
+from measuring import INPUTS, LINES, NAMES, OUT, count_lines, has_package, is_built, is_built_over_crates, keep, least_by_key, least_of_turns
+from measuring import output_of, peak, priority, processor_seconds, reordered, rustc, said_lines, said_of, start, test_alike
+from programs import STANDARD
+from threads import STANDARD as STANDARD_SHARED
+
+LASSO = f"{OUT}/lasso/release"
+CALL_ROUNDS = 5
+THREAD_ROUNDS = 4
+LINE_ROUNDS = 7
+THREAD_INPUTS = ("zipf", "distinct")
+REAL_NAMES = ("packages", "words", "identifiers")
+HASHERS = ("fx", "ahash", "fold")
+# A rival in the tables, and the programs of which the least counts.
+RIVALS = {"lasso": ("default",), "lasso, fastest hasher": HASHERS, "std": ("std",)}
+
+COUNTS = (10_000, 100_000, 1_000_000)
+SIZES = (7, 11, 35, 200)
+CALLS = {"new": "intern a new text", "present": "intern a present text", "absent": "get an absent text", "resolve": "try_resolve"}
+
+THREADS = (1, 2, 4)
+# The calls of ours by the call of the others that they are compared with, each with its words.
+WAYS = {
+    "new": {"new": "a pass", "hinted_new": "a pass with hints"},
+    "intern": {"intern": "a pass", "hinted_intern": "a pass with hints", "batch64_intern": "batches of 64"},
+    "present": {"present": "a pass", "hinted_present": "a pass with hints", "batch64_present": "batches of 64", "plain_present": "plain calls"},
+    "resolve": {"resolve": "a pass", "plain_resolve": "plain calls"},
+}
+ALL_HASHERS = ("default", *HASHERS)
+
+
+def lines_of(folder, name):
+    """The lines of a file, or none if it does not exist, as after a run that was cut short."""
+    path = os.path.join(folder, name)
+    if not os.path.exists(path):
+        return []
+    with open(path, encoding="utf-8") as source:
+        return source.read().splitlines()
+
+
+class Figures:
+    """Ratios of ours to a rival."""
+
+    def __init__(self, folder):
+        self.calls = least_by_key(lines_of(folder, "lasso-calls"), 4)
+        self.threads = least_by_key(lines_of(folder, "lasso-threads"), 4)
+        self.lines = least_by_key(lines_of(folder, "lasso-lines"), 3)
+        self.occasion = lines_of(folder, "lasso-occasion")
+
+    def call(self, count, size, call, rival):
+        """Of the least time of a single call."""
+        def time(program):
+            return self.calls[program, str(count), str(size), call]
+
+        return time("ours") / min(map(time, RIVALS[rival]))
+
+    def hasher(self, count, size, call):
+        """The hasher with which lasso's call takes least."""
+        return min(HASHERS, key=lambda hasher: self.calls[hasher, str(count), str(size), call])
+
+    def thread(self, name, ours, call, threads, rival):
+        """Of the least time of a call by each of the threads."""
+        least = min(self.threads[name, program, call, str(threads)] for program in RIVALS[rival])
+        return self.threads[name, "ours", ours, str(threads)] / least
+
+    def line(self, name, what, rival):
+        """Of the least processor seconds, or of peak memory, over an input."""
+        return self.lines[name, "ours", what] / min(self.lines[name, program, what] for program in RIVALS[rival])
+
+    def inputs(self):
+        """The inputs whose lines were numbered, and those that threads interned, in their order."""
+        return [list(dict.fromkeys(key[0] for key in table)) for table in (self.lines, self.threads)]
 
 
 def row(*cells):
@@ -40,8 +118,9 @@ def print_lines(figures):
         row(f"`{name}`", *(all_rivals(lambda rival: figures.line(name, what, rival)) for what in ("seconds", "peak")))
 
 
-def main():
-    figures = Figures(sys.argv[1])
+def print_tables(folder):
+    """Prints the tables of the last run, whose figures are in the folder: Markdown, for bench/lasso.md."""
+    figures = Figures(folder)
     for table, known in ((print_calls, figures.calls), (print_threads, figures.threads), (print_lines, figures.lines)):
         if known:
             print()
@@ -51,4 +130,114 @@ def main():
     print("fastest hashers of single calls: " + ", ".join(f"{hasher} {fastest.count(hasher)}" for hasher in sorted(set(fastest))))
 
 
-main()
+def is_lasso_built():
+    """Builds the programs over lasso. Whether it can be fetched and built."""
+    source = os.environ.get("LASSO_SOURCE")
+    if not source:
+        return is_built("lasso", ["cargo", "build", "--release", "--quiet", "--manifest-path", "bench/baseline/lasso/Cargo.toml", "--target-dir", f"{OUT}/lasso"])
+    patch = ["--config", f'patch.crates-io.lasso.path="{os.path.realpath(source)}"']
+    return is_built_over_crates("lasso", "ahash", "dashmap", "fxhash", "hashbrown", "memchr", "serde", words=patch)
+
+
+def make_real_inputs():
+    """Inputs that nobody made for a benchmark: the lines and the words of Debian's list of packages, and the identifiers of the C headers here."""
+    commands = {
+        "packages": "apt-cache dumpavail | iconv -c -f UTF-8 -t UTF-8",
+        "words": f"LC_ALL=C tr -s '[:space:]' '\\n' < {INPUTS}/packages",
+        "identifiers": "find /usr/include -name '*.h' -exec cat {} + | LC_ALL=C grep -oaE '[A-Za-z_][A-Za-z0-9_]*'",
+    }
+    for name, command in commands.items():
+        if not os.path.exists(f"{INPUTS}/{name}"):
+            said_of(["bash", "-c", f"{command} > {INPUTS}/{name}.part && mv {INPUTS}/{name}.part {INPUTS}/{name}"])
+
+
+def rounds_of_calls(first):
+    """All rounds of single calls, each program in turn: lines of a program, a count of texts, the bytes of a text, a call and nanoseconds."""
+    for _ in range(CALL_ROUNDS):
+        yield from reordered("ours", (2, 0, 1), [*first, OURS, "sizes"])
+        for hasher in ALL_HASHERS:
+            yield from said_lines(hasher, [*first, f"{LASSO}/calls", hasher])
+        yield from said_lines("std", [*first, STANDARD_CALLS, "sizes"])
+
+
+def rounds_of_threads(first, name):
+    """All rounds of calls by threads over an input: lines of its name, a program, a call, a number of threads and nanoseconds."""
+    path = f"{INPUTS}/{name}"
+    for _ in range(THREAD_ROUNDS):
+        yield from said_lines(f"{name} ours", [*first, OURS, "interners"], path)
+        for hasher in ALL_HASHERS:
+            yield from said_lines(f"{name} {hasher}", [*first, f"{LASSO}/interners", hasher, "round"], path)
+        yield from said_lines(f"{name} std", [*first, STANDARD_SHARED, "locked", "round"], path)
+
+
+def programs():
+    """The programs that number lines, by their names in the table."""
+    return {"ours": [LINES], **{hasher: [f"{LASSO}/lines", hasher] for hasher in ALL_HASHERS}, "std": [STANDARD]}
+
+
+def without_bytes(output):
+    """The lines, and of the last one how many texts there are, without their bytes."""
+    return re.sub(rb" texts, [0-9]+ bytes\n\Z", b" texts\n", output)
+
+
+def figures_of_lines(first):
+    """The least seconds and the peak of each program over each input: lines of an input, a program, `seconds` or `peak`, and the number."""
+    for name in (*NAMES, *REAL_NAMES):
+        path = f"{INPUTS}/{name}"
+        least = least_of_turns(programs(), LINE_ROUNDS, lambda words: processor_seconds([*first, *words], path))
+        yield from (f"{name} {program} seconds {took:.6f}" for program, took in least.items())
+        yield from (f"{name} {program} peak {peak(words, path)}" for program, words in programs().items())
+
+
+def load():
+    """The load of the machine in the last minutes."""
+    with open("/proc/loadavg", encoding="ascii") as source:
+        return " ".join(source.read().split()[:3])
+
+
+def occasion():
+    """The date, the machine and the load, which the tables and pictures are of."""
+    with open("/proc/cpuinfo", encoding="utf-8") as source:
+        model = re.search(r"^model name\s*: (.*)", source.read(), re.MULTILINE)
+    yield time.strftime("%-d %B %Y, %H:%M UTC", time.gmtime())
+    yield model.group(1) if model else ""
+    yield f"{os.cpu_count()} processors, load {load()}"
+    yield said_of(["rustc", "--version"]).strip()
+
+
+def size_of(name):
+    """The lines, bytes and distinct lines of an input."""
+    path = f"{INPUTS}/{name}"
+    with open(path, "rb") as source:
+        distinct = len({line.removesuffix(b"\n") for line in source})
+    return f"{name}: {count_lines(path)} lines, {os.path.getsize(path)} bytes, {distinct} distinct"
+
+
+def measure_lasso():
+    """The tables beside lasso, and their pictures."""
+    rustc(STANDARD, "main.rs")
+    build_standard()
+    rustc(STANDARD_SHARED, "interners/main.rs", "--edition", "2021")
+    make_real_inputs()
+    for name in (*NAMES, *REAL_NAMES):
+        path = f"{INPUTS}/{name}"
+        test_alike({program: lambda words=words: without_bytes(output_of(words, path)) for program, words in programs().items()}, path)
+    first = priority()
+    told = list(occasion())
+    print("\n".join(told), flush=True)
+    keep("lasso-calls", rounds_of_calls(first))
+    keep("lasso-threads", [line for name in THREAD_INPUTS for line in rounds_of_threads(first, name)])
+    keep("lasso-lines", figures_of_lines(first))
+    more = [f"load at the end: {load()}", *map(size_of, REAL_NAMES)]
+    print("\n".join(more))
+    keep("lasso-occasion", [*told, *more])
+    print_tables(OUT)
+    draw_plots()
+
+
+def draw_plots():
+    """Draws the pictures of the last run."""
+    python = "/usr/bin/python3"
+    if not is_built("plots", [python, "-c", "import matplotlib"]) and not has_package(["python3-matplotlib"]):
+        sys.exit(f"matplotlib can't be had ({OUT}/apt.log)")
+    start([python, "bench/plots.py", OUT, "bench/plots"])

@@ -10,7 +10,7 @@ matplotlib.use("svg")
 import matplotlib.pyplot as pyplot  # noqa: E402
 from matplotlib.ticker import FixedLocator, NullLocator, StrMethodFormatter  # noqa: E402
 
-from lasso_figures import CALLS, COUNTS, RIVALS, SIZES, THREADS, Figures  # noqa: E402
+from lasso import CALLS, COUNTS, RIVALS, SIZES, THREADS, Figures  # noqa: E402
 
 GREY = "#7d7d7d"
 COLOURS = {"lasso": "#c2571a", "lasso, fastest hasher": "#2f7fd0", "std": "#8a63d2"}

@@ -6,9 +6,9 @@ import struct
 
 import guarded
 import library as reference
-import shrinking
 from guarded import Input, Output
 from library import Refused
+from programs import shorter
 
 HANDLES = 3
 STATUS, SIZE = ctypes.c_uint32, ctypes.c_size_t
@@ -447,10 +447,10 @@ def some_steps(random):
 
 def smallest(steps, goes_wrong):
     """The sequence made small, as long as it goes wrong."""
-    steps = shrinking.shorter(steps, goes_wrong)
+    steps = shorter(steps, goes_wrong)
     for number, step in enumerate(steps):
         for place, value in enumerate(step):
             if isinstance(value, (bytes, list)):
                 put = lambda less, place=place, number=number: steps[:number] + [(*steps[number][:place], less, *steps[number][place + 1 :])] + steps[number + 1 :]
-                steps = put(shrinking.shorter(value, lambda less, put=put: goes_wrong(put(less))))
+                steps = put(shorter(value, lambda less, put=put: goes_wrong(put(less))))
     return steps

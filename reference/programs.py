@@ -7,7 +7,6 @@ import tempfile
 
 import codes
 import lines
-import shrinking
 
 TOP = os.path.dirname(os.path.dirname(os.path.abspath(__file__)))
 REFERENCES = {"lines": lines.lasso_lines, "codes": codes.lasso_codes}
@@ -180,12 +179,39 @@ def difference(case, path):
     return f"status {status}, wanted {wanted}\noutput {output[:500]!r}, wanted {shown!r}\nmessage {message[:500]!r}, wanted {pattern!r}"
 
 
+# What goes wrong is made small: fewer parts, then plainer bytes, as long as it still goes wrong.
+
+
+def shorter(parts, goes_wrong):
+    """The parts without those that aren't needed: bytes, or a list."""
+    size = len(parts)
+    while size:
+        at = 0
+        while at < len(parts):
+            fewer = parts[:at] + parts[at + size :]
+            if goes_wrong(fewer):
+                parts = fewer
+            else:
+                at += size
+        size //= 2
+    return parts
+
+
+def plainer(data, goes_wrong):
+    """The bytes with an `a` for each byte of which only that matters that it is there."""
+    for at, byte in enumerate(data[:200]):
+        plain = data[:at] + b"a" + data[at + 1 :]
+        if byte not in b"a\n" and goes_wrong(plain):
+            data = plain
+    return data
+
+
 def smallest(case, path):
     """The case made small, as long as there is a difference."""
     wrong = lambda **changed: difference(dataclasses.replace(case, **changed), path) is not None
     for name, plain in (("source", "pipe"), ("output", "pipe")):
         if wrong(**{name: plain}):
             case = dataclasses.replace(case, **{name: plain})
-    case = dataclasses.replace(case, words=shrinking.shorter(case.words, lambda words: wrong(words=words)))
-    case = dataclasses.replace(case, data=shrinking.shorter(case.data, lambda data: wrong(data=data)))
-    return dataclasses.replace(case, data=shrinking.plainer(case.data, lambda data: wrong(data=data)))
+    case = dataclasses.replace(case, words=shorter(case.words, lambda words: wrong(words=words)))
+    case = dataclasses.replace(case, data=shorter(case.data, lambda data: wrong(data=data)))
+    return dataclasses.replace(case, data=plainer(case.data, lambda data: wrong(data=data)))

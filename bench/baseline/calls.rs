@@ -2,11 +2,9 @@
 //! `Vec<Box<str>>` at random positions, over the texts of `tool_bench round`, or with the word `sizes` the interner alone over those
 //! of `tool_bench sizes`. Prints for each count of texts, and each size, the nanoseconds of a call.
 mod opaque;
-mod positions;
 mod rounds;
 
-use opaque::black_box;
-use positions::random_positions;
+use opaque::{black_box, random_positions};
 use rounds::{numbered, round, round_of_sizes, Texts, ALL_SIZES, COUNTS};
 use std::collections::HashMap;
 use std::time::Instant;

@@ -2,10 +2,8 @@
 //! and at the same positions as `tool_bench` reads them from the log of a shared interner. Prints lines of the list, the call, the
 //! number of threads or of texts, and the nanoseconds that a call takes each thread.
 mod opaque;
-mod positions;
 
-use opaque::black_box;
-use positions::random_positions;
+use opaque::{black_box, random_positions};
 use std::ptr;
 use std::sync::RwLock;
 use std::sync::atomic::{AtomicUsize, Ordering};

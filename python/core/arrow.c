@@ -1,5 +1,5 @@
 /* Arrow arrays and streams to codes: chunk by chunk, without the GIL if a chunk is long, and each released once. */
-#include "column.h"
+#include "core.h"
 
 #include <stdlib.h>
 #include <string.h>

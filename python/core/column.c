@@ -1,5 +1,5 @@
 /* Reads schemas and arrays of the Arrow C data interface, and checks whatever they tell before it is used. */
-#include "column.h"
+#include "core.h"
 
 #include <stdlib.h>
 #include <string.h>

@@ -1,5 +1,5 @@
 /* Codes as an Arrow dictionary array, whose buffers are copies: what happens to the codes and the interner later doesn't change it. */
-#include "column.h"
+#include "core.h"
 
 #include <stdlib.h>
 #include <string.h>

@@ -3,8 +3,6 @@
 mod hashers;
 #[path = "../interners/interner.rs"]
 mod interner;
-#[path = "../interners/lines.rs"]
-mod lines;
 #[path = "../opaque.rs"]
 mod opaque;
 #[path = "../interners/rounds.rs"]

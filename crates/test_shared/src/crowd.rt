@@ -1,6 +1,5 @@
 //! Threads that intern texts of their own and texts that all of them intern, and threads that call two interners
 //! alternately.
-
 use crate::checks::{is_so, runs_in, runs_in_two};
 use Step::{Counts, Fills, IsLimited, Shows, Uses, UsesAtMost};
 use lasso_parts::keys::Key;

@@ -12,8 +12,6 @@ mod checks;
 #[cfg(test)]
 mod comparing;
 #[cfg(test)]
-mod counted;
-#[cfg(test)]
 mod crowd;
 #[cfg(test)]
 mod every_call;

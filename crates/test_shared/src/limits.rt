@@ -1,6 +1,5 @@
 //! Setting and reading limits. Changes that a call may not hide under a pass of its own: a call that reads takes no bytes,
 //! one that interns takes only the bytes of its text, and one that raises the limit never lowers it on the way.
-
 use crate::checks::{is_so, runs, runs_each, runs_in_one};
 use Step::{
     AllocatesOver, ByNew, ByOne, ByOther, Counts, EachCopies, Finds, Interns, IsLimited, Limits,

@@ -1,6 +1,5 @@
 //! A thread that sets one limit after another, or lets it fall to 0, beside a thread that makes every other call that
 //! may wait: none of these sets a limit, and no limit is in force that was never set.
-
 use crate::checks::{is_so, is_so_at, runs_in};
 use Step::{AllocatesOver, ByOne, Counts, EachCopies, EqualsItself, Finds, Interns, Uses};
 use lasso_parts::keys::{Key, Spur};

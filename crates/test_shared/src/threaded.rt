@@ -1,6 +1,5 @@
 //! Threads that intern texts in one interner, and calls that read, with a pass and without one. Texts that are interned
 //! while memory is out: `trials/refused-tests` refuses the requests for memory.
-
 use crate::checks::{is_so, runs, runs_as, runs_beside, runs_in, runs_in_two};
 use Step::{ByNew, ByOne, Counts, Finds, Interns, Reads, Resolves};
 use lasso_parts::keys::Key;

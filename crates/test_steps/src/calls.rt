@@ -257,6 +257,11 @@ impl<'a, K: Key, S: BuildHasher + Drop> Caller<'a, K, S> {
         self.pass.meet(&self.other);
     }
 
+    /// Whether the pass keeps hints.
+    pub fn has_hints(&self) -> bool {
+        self.pass.has_hints()
+    }
+
     /// Whether the pass takes texts one by one, since its hints serve.
     pub fn hints_serve(&self) -> bool {
         self.pass.hints_serve()

@@ -23,7 +23,7 @@ pub enum Form {
 pub struct Sample {
     /// Distinct texts, in the order in which they are interned.
     pub texts: Vec<String>,
-    /// The texts to intern in another order, so that a look-up seldom finds its neighbour in a cache.
+    /// The same texts in another order, so that a look-up seldom finds its neighbour at hand.
     pub again: Vec<String>,
     /// As many texts that are not among them.
     pub missing: Vec<String>,
@@ -108,7 +108,7 @@ type Positions = HashMap<String, usize>;
 pub struct Lines {
     /// The lines, in their order.
     pub texts: Vec<String>,
-    /// The lines in another order, so that a look-up seldom finds its neighbour in a cache.
+    /// The same lines in another order, so that a look-up seldom finds its neighbour at hand.
     pub again: Vec<String>,
     /// The distinct lines, in the order in which each comes first.
     pub distinct: Vec<String>,

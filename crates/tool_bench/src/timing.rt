@@ -37,7 +37,7 @@ pub fn tenths_of(elapsed: Option<Duration>, calls: usize) -> Tenths {
     }
 }
 
-/// The time of a call. It fails with `fault` unless the answers are right, and if the clock failed.
+/// The same. It fails with `fault` unless the answers are right, and if the clock failed.
 pub fn tenths_if(
     are_right: bool,
     fault: &'static str,
@@ -50,7 +50,7 @@ pub fn tenths_if(
     tenths_of(elapsed, calls)
 }
 
-/// The time of a call if each thread had to answer `wanted`. It fails too if there was no memory for the answers.
+/// The same if each thread had to answer `wanted`. It fails too if there was no memory for the answers.
 pub fn tenths_if_all<T: PartialEq + Drop>(
     answers: Result<Vec<T>, AllocError>,
     wanted: &T,

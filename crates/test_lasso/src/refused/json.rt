@@ -1,16 +1,15 @@
 //! Interners that threads share, read from JSON and written as JSON, and a pass with hints. Out of memory it keeps none,
 //! and a refused text is not met.
-ghost use Rattle.std.specs.Prelude.{◌≡◌};
 
 use crate::refused::makers::{Interner, Scenario, State, Way, shows};
 use crate::refused::{Refused, is_so, retried, second_value};
-use lasso::log::Pass;
 use lasso::{JsonError, Key, LassoResult, Spur, ThreadedRodeo};
 use serde_json::Value;
 use std::alloc::Global;
 use std::process::Abort;
 use std::sync::Wait;
 use std::test::Fail;
+use test_steps::calls::{Caller, DefaultCaller};
 
 const FIRST_TWO: State = State { texts: 2, usage: 2 };
 
@@ -169,57 +168,25 @@ fn interner_once(alloc: Global) -> LassoResult<Interner<Spur>> {
     ThreadedRodeo::new(alloc)
 }
 
-// The number of the text by the pass, if it is present.
-fn found<R: Wait>(
-    rt: &R,
-    interner: &Interner<Spur>,
-    pass: &mut Pass<Spur>,
-    text: &str,
-) -> Option<usize>
-    requires { pass.old.of ≡ interner.now }
-    ensures { pass.new.of ≡ pass.old.of }
-{
-    match interner.get_as(rt, pass, text) {
-        Some(key) => Some(key.into_usize()),
-        None => None,
-    }
-}
-
 // Interns the text by the pass. Returns its number.
-fn interned<R: Wait>(
-    rt: &R,
-    interner: &Interner<Spur>,
-    pass: &mut Pass<Spur>,
-    text: &str,
-) -> LassoResult<usize>
-    requires { pass.old.of ≡ interner.now }
-    ensures { pass.new.of ≡ pass.old.of }
-{
-    Ok(interner.try_get_or_intern_as(rt, pass, text)?.into_usize())
+fn interned<R: Wait>(rt: &R, caller: &mut DefaultCaller<'_>, text: &str) -> LassoResult<usize> {
+    Ok(caller.copied(rt, text)?.into_usize())
 }
 
 // Whether the first `count` texts are present, and no other one, by the pass and by the interner.
-fn has_first<R: Wait>(
-    rt: &R,
-    interner: &Interner<Spur>,
-    pass: &mut Pass<Spur>,
-    count: usize,
-) -> bool
-    requires { pass.old.of ≡ interner.now }
-    ensures { pass.new.of ≡ pass.old.of }
-{
+fn has_first<R: Wait>(rt: &R, caller: &mut DefaultCaller<'_>, count: usize) -> bool {
     let state = State {
         texts: count,
         usage: 4096,
     };
-    let mut all = shows(rt, interner, &TEXTS, state);
+    let mut all = shows(rt, caller.shared, &TEXTS, state);
     for position in 0..TEXTS.len() {
         let wanted = if position < count {
             Some(position)
         } else {
             None
         };
-        all &= found(rt, interner, pass, TEXTS[position]) == wanted;
+        all &= caller.found(rt, TEXTS[position]) == wanted;
     }
     all
 }
@@ -227,18 +194,14 @@ fn has_first<R: Wait>(
 // Whether the text has this number, which it keeps.
 fn keeps_number<R: Wait>(
     rt: &R,
-    interner: &Interner<Spur>,
-    pass: &mut Pass<Spur>,
+    caller: &mut DefaultCaller<'_>,
     text: &str,
     number: usize,
-) -> LassoResult<bool>
-    requires { pass.old.of ≡ interner.now }
-    ensures { pass.new.of ≡ pass.old.of }
-{
+) -> LassoResult<bool> {
     let mut all = true;
     for _ in 0..TIMES {
-        all &= found(rt, interner, pass, text) == Some(number);
-        all &= interned(rt, interner, pass, text)? == number;
+        all &= caller.found(rt, text) == Some(number);
+        all &= interned(rt, caller, text)? == number;
     }
     Ok(all)
 }
@@ -248,23 +211,19 @@ fn keeps_number<R: Wait>(
 fn take<R: Wait + Abort>(
     rt: &R,
     refused: &mut Refused,
-    interner: &Interner<Spur>,
-    pass: &mut Pass<Spur>,
+    caller: &mut DefaultCaller<'_>,
     number: usize,
-) -> Result<(), Fail>
-    requires { pass.old.of ≡ interner.now }
-    ensures { pass.new.of ≡ pass.old.of }
-{
+) -> Result<(), Fail> {
     let text = TEXTS[number % TEXTS.len()];
     let taken = retried!(
         rt,
         refused,
         text,
-        interned(rt, interner, pass, text),
-        has_first(rt, interner, pass, number)
+        interned(rt, caller, text),
+        has_first(rt, caller, number)
     )?;
     is_so(rt, taken == number, text);
-    let keeps = second_value(rt, text, keeps_number(rt, interner, pass, text, number))?;
+    let keeps = second_value(rt, text, keeps_number(rt, caller, text, number))?;
     is_so(rt, keeps, text);
     Ok(())
 }
@@ -275,14 +234,14 @@ fn take_all<R: AllocGlobal + Wait + Abort>(
     refused: &mut Refused,
     interner: &Interner<Spur>,
 ) -> Result<(), Fail> {
-    let mut pass = interner.pass_with_hints(rt.alloc());
-    if !pass.has_hints() {
+    let mut caller = Caller::hinted(rt.alloc(), interner);
+    if !caller.has_hints() {
         refused.note(rt, "pass_with_hints");
     }
     for number in 0..TEXTS.len() {
-        take(rt, refused, interner, &mut pass, number)?;
+        take(rt, refused, &mut caller, number)?;
     }
-    is_so(rt, has_first(rt, interner, &mut pass, 3), "three texts");
+    is_so(rt, has_first(rt, &mut caller, 3), "three texts");
     Ok(())
 }
 

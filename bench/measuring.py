@@ -1,0 +1,227 @@
+"""What the tables of bench/run share: programs that are built, packages of the system, inputs, runs in turn, and what a run takes. Paths are from
+the top of the repository, in which bench/run runs."""
+import glob
+import os
+import re
+import subprocess
+import sys
+import time
+
+HERE = os.path.dirname(os.path.dirname(os.path.abspath(__file__)))
+sys.path.append(f"{HERE}/trials")
+from common import said_of  # noqa: E402 pylint: disable=wrong-import-position
+
+OUT = "bench/out"
+INPUTS = f"{OUT}/inputs"
+CRATES = "/usr/share/cargo/registry"
+LINES = "crates/lasso_lines/out/lasso_lines"
+CALLS = "crates/tool_bench/out/tool_bench"
+NAMES = ("zipf", "distinct", "long", "few", "mid", "wide")
+ALL_HASHES = ("fx", "ahash", "fold")
+ROUNDS = 8
+# More, as such a run is short.
+SHORT_ROUNDS = 24
+COLLECTED = re.compile(r"Collected : (\d+)")
+
+
+def complain(*words):
+    """Says why a figure is missing."""
+    print(*words, file=sys.stderr, flush=True)
+
+
+def keep(name, lines):
+    """Writes the lines to a file that stays until the next run, and returns them."""
+    lines = list(lines)
+    with open(f"{OUT}/{name}", "w", encoding="utf-8") as target:
+        target.writelines(f"{line}\n" for line in lines)
+    return lines
+
+
+def is_built(log, words, **options):
+    """Whether a command ends well; what it says is in a file of this name."""
+    with open(f"{OUT}/{log}.log", "w", encoding="utf-8") as said:
+        return subprocess.run(words, stdin=subprocess.DEVNULL, stdout=said, stderr=subprocess.STDOUT, check=False, **options).returncode == 0
+
+
+def end_with(log):
+    """Shows what a command said, and ends."""
+    with open(f"{OUT}/{log}.log", encoding="utf-8", errors="replace") as said:
+        sys.exit(said.read())
+
+
+def build(crate):
+    """Proves and builds the program of a crate."""
+    if not is_built(crate, ["rt", "run"], cwd=f"crates/{crate}") and not os.path.exists(f"crates/{crate}/out/{crate}.stamp"):
+        end_with(crate)
+
+
+def build_library():
+    """Proves and builds the library for C."""
+    if not is_built("c", ["make", "-s", "c"]):
+        end_with("c")
+
+
+def has_package(package):
+    """Installs a package of the system. Whether that went well."""
+    return is_built("apt", ["apt-get", "update"]) and is_built("apt", ["apt-get", "install", "-y", *package])
+
+
+def rustc(program, source, *words):
+    """Builds a Rust program of one file by rustc."""
+    said_of(["rustc", "-O", *words, "-o", program, f"bench/baseline/{source}"])
+
+
+def is_built_over_crates(baseline, *crates, words=()):
+    """Installs the system's packages of these Rust crates where one is missing, and builds a baseline over them. Whether that can be done."""
+    missing = [f"librust-{crate}-dev" for crate in crates if not glob.glob(f"{CRATES}/{crate}-[0-9]*")]
+    if missing:
+        has_package(missing)
+    system = ["--config", 'source.crates-io.replace-with="system"', "--config", f'source.system.directory="{CRATES}"']
+    cargo = ["cargo", "build", "--release", "--offline", "--quiet", "--manifest-path", f"bench/baseline/{baseline}/Cargo.toml"]
+    return is_built(baseline, [*cargo, "--target-dir", f"{OUT}/{baseline}", *system, *words])
+
+
+def best_hashes():
+    """Builds the best that Rust has, from the system's packages of Rust crates, and returns its hashes; none where they can't be had."""
+    if is_built_over_crates("best", "hashbrown", "fxhash", "ahash", "memchr"):
+        return ALL_HASHES
+    complain(f"hashbrown can't be had or built ({OUT}/best.log): of Rust only std stands beside lasso")
+    return ()
+
+
+def priority():
+    """The words that give what is timed real-time priority, where that may be done. Says which it is."""
+    words = ["chrt", "-f", "10"]
+    if is_built("chrt", [*words, "true"]):
+        print(f"what is timed runs at real-time priority ({' '.join(words)})", flush=True)
+        return words
+    with open(f"{OUT}/chrt.log", encoding="utf-8") as said:
+        print(f"what is timed runs at normal priority: chrt -f 10 is not allowed here ({said.readline().strip()})", flush=True)
+    return []
+
+
+def make_inputs():
+    """Makes the inputs, where they are missing."""
+    for name in NAMES:
+        make_input(name)
+
+
+def make_input(name):
+    """Makes an input, whole and as a tenth, if it is missing."""
+    if not os.path.exists(f"{INPUTS}/{name}.tenth"):
+        said_of([sys.executable, "bench/generate.py", INPUTS, name])
+
+
+def make_long_inputs():
+    """Makes two inputs of 10,000,000 lines: `zipf` ten times, and `large`, to whose end there are new words."""
+    if not os.path.exists(f"{INPUTS}/ten"):
+        with open(f"{INPUTS}/zipf", "rb") as source, open(f"{INPUTS}/ten.part", "wb") as target:
+            whole = source.read()
+            for _ in range(10):
+                target.write(whole)
+        os.rename(f"{INPUTS}/ten.part", f"{INPUTS}/ten")
+    make_input("large")
+
+
+def count_lines(path):
+    """How many lines a file has."""
+    with open(path, "rb") as source:
+        return sum(block.count(b"\n") for block in iter(lambda: source.read(1 << 20), b""))
+
+
+def start(words, path=None, **options):
+    """Runs a command over an input, which has to end well."""
+    with open(path or os.devnull, "rb") as source:
+        done = subprocess.run(words, stdin=source, check=False, **options)
+    if done.returncode:
+        sys.exit(f"{' '.join(words)} ended with {done.returncode}")
+    return done
+
+
+def output_of(words, path=None):
+    """What a command writes over an input."""
+    return start(words, path, stdout=subprocess.PIPE).stdout
+
+
+def said_lines(prefix, words, path=None):
+    """The lines that a command writes over an input, each after a word."""
+    return [f"{prefix} {line}" for line in output_of(words, path).decode().splitlines()]
+
+
+def reordered(prefix, order, words, path=None):
+    """The same with their first words in another order."""
+    for line in output_of(words, path).decode().splitlines():
+        found = line.split()
+        yield " ".join([prefix, *(found[at] for at in order), *found[len(order):]])
+
+
+def seconds(words, path=None):
+    """The seconds from start to end of a command whose output is thrown away."""
+    begun = time.perf_counter()
+    start(words, path, stdout=subprocess.DEVNULL)
+    return time.perf_counter() - begun
+
+
+def processor_seconds(words, path):
+    """The seconds of a processor, user's and system's, that a command takes over an input."""
+    with open(path, "rb") as source:
+        started = subprocess.Popen(words, stdin=source, stdout=subprocess.DEVNULL)
+    _, status, used = os.wait4(started.pid, 0)
+    started.returncode = os.waitstatus_to_exitcode(status)
+    if started.returncode:
+        sys.exit(f"{words[0]} ended with {started.returncode}")
+    return used.ru_utime + used.ru_stime
+
+
+def least_of_turns(programs, rounds, work):
+    """The least of what work says of each program's words; the programs take turns."""
+    least = {}
+    for _ in range(rounds):
+        for name, words in programs.items():
+            took = work(words)
+            least[name] = min(took, least.get(name, took))
+    return least
+
+
+def peak(words, path):
+    """The most memory that a program takes at once for an input, in KiB."""
+    start(["/usr/bin/time", "-f", "%M", "-o", f"{OUT}/peak", *words], path, stdout=subprocess.DEVNULL)
+    with open(f"{OUT}/peak", encoding="utf-8") as found:
+        return int(found.read())
+
+
+def instructions(words, path):
+    """The instructions that a program takes for an input, a line of it."""
+    valgrind = ["valgrind", "--tool=callgrind", "--callgrind-out-file=/dev/null"]
+    said = start([*valgrind, *words], path, stdout=subprocess.DEVNULL, stderr=subprocess.PIPE).stderr.decode()
+    return int(COLLECTED.search(said).group(1)) / count_lines(path)
+
+
+def test_alike(outputs, path):
+    """Stops unless all programs write the same over an input, by functions that give each one's output."""
+    first = None
+    for name, output in outputs.items():
+        found = output()
+        first = first or (name, found)
+        if found != first[1]:
+            sys.exit(f"{name} and {first[0]} write different lines for {path}")
+
+
+def least_by_key(lines, width):
+    """The least value by the words before it, of lines of so many words and a value."""
+    least = {}
+    for line in lines:
+        *words, value = line.split()
+        assert len(words) == width, line
+        least[tuple(words)] = min(float(value), least.get(tuple(words), float("inf")))
+    return least
+
+
+def times_by_key(lines, width):
+    """All values by the words before them."""
+    times = {}
+    for line in lines:
+        *words, value = line.split()
+        assert len(words) == width, line
+        times.setdefault(tuple(words), []).append(float(value))
+    return times
