@@ -75,7 +75,8 @@ def build_core(path: Path) -> Path:
 def _library() -> tuple[Path, Path]:
     """The archive that goes into the module, and the folder of lasso.h."""
     named = os.environ.get("LASSO_LIBRARY", "")
-    library = Path(named) if named else Path(_variable("libdir")) / "liblasso.a"
+    # Of an absolute path no compiler takes the beginning for an option.
+    library = (Path(named) if named else Path(_variable("libdir")) / "liblasso.a").absolute()
     if named and library.suffix != ".a":
         sys.exit(f"LASSO_LIBRARY={named}: name the archive liblasso.a, which goes into the module")
     if not library.is_file():

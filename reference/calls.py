@@ -438,10 +438,21 @@ def some_filling(random):
     return random.choices(steps, [1, 1, 0.2, 10])[0]
 
 
+def some_sharing(random):
+    """A call of handles of shared interners."""
+    while True:
+        step = some_step(random)
+        if step[0].startswith("shared_"):
+            return step
+
+
 def some_steps(random):
     """A sequence of calls."""
-    if random.random() < 0.2:
+    kind = random.random()
+    if kind < 0.2:
         return [("new", 0, random.choice([0, 20000, ENDLESS, ENDLESS]), None, None)] + [some_filling(random) for _ in range(40)]
+    if kind < 0.3:
+        return [("shared_new", 0)] + [some_sharing(random) for _ in range(40)]
     return [("new", 0, ENDLESS, None, None)] + [some_step(random) for _ in range(random.choice([1, 5, 40]))]
 
 
