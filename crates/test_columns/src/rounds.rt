@@ -37,6 +37,7 @@ fn are_encoded<R: AllocGlobal + Threads + Sync>(
 fn rounds_of(workers: usize, alone: usize) -> Rounds {
     Rounds {
         workers,
+        first_lines: 0,
         alone,
         smallest: 1,
         largest: 1,
