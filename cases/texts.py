@@ -57,16 +57,16 @@ def letters(count, first=0):
 
 
 class Lines:
-    """Distinct lines, each of which comes `times` times, all of them in turn; and what lasso_codes writes for them."""
+    """Empty lines, this many, and then distinct lines, each of which comes `times` times, all of them in turn; and what lasso_codes writes for them."""
 
-    def __init__(self, texts, times=1):
-        lines = [text + b"\n" for text in texts]
-        self.texts = b"".join(lines)
-        self.lines = self.texts * times
-        self.counts = b"".join(b"%d %s\n" % (times, text) for text in sorted(texts))
-        digits = each(range(len(texts)), lambda text: b"%d\n" % text)
-        self.column = column(len(texts), len(texts) * times) + self.texts + digits * times
-        self.binary = column(len(texts), len(texts) * times, "binary") + self.texts + each(range(len(texts)), code) * times
+    def __init__(self, texts, times=1, empty=0):
+        first = range(bool(empty), len(texts) + bool(empty))
+        count = len(texts) * times + empty
+        self.texts = b"\n" * bool(empty) + each(texts, lambda text: text + b"\n")
+        self.lines = b"\n" * empty + each(texts, lambda text: text + b"\n") * times
+        self.counts = b"%d \n" % empty * bool(empty) + b"".join(b"%d %s\n" % (times, text) for text in sorted(texts))
+        self.column = column(first.stop, count) + self.texts + b"0\n" * empty + each(first, lambda text: b"%d\n" % text) * times
+        self.binary = column(first.stop, count, "binary") + self.texts + code(0) * empty + each(first, code) * times
 
 
 class Shape(Lines):
@@ -77,23 +77,29 @@ class Shape(Lines):
 
 
 class Numbered:
-    """Lines of 100 bytes that are the texts with these numbers, of which each first comes after all that are smaller; and what lasso_codes writes
-    for them."""
+    """Empty lines, this many, and then lines of 100 bytes that are the texts with these numbers, of which each first comes after all that are
+    smaller; and what lasso_codes writes for them. The empty lines are more than those of any other text."""
 
     SIZE = 100
 
-    def __init__(self, numbers):
-        self.numbers = numbers
-        self.texts = [(b"%d %s" % (text, letters(self.SIZE)))[: self.SIZE - 1] + b"\n" for text in range(max(numbers) + 1)]
-        times = collections.Counter(numbers)
+    def __init__(self, numbers, empty):
+        self.empty = empty
+        self.numbers = [number + 1 for number in numbers]
+        self.texts = [b"\n"] + [(b"%d %s" % (text, letters(self.SIZE)))[: self.SIZE - 1] + b"\n" for text in range(max(numbers) + 1)]
+        times = collections.Counter(self.numbers)
         ranked = sorted(times, key=lambda text: (-times[text], self.texts[text]))
-        self.lines = each(numbers, self.texts.__getitem__)
-        self.counts = each(ranked, lambda text: b"%d %s" % (times[text], self.texts[text]))
-        self.column = column(len(self.texts), len(numbers)) + b"".join(self.texts) + each(numbers, lambda text: b"%d\n" % text)
-        self.binary = column(len(self.texts), len(numbers), "binary") + b"".join(self.texts) + each(numbers, code)
-        others = column(len(self.texts) - 1, len(numbers)) + b"".join(self.texts[1:])
-        self.first_as_null = others + each(numbers, lambda text: b"%d\n" % (text - 1) if text else b"-\n")
+        count = empty + len(numbers)
+        self.lines = b"\n" * empty + each(self.numbers, self.texts.__getitem__)
+        self.counts = b"%d \n" % empty + each(ranked, lambda text: b"%d %s" % (times[text], self.texts[text]))
+        self.column = column(len(self.texts), count) + b"".join(self.texts) + b"0\n" * empty + each(self.numbers, lambda text: b"%d\n" % text)
+        self.binary = column(len(self.texts), count, "binary") + b"".join(self.texts) + code(0) * empty + each(self.numbers, code)
+        others = column(len(self.texts) - 1, count) + b"".join(self.texts[1:])
+        self.first_as_null = others + b"-\n" * empty + each(self.numbers, lambda text: b"%d\n" % (text - 1))
+
+    def before(self, line):
+        """How many bytes come before this line. Lines are numbered from 1."""
+        return self.empty + (line - 1 - self.empty) * self.SIZE
 
     def with_line(self, line, other):
-        """The lines with another one in place of this one. Lines are numbered from 1."""
-        return self.lines[: (line - 1) * self.SIZE] + other + b"\n" + self.lines[line * self.SIZE :]
+        """The lines with another one in place of this one, which is not empty."""
+        return self.lines[: self.before(line)] + other + b"\n" + self.lines[self.before(line + 1) :]

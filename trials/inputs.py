@@ -45,8 +45,8 @@ def odd_lines():
 
 
 def blocks():
-    """Lines of which most repeat; one in 60 is new, and comes again."""
-    return b"".join(b"line %d\n" % (number // 60 - number % 60 * 3 if number > 10_800 else number % 7) for number in range(180_000))
+    """1,000,000 empty lines, and then lines of which most repeat; one in 60 is new, and comes again."""
+    return b"\n" * 1_000_000 + b"".join(b"line %d\n" % (number // 60 - number % 60 * 3 if number > 10_800 else number % 7) for number in range(180_000))
 
 
 def long_lines():

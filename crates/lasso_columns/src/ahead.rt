@@ -150,6 +150,8 @@ fn put_last(
 #[derive(Clone, Copy)]
 struct Plan {
     rounds: Rounds,
+    // the lines that were encoded
+    encoded: usize,
     // whether threads encode the blocks
     is_round: bool,
     // the bytes of a block of the next round
@@ -161,22 +163,26 @@ impl Plan {
     fn new(rounds: Rounds) -> Self {
         Plan {
             rounds,
+            encoded: 0,
             is_round: false,
             size: rounds.smallest,
         }
     }
 
-    // The plan after this number of lines, with this number of new texts. One thread is faster where more than
-    // a quarter of the lines are new texts, since it interns each of them once.
+    // The plan after this number of lines, with this number of new texts. One thread is faster for the first lines of
+    // a stream, and where more than a quarter of the lines are new texts, since it interns each of them once.
     fn after(self, new_texts: usize, lines: usize) -> Self {
         let size = if self.is_round {
             self.size.saturating_mul(2).min(self.rounds.largest)
         } else {
             self.size
         };
+        let encoded = self.encoded.saturating_add(lines);
+        let may_start = self.rounds.workers > 1 && encoded >= self.rounds.first_lines;
         Plan {
             rounds: self.rounds,
-            is_round: self.rounds.workers > 1 && new_texts <= lines / 4,
+            encoded,
+            is_round: may_start && new_texts <= lines / 4,
             size,
         }
     }

@@ -19,6 +19,10 @@ use std::marker::Model;
 use std::thread::Threads;
 use std::{fmt, io};
 
+// How many lines the caller's thread encodes alone by default: for fewer lines other threads cost more than they
+// save.
+const FIRST_LINES: usize = 1_000_000;
+
 /// How a stream is split into blocks for several threads. The sizes are in bytes; 0 counts as 1. A block has its
 /// size or up to 64 KiB more, and goes on to the end of a line. The last block of a round is smaller by a sixth
 /// for each worker.
@@ -27,6 +31,9 @@ pub struct Rounds {
     /// How many threads encode in a round, each a block; the caller's thread is one of them. With 0 or 1 it
     /// encodes all.
     pub workers: usize,
+    /// How many lines the caller's thread encodes before another thread starts. It also encodes the rest of their
+    /// block, and the next block.
+    pub first_lines: usize,
     /// The bytes of a block that the caller's thread encodes.
     pub alone: usize,
     /// The bytes of a block of the first round. Each round doubles them.
@@ -38,9 +45,11 @@ pub struct Rounds {
 }
 
 impl Rounds {
-    /// Blocks of 64 KiB to 2 MiB or up to 64 KiB more, for this number of workers, which hash with the fixed seed.
+    /// Blocks of 64 KiB to 2 MiB or up to 64 KiB more, for this number of workers, which start after 1,000,000 lines and
+    /// hash with the fixed seed.
     pub fn new(workers: usize) -> Self
         ensures workers { result.workers ≡ workers }
+        ensures first_lines { result.first_lines ≡ 1000000 }
         ensures alone { result.alone ≡ 262144 }
         ensures smallest { result.smallest ≡ 65536 }
         ensures largest { result.largest ≡ 2097152 }
@@ -48,6 +57,7 @@ impl Rounds {
     {
         Rounds {
             workers,
+            first_lines: FIRST_LINES,
             alone: 262_144,
             smallest: 65_536,
             largest: 2_097_152,
@@ -182,11 +192,11 @@ impl StreamEncoder {
 /// Encodes the lines that are left in the input, as `encode_rows` does, with up to `rounds.workers` threads. The
 /// entries, the list and the error are the same, whatever their number.
 ///
-/// The caller's thread encodes the first block of the input. Then rounds follow: each worker encodes a block
-/// beside the interner, with a small interner for the texts that it lacks. This thread is one of them: it reads
-/// the next blocks first, and its own block is smaller. It then interns those texts in the order of the blocks,
-/// and appends the entries. It encodes the blocks after a round or a block with mostly new texts, and a block
-/// whose worker ran out of memory.
+/// The caller's thread encodes the first `rounds.first_lines` lines, the rest of their block, and the next block.
+/// Then rounds follow: each worker encodes a block beside the interner, with a small interner for the texts that
+/// it lacks. This thread is one of them: it reads the next blocks first, and its own block is smaller. It then
+/// interns those texts in the order of the blocks, and appends the entries. It encodes the blocks after a round
+/// or a block with mostly new texts, and a block whose worker ran out of memory.
 ///
 /// After success nothing is left in the input. It stops at the first line that is refused or is not UTF-8
 /// (`StreamError::Line`, with the line's number in this call, counted from 1), or at a read that

@@ -150,6 +150,7 @@ static WORKERS: [usize; 7] = [0, 1, 2, 3, 4, 7, 64];
 fn rounds_of(workers: usize, size: usize) -> Rounds {
     Rounds {
         workers,
+        first_lines: 0,
         alone: size,
         smallest: size,
         largest: size.saturating_mul(2),
@@ -547,6 +548,7 @@ fn by_rounds<R: AllocGlobal + Threads + Sync>(
 fn a_stream_is_encoded_round_by_round(rt: HostRuntime) -> Result<(), Fail> {
     let rounds = Rounds {
         workers: 2,
+        first_lines: 0,
         alone: 1,
         smallest: 1,
         largest: 1,
@@ -593,6 +595,7 @@ fn are_encoded<R: AllocGlobal + Threads + Sync>(
 fn blocks_of_two(workers: usize, alone: usize) -> Rounds {
     Rounds {
         workers,
+        first_lines: 0,
         alone,
         smallest: 1,
         largest: 1,
