@@ -2,7 +2,7 @@
 # of its sources, whose Cargo.toml takes hashbrown from the system's packages. A part of bench/run, which names the folders and builds the best.
 
 PROVED=$OUT/proved/release/proved
-LASSO=$OUT/upstream/release/upstream
+UPSTREAM_CALLS=$OUT/upstream/release/upstream
 SIZES=$OUT/best/release/sizes
 
 # Proves and builds the library for C, and builds the crate over it.
@@ -29,7 +29,7 @@ rounds_of_sizes() {
     local round hash
     for ((round = 0; round < CALL_ROUNDS; round++)); do
         $PRIORITY "$PROVED" | sed 's/^/ours /'
-        [ -z "${UPSTREAM:-}" ] || $PRIORITY "$LASSO" | sed 's/^/lasso /'
+        [ -z "${UPSTREAM:-}" ] || $PRIORITY "$UPSTREAM_CALLS" | sed 's/^/lasso /'
         for hash in $HASHES; do
             $PRIORITY "$SIZES" "$hash" | sed "s/^/$hash /"
             $PRIORITY "$SIZES" "kept-$hash" | sed "s/^/kept-$hash /"
