@@ -5,7 +5,7 @@
 
    In a round each of some places makes calls by a handle of its own. Now and then the thread of a place ends: it joins a handle for the next
    thread of the place and frees its own, while others go on. Each reply is noted with the times before and after the call. No call takes a
-   second and is told so many times meanwhile that others are busy; and on a machine where a thread that sleeps wakes in time, no call takes one. */
+   second in a round in which a thread that sleeps wakes in time. On a busy machine that is not so, and threads wait for others that do not run. */
 #include "lasso.h"
 
 #include <pthread.h>
@@ -15,7 +15,7 @@
 #include <string.h>
 #include <time.h>
 
-enum { MOST_PLACES = 16, CALLS = 20000, TEXTS = 16 * CALLS + 1000, LIVES = 8, KEPT = 64, LONG = 400, MANY = 50 };
+enum { MOST_PLACES = 16, CALLS = 20000, TEXTS = 16 * CALLS + 1000, LIVES = 8, KEPT = 64, LONG = 400 };
 enum kind { ZIPF, DISTINCT, FEW, STARVED, KINDS };
 enum call { INTERN, GET, RESOLVE, LEN };
 
@@ -33,7 +33,7 @@ struct place {
     struct lasso_shared handle;
     int lives, life;
     uint32_t number, state, done;
-    uint64_t busy, tries, longest;
+    uint64_t busy, longest;
     struct reply replies[CALLS];
     struct lasso_text kept[KEPT];
     uint32_t kept_number[KEPT];
@@ -105,10 +105,9 @@ static uint32_t call_text(struct place *place, enum call call, const uint8_t *te
     uint32_t status;
     while ((status = call == INTERN ? lasso_shared_intern(&place->handle, text, length, code)
                                     : lasso_shared_get(&place->handle, text, length, code)) == LASSO_BUSY) {
-        place->tries++;
+        place->busy++;
         sched_yield();
     }
-    place->busy += place->tries;
     return status;
 }
 
@@ -141,7 +140,6 @@ static void make_call(struct place *place, struct reply *reply, enum call call, 
     size_t length = text_of(number, text);
     uint32_t status = LASSO_DONE;
     *reply = (struct reply){.call = call, .number = UINT32_MAX, .code = UINT32_MAX};
-    place->tries = 0;
     if (call == RESOLVE) /* one code of those that there may be */
         reply->code = place->done == 0 ? 0 : place->replies[next(&place->state) % place->done].code + next(&place->state) % 3 / 2;
     reply->start = now(CLOCK_MONOTONIC);
@@ -178,9 +176,6 @@ static void *work(void *argument)
         make_call(place, reply, choose_call(place), choose(place));
         uint64_t took = reply->end - reply->start;
         place->longest = took > place->longest ? took : place->longest;
-        if (took > SECOND && place->tries >= MANY)
-            FAULT("a call took %.1f s with %d threads, and others were busy %llu times", (double)took / 1e9, place_count,
-                  (unsigned long long)place->tries);
         place->done++;
         if (kind == STARVED && place->number != 0 && place->done == last)
             place->done = 0; /* what a reader was told first is noted no more */
@@ -328,7 +323,7 @@ static void *sleep_through(void *none)
     return none;
 }
 
-/* The longest call of a round, which a machine alone may make a second long on which a sleeping thread wakes late, too. */
+/* The longest call of a round. It may take a second only if a sleeping thread woke late, too. */
 static uint64_t longest_call(void)
 {
     uint64_t longest = 0;
