@@ -25,15 +25,24 @@ build_threads() {
     fi
 }
 
+# The programs, one a line: its name in the table, and its command.
+threads_programs() {
+    echo "c $THREADS_C shared"
+    echo "mutex $THREADS_C mutex"
+    echo "rust $THREADS_RUST"
+    echo "lasso $LASSO/interners default round"
+    echo "lasso-fx $LASSO/interners fx round"
+    echo "maps $INTERNERS maps round"
+}
+
 # All rounds, each program in turn: lines of an input, a program, a call, a number of threads and nanoseconds.
 rounds_of_threads() {
-    local round name
+    local round name program command
     for ((round = 0; round < THREADS_ROUNDS; round++)); do
         for name in $THREADS_NAMES; do
-            for words in "c $THREADS_C shared" "mutex $THREADS_C mutex" "rust $THREADS_RUST" "lasso $LASSO/interners default round" \
-                "lasso-fx $LASSO/interners fx round" "maps $INTERNERS maps round"; do
-                $PRIORITY ${words#* } < "$OUT/inputs/$name" | sed "s/^/$name ${words%% *} /"
-            done
+            while read -r program command; do
+                in_words "$PRIORITY $command" < "$OUT/inputs/$name" | sed "s/^/$name $program /"
+            done < <(threads_programs)
         done
     done
 }
