@@ -37,6 +37,11 @@ def large(rng):
     return zipf(rng, 10_000_000)
 
 
+def uniform(rng):
+    """As many lines over as many words as zipf has, in random order."""
+    return shuffled(rng, distinct_words(rng, 100_000, 3, 12), 1_000_000)
+
+
 def distinct(rng):
     """A million short lines, no two alike."""
     return [f"{word(rng, 2, 6)}{number}" for number in range(1_000_000)]
@@ -84,6 +89,7 @@ INPUTS = {
     "wide": wide,
     "large": large,
     "rows": rows,
+    "uniform": uniform,
 }
 
 

@@ -1,4 +1,6 @@
-/* Four threads intern the same thousand texts at once, each from another one on: a text gets one code in all of them. */
+/* Four threads intern the same thousand texts at once, each from another one on: a text gets one code in all of them.
+ *
+ *     cc threads.c -pthread $(pkg-config --cflags --libs lasso) && ./a.out */
 #include "lasso.h"
 
 #include <pthread.h>
@@ -8,10 +10,11 @@ enum { THREADS = 4, TEXTS = 1000 };
 
 struct worker {
     pthread_t thread;
-    struct lasso_shared handle; /* each thread has one of its own */
+    struct lasso_shared handle; /* each thread has one of its own: no lock is needed */
     uint32_t first, codes[TEXTS], status;
 };
 
+/* Interns all texts. `_wait` tries again as long as another thread is inside a step of the interner. */
 static void *work(void *argument)
 {
     struct worker *worker = argument;
@@ -29,16 +32,14 @@ int main(void)
     static struct worker workers[THREADS]; /* all zero, and so each handle is as LASSO_SHARED_NONE */
     struct lasso_shared shared = LASSO_SHARED_NONE;
     struct lasso_text text = LASSO_NO_TEXT;
-    int started = 0, wrong = 0;
-    if (lasso_shared_new(&shared) != LASSO_DONE)
-        return 1;
-    for (; started < THREADS; started++) {
+    int started = 0, wrong = lasso_shared_new(&shared) != LASSO_DONE;
+    for (; started < THREADS && !wrong; started += !wrong) {
         struct worker *worker = &workers[started];
         worker->first = (uint32_t)(started * TEXTS / THREADS);
-        if (lasso_shared_join(&shared, &worker->handle) != LASSO_DONE || pthread_create(&worker->thread, NULL, work, worker) != 0)
-            break;
+        /* A handle is joined in the thread that owns the one it is made from, before its own thread starts. */
+        wrong = lasso_shared_join(&shared, &worker->handle) != LASSO_DONE
+            || pthread_create(&worker->thread, NULL, work, worker) != 0;
     }
-    wrong = started < THREADS;
     for (int k = 0; k < started; k++)
         wrong |= pthread_join(workers[k].thread, NULL) != 0 || workers[k].status != LASSO_DONE;
     for (int n = 0; n < TEXTS && !wrong; n++)
@@ -46,6 +47,8 @@ int main(void)
             wrong |= workers[k].codes[n] != workers[0].codes[n];
     if (!wrong && lasso_shared_text_now(&shared, 0, &text) == LASSO_DONE)
         printf("%zu texts, each with one code; code 0 is %.*s\n", lasso_shared_len(&shared), (int)text.length, (const char *)text.bytes);
+    else
+        fputs("no memory, no thread, or a text with two codes\n", stderr);
     for (int k = 0; k < THREADS; k++)
         lasso_shared_free(&workers[k].handle);
     lasso_shared_free(&shared); /* the last handle, and with it the texts that it lent */
