@@ -3,9 +3,9 @@
 use crate::calls::{Call, distinct_of, ends_so, is_so, shared_interner};
 use crate::long_columns::{Column, Way, are_encoded, merges, printed, slices};
 use crate::shared::{TWENTY, are_codes, encoded, has_from, is_kept, stand_for};
-use lasso::{FixedState, LassoResult, MemoryLimits, Spur, SpurThreadedRodeo, ThreadedRodeo};
 use lasso::index::hash_text;
 use lasso::keyed::keyed_by;
+use lasso::{FixedState, LassoResult, MemoryLimits, Spur, SpurThreadedRodeo, ThreadedRodeo};
 use lasso_columns::encode_shared;
 use std::alloc::Global;
 use std::hash::BuildHasher;

@@ -3,8 +3,8 @@
 ghost use Rattle.lasso_parts.specs.Index.{IsFiledAnywhere};
 
 use crate::interners::{CountedTexts, is_so};
-use lasso_parts::index::{Index, hash_text};
 use lasso_parts::index::key_slots::KeySlots;
+use lasso_parts::index::{Index, hash_text};
 use lasso_parts::keys::{Key, Spur};
 use lasso_parts::util::{FixedState, LassoErrorKind, LassoResult};
 use std::alloc::Global;

@@ -2,8 +2,8 @@
 use lasso::{Iter, JsonError, Key, LassoErrorKind, LassoResult, Strings};
 use serde_json::Value;
 use std::alloc::Global;
-use std::{fmt, io};
 use std::io::Write;
+use std::{fmt, io};
 
 /// `key N`, or the refusal.
 pub fn write_interned<K: Key, W: Write>(out: &mut W, outcome: LassoResult<K>) -> io::Result<()> {

@@ -3,8 +3,8 @@ ghost use Rattle.std.specs.Prelude.{◌≡◌};
 
 use crate::rounds::answer_batch;
 use crate::texts::{Texts, fixed_count, fixed_text};
-use lasso::{FixedState, Key, LassoErrorKind, LassoResult, MemoryLimits, ThreadedRodeo};
 use lasso::log::Pass;
+use lasso::{FixedState, Key, LassoErrorKind, LassoResult, MemoryLimits, ThreadedRodeo};
 use std::alloc::AllocError;
 use std::sync::Wait;
 use test_common::texts::Draws;

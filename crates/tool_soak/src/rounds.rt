@@ -7,11 +7,11 @@ use crate::answers::{Answer, Limits, answers, readings};
 use crate::checker::{Round, check};
 use crate::texts::{Frozen, Texts};
 use anyhow::{Result, bail, ensure};
+use lasso::log::{Pass, Snapshot};
 use lasso::{
     Capacity, FixedState, Key, LassoErrorKind, MemoryLimits, MicroSpur, RodeoReader, Spur,
     ThreadedRodeo,
 };
-use lasso::log::{Pass, Snapshot};
 use std::alloc::{AllocError, Global};
 use std::rt::Clock;
 use std::sync::Wait;
