@@ -212,26 +212,18 @@ fn limits_fall_while_threads_intern() {
 
 #[test]
 fn threads_share_the_last_keys() {
-    let rodeo: ThreadedRodeo<MicroSpur> = ThreadedRodeo::new();
-    let taken = at_once(MANY, |number| {
-        (0..30)
-            .filter(
-                |step| match rodeo.try_get_or_intern(text_of(number * 100 + step, 20)) {
-                    Ok(_) => true,
-                    Err(error) => {
-                        assert!(error.kind().is_keyspace_exhaustion());
-                        false
-                    }
-                },
-            )
-            .count()
-    });
-    assert_eq!((taken.iter().sum::<usize>(), rodeo.len()), (255, 255));
-    assert_eq!(rodeo.iter().count(), 255);
-    assert!(rodeo
-        .into_reader()
-        .iter()
-        .all(|(this, _)| this.into_usize() < 255));
+    for _ in 0..20 {
+        let rodeo: ThreadedRodeo<MicroSpur> = (0..250).map(|number| text_of(number, 20)).collect();
+        let taken = at_once(MANY, |number| {
+            let key = rodeo.try_get_or_intern(text_of(1000 + number, 20));
+            let refused = key.as_ref().err().map(|error| error.kind());
+            assert!(refused.map_or(true, LassoErrorKind::is_keyspace_exhaustion));
+            key.is_ok()
+        });
+        assert_eq!(taken.into_iter().filter(|it| *it).count(), 5);
+        assert_eq!((rodeo.len(), rodeo.iter().count()), (255, 255));
+        assert_eq!(rodeo.into_reader().len(), 255);
+    }
 }
 
 #[test]
