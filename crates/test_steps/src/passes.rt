@@ -164,7 +164,7 @@ fn holds_with<K: Key, S: BuildHasher + Drop, R: AllocGlobal + Wait>(
     }
 }
 
-// Makes the call so many times, up to the first that returns something else. Returns whether none did.
+// Makes the call `times` times, up to the first that returns something else. Returns whether none did.
 fn holds_each_time<K: Key, S: BuildHasher + Drop, R: AllocGlobal + Wait>(
     rt: &R,
     caller: &mut Caller<'_, K, S>,
