@@ -323,16 +323,22 @@ def test_is_built_with_a_library_of_lasso_alone(tmp_path: Path, monkeypatch: pyt
 
 def test_no_library_is_an_option_of_the_compiler(tmp_path: Path, monkeypatch: pytest.MonkeyPatch) -> None:
     backend = pytest.importorskip("backend")
-    (tmp_path / "-save-temps.a").write_bytes(b"")
+    folder = tmp_path / "lib"
+    folder.mkdir()
+    library = folder / "-save-temps.a"
+    library.write_bytes(b"")
+    # A copy of the module has its header beside the library's folder.
+    (tmp_path / "include").mkdir()
+    (tmp_path / "include" / "lasso.h").write_bytes(b"")
     compiler = tmp_path / "cc"
     compiler.write_text("#!/bin/sh\nprintf '%s\\n' \"$@\" > words\nexit 1\n", encoding="ascii")
     compiler.chmod(0o755)
-    monkeypatch.chdir(tmp_path)
+    monkeypatch.chdir(folder)
     monkeypatch.setenv("CC", str(compiler))
-    monkeypatch.setenv("LASSO_LIBRARY", "-save-temps.a")
+    monkeypatch.setenv("LASSO_LIBRARY", library.name)
     with pytest.raises(SystemExit, match="can't be built"):
         backend.build_core(tmp_path / "core.so")
-    assert str(tmp_path / "-save-temps.a") in (tmp_path / "words").read_text(encoding="utf-8").splitlines()
+    assert str(library) in (folder / "words").read_text(encoding="utf-8").splitlines()
 
 
 def test_has_the_version_of_its_metadata() -> None:
