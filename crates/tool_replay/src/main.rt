@@ -6,6 +6,7 @@
 #![tactic(auto)]
 
 mod frozen;
+mod json;
 mod lines;
 mod parts;
 mod replay;

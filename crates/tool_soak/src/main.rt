@@ -3,6 +3,7 @@
 #![tactic(auto)]
 
 mod answers;
+mod batches;
 mod bounds;
 mod checker;
 mod rounds;
