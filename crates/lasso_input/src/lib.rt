@@ -19,8 +19,6 @@ mod skipping;
 mod stretch;
 #[cfg(test)]
 mod tests;
-#[cfg(test)]
-mod text_tests;
 mod texts;
 mod workers;
 

@@ -10,8 +10,8 @@ use crate::timing::{
     ROUNDS, Table, Tenths, elapsed_since, least, started, tenths_if, tenths_if_all, tenths_of,
 };
 use anyhow::{Result, bail};
-use lasso_log::log::{Log, NewLog, Opened, OpeningTexts, Spine};
 use lasso_log::log::bucket::SharedBucket;
+use lasso_log::log::{Log, NewLog, Opened, OpeningTexts, Spine};
 use lasso_parts::keys::{Key, Spur};
 use std::alloc::{AllocError, Global};
 use std::rt::Clock;

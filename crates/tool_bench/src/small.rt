@@ -5,13 +5,13 @@ use crate::calls::{
     time_walks, walk_entries, walk_texts,
 };
 use crate::columns::time_columns;
-use crate::filling::{time_collisions, time_refilling};
 use crate::interners::{Batches64, Batches1024, time_interners};
 use crate::shared::{Walk, open_log, read_all, time_copying, time_log};
 use crate::single::{FrozenTexts, keys_at, resolve_frozen};
-use crate::{single, sized};
+use crate::sized::{time_collisions, time_refilling};
 use crate::texts::{Form, Lines, Sample, jumped, random_positions};
 use crate::timing::Table;
+use crate::{single, sized};
 use anyhow::{Context, Result, ensure};
 use std::rt::Clock;
 use std::sync::Wait;

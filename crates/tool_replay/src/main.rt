@@ -6,7 +6,6 @@
 #![tactic(auto)]
 
 mod frozen;
-mod json;
 mod lines;
 mod parts;
 mod replay;

@@ -1,6 +1,6 @@
 //! One line of a script of a `Rodeo`: a command with its arguments.
-use crate::json::parse_value;
 use crate::lines::{Call, parse_call, parse_number, parse_text, parse_texts};
+use crate::parts::parse_value;
 use serde_json::Value;
 use std::alloc::{AllocError, Global};
 

@@ -1,7 +1,7 @@
 //! Random calls of a thread by its pass, and what they answer.
 ghost use Rattle.std.specs.Prelude.{◌≡◌};
 
-use crate::batches::answer_batch;
+use crate::rounds::answer_batch;
 use crate::texts::{Texts, fixed_count, fixed_text};
 use lasso::log::Pass;
 use lasso::{FixedState, Key, LassoErrorKind, LassoResult, MemoryLimits, ThreadedRodeo};

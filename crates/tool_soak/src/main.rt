@@ -3,7 +3,6 @@
 #![tactic(auto)]
 
 mod answers;
-mod batches;
 mod bounds;
 mod checker;
 mod rounds;
