@@ -21,6 +21,21 @@ END = b"\n"
 BATCH_ROUNDS = 15
 # The batches of an input, in lines each: 0 is all of them.
 BATCH_SIZES = {"rows": (64, 1024, 0), "distinct": (10000, 0)}
+# Prints the nanoseconds that pandas.factorize takes for a line of standard input, in one round.
+FACTORIZE = r"""
+import sys
+import time
+
+import numpy
+import pandas
+
+lines = numpy.array(sys.stdin.buffer.read().decode().removesuffix("\n").split("\n"), dtype=object)
+start = time.perf_counter()
+codes, texts = pandas.factorize(lines)
+elapsed = time.perf_counter() - start
+assert (texts[codes] == lines).all()
+print(f"encode {elapsed * 1e9 / len(lines):.1f}")
+"""
 PANDAS_SIZES = ("", "2000000 20000", "2000000 200000 65536 7", "2000000 200000 65536 35", "1000000 100000 65536 200")
 # The input, what was timed, its name in the table, what it is compared with, and the goal of the ratio.
 ROWS = [
@@ -57,7 +72,7 @@ def rounds_of_columns(hashes, path, has_shared, with_pandas):
         if has_shared:
             yield from (line.replace("encode_shared ", "encode_shared_", 1) for line in said_lines("rust", [SHARED], path))
         if with_pandas:
-            yield from said_lines("pandas", [PYTHON, "bench/factorize.py"], path)
+            yield from said_lines("pandas", [PYTHON, "-c", FACTORIZE], path)
 
 
 def faster(call, ours, least):

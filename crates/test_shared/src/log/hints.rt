@@ -56,122 +56,104 @@ fn hint(alloc: Global, pass: &mut Pass<Spur>) -> LassoResult<()>
     }
 }
 
+// A log with a pass of it.
+#[derive(Drop)]
+struct Asked<'a> {
+    log: &'a Log<Spur>,
+    pass: Pass<Spur>,
+    ghost of: { pass.of ≡ log.now },
+}
+
 // Keeps the position of a text with that hash. Returns whether the list has the position.
-fn keeps(log: &Log<Spur>, pass: &mut Pass<Spur>, hash: u64, position: u64) -> bool
-    requires { pass.old.of ≡ log.now }
-    ensures { pass.new.of ≡ log.now }
-{
-    if position >= log.len(pass) {
+fn keeps(asked: &mut Asked<'_>, hash: u64, position: u64) -> bool {
+    if position >= asked.log.len(&mut asked.pass) {
         return false;
     }
-    pass.keep_hint(hash, position);
+    asked.pass.keep_hint(hash, position);
     true
 }
 
 // Whether a hint tells the text, if it is asked with that hash.
-fn is_told(log: &Log<Spur>, pass: &mut Pass<Spur>, hash: u64, text: &str) -> bool
-    requires { pass.old.of ≡ log.now }
-    ensures { pass.new.of ≡ log.now }
-{
-    log.find_hinted(pass, hash, text).is_some()
+fn is_told(asked: &mut Asked<'_>, hash: u64, text: &str) -> bool {
+    asked.log.find_hinted(&mut asked.pass, hash, text).is_some()
 }
 
 // Whether a hint tells the text of the position.
-fn tells(log: &Log<Spur>, pass: &mut Pass<Spur>, position: usize) -> bool
-    requires { pass.old.of ≡ log.now }
-    ensures { pass.new.of ≡ log.now }
-{
+fn tells(asked: &mut Asked<'_>, position: usize) -> bool {
     if position >= 5 {
         return false;
     }
-    log.find_hinted(pass, HASHES[position], TEXTS[position]) == Some(position as u64)
+    asked
+        .log
+        .find_hinted(&mut asked.pass, HASHES[position], TEXTS[position])
+        == Some(position as u64)
 }
 
 // Keeps the position of the text `a`. Returns whether its hint then tells it, and no other text.
-fn tells_one_text(log: &Log<Spur>, pass: &mut Pass<Spur>) -> bool
-    requires { pass.old.of ≡ log.now }
-    ensures { pass.new.of ≡ log.now }
-{
-    let is_absent = !tells(log, pass, 2);
-    let is_kept = keeps(log, pass, HASHES[2], 2) && tells(log, pass, 2);
-    let is_compared = !is_told(log, pass, HASHES[2], "b");
-    let is_of_its_hash = !is_told(log, pass, HASHES[3], "a") && !is_told(log, pass, 7, "a");
+fn tells_one_text(asked: &mut Asked<'_>) -> bool {
+    let is_absent = !tells(asked, 2);
+    let is_kept = keeps(asked, HASHES[2], 2) && tells(asked, 2);
+    let is_compared = !is_told(asked, HASHES[2], "b");
+    let is_of_its_hash = !is_told(asked, HASHES[3], "a") && !is_told(asked, 7, "a");
     is_absent && is_kept && is_compared && is_of_its_hash
 }
 
 // Keeps the position of the text at a position. Returns whether its hint then tells it, each time.
-fn tells_what_it_keeps(log: &Log<Spur>, pass: &mut Pass<Spur>, position: usize) -> bool
-    requires { pass.old.of ≡ log.now }
-    ensures { pass.new.of ≡ log.now }
-{
-    if position >= 5 || !keeps(log, pass, HASHES[position], position as u64) {
+fn tells_what_it_keeps(asked: &mut Asked<'_>, position: usize) -> bool {
+    if position >= 5 || !keeps(asked, HASHES[position], position as u64) {
         return false;
     }
-    let first = tells(log, pass, position);
-    let second = tells(log, pass, position);
-    tells(log, pass, position) && first && second
+    let first = tells(asked, position);
+    let second = tells(asked, position);
+    tells(asked, position) && first && second
 }
 
 // Keeps the positions of five texts, whose hints are of one set of four. Returns whether each is told at first,
 // and that of the first text, which is asked for between the others, to the end.
-fn tells_what_is_asked_for(log: &Log<Spur>, pass: &mut Pass<Spur>) -> bool
-    requires { pass.old.of ≡ log.now }
-    ensures { pass.new.of ≡ log.now }
-{
-    let mut all = tells_what_it_keeps(log, pass, 0);
+fn tells_what_is_asked_for(asked: &mut Asked<'_>) -> bool {
+    let mut all = tells_what_it_keeps(asked, 0);
     for position in 1..5usize {
-        all &= tells_what_it_keeps(log, pass, position);
-        all &= tells(log, pass, 0);
+        all &= tells_what_it_keeps(asked, position);
+        all &= tells(asked, 0);
     }
     all
 }
 
 // Whether each hit is told, however many there are.
-fn tells_each_hit(log: &Log<Spur>, pass: &mut Pass<Spur>) -> bool
-    requires { pass.old.of ≡ log.now }
-    ensures { pass.new.of ≡ log.now }
-{
+fn tells_each_hit(asked: &mut Asked<'_>) -> bool {
     let mut all = true;
     for _ in 0..HITS {
-        all &= tells(log, pass, 4);
+        all &= tells(asked, 4);
     }
     all
 }
 
 // Asks for absent texts.
-fn misses(log: &Log<Spur>, pass: &mut Pass<Spur>)
-    requires { pass.old.of ≡ log.now }
-    ensures { pass.new.of ≡ log.now }
-{
+fn misses(asked: &mut Asked<'_>) {
     for _ in 0..MISSES {
-        let _found = is_told(log, pass, 7, "none");
+        let _found = is_told(asked, 7, "none");
     }
 }
 
 // Asks for absent texts until the last text is told, or until it is not told any more. Returns whether it came
 // to that.
-fn comes_to(log: &Log<Spur>, pass: &mut Pass<Spur>, is_told: bool) -> bool
-    requires { pass.old.of ≡ log.now }
-    ensures { pass.new.of ≡ log.now }
-{
+fn comes_to(asked: &mut Asked<'_>, is_told: bool) -> bool {
     for _ in 0..TURNS {
-        if tells(log, pass, 4) == is_told {
+        if tells(asked, 4) == is_told {
             return true;
         }
-        misses(log, pass);
+        misses(asked);
     }
     false
 }
 
 // The hints of five texts, which are asked for, and for absent texts.
-fn tell<R: Abort>(rt: &R, log: &Log<Spur>, pass: &mut Pass<Spur>)
-    requires { pass.old.of ≡ log.now }
-{
-    is_so(rt, tells_one_text(log, pass), "one text");
-    is_so(rt, tells_what_is_asked_for(log, pass), "a set of four");
-    is_so(rt, tells_each_hit(log, pass), "no rest");
-    is_so(rt, comes_to(log, pass, false), "a rest");
-    is_so(rt, comes_to(log, pass, true), "the end of the rest");
+fn tell<R: Abort>(rt: &R, asked: &mut Asked<'_>) {
+    is_so(rt, tells_one_text(asked), "one text");
+    is_so(rt, tells_what_is_asked_for(asked), "a set of four");
+    is_so(rt, tells_each_hit(asked), "no rest");
+    is_so(rt, comes_to(asked, false), "a rest");
+    is_so(rt, comes_to(asked, true), "the end of the rest");
 }
 
 // Appends the texts, and asks for them by hints.
@@ -186,12 +168,13 @@ fn append_and_tell<R: Abort + Wait>(
 {
     let mut pass = log.pass();
     add_three(rt, alloc, log, spine, &mut pass)?;
+    let mut asked = Asked { log, pass };
     // without a table nothing is kept
-    let is_asked = keeps(log, &mut pass, HASHES[2], 2);
-    is_so(rt, is_asked && !pass.has_hints(), "no hints");
-    is_so(rt, !tells(log, &mut pass, 2), "nothing is told");
-    hint(alloc, &mut pass)?;
-    tell(rt, log, &mut pass);
+    let is_asked = keeps(&mut asked, HASHES[2], 2);
+    is_so(rt, is_asked && !asked.pass.has_hints(), "no hints");
+    is_so(rt, !tells(&mut asked, 2), "nothing is told");
+    hint(alloc, &mut asked.pass)?;
+    tell(rt, &mut asked);
     Ok(())
 }
 
