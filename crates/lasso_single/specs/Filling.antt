@@ -28,7 +28,7 @@ abbrev pub InternsItems : {K S T : Type 0} → (S → Option T → S → Type 0)
 InternsItems {K} {S} {T} next_gives text key_at from old new =
     (items : List T) × Drains next_gives from items × InternsEach key_at old (map text items) new
 
--- the same up to an item that is refused, after which the iterator is not asked: its text changes nothing
+-- the same up to an item that is refused, whose text changes nothing
 abbrev pub StopsAtItem : {K S T : Type 0} → (S → Option T → S → Type 0) → (T → Text) → (ℕ → Option K) → S → InternerView → LassoError → InternerView → Type 0
 StopsAtItem {K} {S} {T} next_gives text key_at from old error new =
     (items : List T) × ((rest : S) × Yields next_gives from items rest) × StopsAtRefusal key_at old (map text items) error new

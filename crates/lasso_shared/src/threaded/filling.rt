@@ -37,7 +37,7 @@ impl<K: Key, S: BuildHasher + Drop> ThreadedRodeo<K, S> {
         ensures filled { OnOk result ((it : I.IntoIter) × (xs : List T) × I.into_iter_gives items it
             × Drains I.IntoIter.next_gives it xs × IsPlainFilling K.key_at self.now.opening (map T.text xs) (Ok tt)) }
 
-        // On failure the items before the refused one are interned, and it is the last that was taken.
+        // On failure the items before the refused one are interned.
         ensures refused { IfErr result (λ error. (it : I.IntoIter) × (xs : List T) × I.into_iter_gives items it
             × ((rest : I.IntoIter) × Yields I.IntoIter.next_gives it xs rest) × IsPlainFilling K.key_at self.now.opening (map T.text xs) (Err error)) }
         ensures opening { IsOpening K.key_at self.now.opening }
