@@ -10,12 +10,13 @@ from pygments import highlight
 from pygments.formatters import HtmlFormatter
 from pygments.lexers.rust import RustLexer
 
-from sources import NAME, imports
+import glossary
+from links import Links, Place, Scope, anchor, page_of_type
+from sources import ghosts_of, imports, variants_of
 
 KINDS = ("struct", "enum", "trait", "type")
-WORD = re.compile(r"[A-Za-z_][\w'-]*(?:\.[A-Za-z_][\w'-]*)*|\S|\s+")
 FORMATTER = HtmlFormatter(nowrap=True)
-SEARCH_SUMMARY = 90
+SEARCH_SUMMARY = 240
 # A name in highlighted code that may be a type's.
 TYPE_SHOWN = re.compile(r'(<span class="(?:n|nc|nb|kt)">)([A-Z]\w*)(</span>)')
 FIELD = re.compile(r"^(?:    ///.*\n)*    pub (?!ghost).*,$", re.MULTILINE)
@@ -40,22 +41,22 @@ def first_sentence(text):
     return re.split(r"(?<=\.) ", words)[0]
 
 
-Entry = collections.namedtuple("Entry", "name kind url summary")
+# A line of the search. `task` has what a reader may want of a call.
+Entry = collections.namedtuple("Entry", "name kind url summary task", defaults=("",))
 
 
 class Reference:
     """All that the pages link to: modules, types and definitions with their pages."""
 
-    def __init__(self, root, modules, definitions, lemmas, std_words, tasks):
+    def __init__(self, root, modules, definitions, passed_on, lemmas, std_words, tasks):
         self.root = root
         self.modules = modules
         self.definitions = definitions
-        self.constructors = {f"{key.rpartition('.')[0]}.{name}": key for key, one in definitions.items() for name in one.constructors}
         self.lemmas = lemmas
-        self.std_words = std_words
         self.tasks = tasks
         self.exports = self.exported()
         self.types = self.reachable_types()
+        self.links = Links(definitions, passed_on, std_words, self.types, dict(self.places()))
         self.entries = []
 
     def exported(self):
@@ -83,59 +84,22 @@ class Reference:
 
     # ---- links
 
-    def url_of_definition(self, key):
-        """Where a definition stands, or None."""
-        if key in self.definitions:
-            module, _, name = key.rpartition(".")
-            return f"words.{module.replace('.specs.', '.')}.html#{anchor(name)}"
-        parts = key.split(".")
-        if "declared" in parts:
-            crate, rest = parts[0], parts[parts.index("declared") + 1 :]
-            for word in reversed(rest):
-                if (crate, word) in self.types:
-                    return page_of_type(crate, word)
-        return None
-
-    def linked(self, text, names):
-        """Text of a clause or a definition, with a link at each name that has a definition."""
-        return "".join(self.linked_word(word, names) for word in WORD.findall(text))
-
-    def linked_word(self, word, names):
-        shown = html.escape(word)
-        key = names.get(word) or names.get(f"◌{word}◌") or (word if word in self.std_words and not NAME.match(word) else None)
-        if not key:
-            return self.linked_member(word, names)
-        key = key if key in self.definitions else self.constructors.get(key, key)
-        url = self.url_of_definition(key)
-        if url and key in self.definitions:
-            return f'<a class="word" data-word="{html.escape(key)}" href="{url}">{shown}</a>'
-        if url:
-            return f'<a href="{url}">{shown}</a>'
-        said = self.std_words.get(key.rpartition(".")[2]) or self.std_words.get(word)
-        if said:
-            stop = ' tabindex="0"' if NAME.match(word) else ""
-            return f'<abbr title="{html.escape(said)}"{stop}>{shown}</abbr>'
-        return shown
-
-    def linked_member(self, word, names):
-        """A name with a path, as `hasher.build`: its first part may have a definition."""
-        first, dot, rest = word.partition(".")
-        if dot and first in names and NAME.fullmatch(first):
-            return self.linked_word(first, names) + html.escape(dot + rest)
-        return html.escape(word)
-
-    def home_of_type(self, module, name):
-        """The crate of a type that code of a module names, or None."""
-        found = [crate for crate, other in self.types if other == name]
-        for crate in (module.crate, module.uses.get(name)):
-            if crate in found:
-                return crate
-        return found[0] if len(found) == 1 else None
+    def places(self):
+        """The parts of public types that clauses name, and the constants, by their keys."""
+        for (crate, name), (module, item) in self.types.items():
+            url = page_of_type(crate, name)
+            for part, said, text, _ in ghosts_of(item) if item.kind == "trait" else ():
+                yield f"{crate}.{name}.{part}", Place(said, text, f"{url}#ghost-{part}")
+            for part, said, _, _ in variants_of(item) if item.kind == "enum" else ():
+                yield f"{crate}.{name}.{part}", Place(" ".join(said.split()), f"{name}::{part}", f"{url}#variant-{part}")
+        for page in self.modules:
+            for _, item in self.constants_in(page) if page.is_public else ():
+                yield f"{page.crate}.{item.name}", Place(" ".join(item.docs.split()), item.head, f"{page_of_module(page)}#{item.name}")
 
     def typed(self, text, module):
         """Code of a module with a link at each type that has a page."""
         def link(shown):
-            home = self.home_of_type(module, shown[2])
+            home = self.links.home_of_type(module, shown[2])
             return f'{shown[1]}<a href="{page_of_type(home, shown[2])}">{shown[2]}</a>{shown[3]}' if home else shown[0]
 
         return TYPE_SHOWN.sub(link, code(text))
@@ -145,7 +109,7 @@ class Reference:
 
     # ---- parts of pages
 
-    def clauses(self, call, names):
+    def clauses(self, call, scope):
         """What a call asks of its caller, and what it promises."""
         parts = []
         for kind, title in (("requires", "The caller shows"), ("ensures", "Proved")):
@@ -157,20 +121,21 @@ class Reference:
                 above = f'<p class="group">{html.escape(clause.above)}</p>' if clause.above else ""
                 name = f'<span class="name">{html.escape(clause.name)}</span>' if clause.name else ""
                 fact = " ".join(clause.fact.split())
-                rows.append(f'<li>{above}{name}<code>{self.linked(fact, names)}</code></li>')
+                rows.append(f'<li>{above}{name}<code>{self.links.linked(fact, scope)}</code></li>')
             parts.append(f'<h4>{title}</h4><ul class="clauses">{"".join(rows)}</ul>')
         return "".join(parts)
 
     def call(self, module, item, call, url, owner):
         """A call with its comment, signature and clauses."""
-        names = {**module.names, **imports(item.body)}
+        owner_of_parts = item.name if item.kind == "trait" else item.trait.partition("<")[0]
+        scope = Scope({**module.names, **imports(item.body)}, module, owner_of_parts, item.head + call.signature)
         place = anchor(call.name) + ("" if not item.trait else "-" + anchor(item.trait))
         title = f"{owner}::{call.name}" if owner else call.name
-        self.entries.append(Entry(title, "call", f"{url}#{place}", first_sentence(call.docs)[:SEARCH_SUMMARY]))
+        self.entries.append(Entry(title, "call", f"{url}#{place}", first_sentence(call.docs)[:SEARCH_SUMMARY], self.task_of(title)))
         of = f' <small>of <code>{html.escape(item.trait)}</code></small>' if item.trait else ""
         return (
             f'<section class="call" id="{place}"><h3><a href="#{place}">{html.escape(call.name)}</a>{of}</h3>'
-            f'<pre class="signature">{self.typed(call.signature, module)}</pre>{prose(call.docs)}{self.clauses(call, names)}'
+            f'<pre class="signature">{self.typed(call.signature, module)}</pre>{prose(call.docs)}{self.clauses(call, scope)}'
             f"<p>{self.source_link(module.file, call.line)}</p></section>"
         )
 
@@ -197,23 +162,36 @@ class Reference:
         for module in self.modules:
             for item in module.items if module.crate == crate else ():
                 if item.name == name and (item.trait == "Model" or item.kind == "trait"):
-                    names = {**module.names, **imports(item.body)}
-                    for ghost in re.findall(r"^    ghost (?!use\b)(?:[^;{]|\{[^}]*\})*;", item.body, re.MULTILINE):
-                        lines.append(f"<li><code>{self.linked(' '.join(ghost.split()), names)}</code></li>")
+                    scope = Scope({**module.names, **imports(item.body)}, module, name if item.kind == "trait" else "", item.head)
+                    for part, said, text, _ in ghosts_of(item):
+                        above = f'<p class="group">{html.escape(said)}</p>' if said else ""
+                        if item.kind == "trait":
+                            self.entries.append(Entry(f"{name}::{part}", "in contracts", f"{page_of_type(crate, name)}#ghost-{part}", said))
+                        lines.append(f'<li id="ghost-{part}">{above}<code>{self.links.linked(text, scope)}</code></li>')
         return f'<h2>What contracts see</h2><ul class="clauses">{"".join(lines)}</ul>' if lines else ""
 
     def page_of_types(self):
         for (crate, name), (module, item) in self.types.items():
             url = page_of_type(crate, name)
             self.entries.append(Entry(name, item.kind, url, first_sentence(item.docs)[:SEARCH_SUMMARY]))
-            declared = item.head + shown_body(item)
+            declared = self.typed(item.head + shown_body(item), module)
+            if item.kind == "enum":
+                declared = self.with_variants(declared, item, url, name)
             body = (
                 f'<p class="path">{crate}</p><h1><small>{item.kind}</small> {name}</h1>'
-                f'<pre class="signature">{self.typed(declared, module)}</pre>{prose(item.docs, 2)}'
+                f'<pre class="signature">{declared}</pre>{prose(item.docs, 2)}'
                 f"<p>{self.source_link(module.file, item.line)}</p>"
                 f"{self.contract_view(crate, name)}{self.calls_of_type(crate, name, url)}"
             )
-            yield url, name, body
+            yield url, name, glossary.linked(body) if crate in glossary.THREADED else body
+
+    def with_variants(self, declared, item, url, name):
+        """The code of an enum with a place at each variant."""
+        lines = declared.split("\n")
+        for part, said, _, number in variants_of(item):
+            lines[number] = f'<span id="variant-{part}"></span>{lines[number]}'
+            self.entries.append(Entry(f"{name}::{part}", "variant", f"{url}#variant-{part}", first_sentence(said)[:SEARCH_SUMMARY]))
+        return "\n".join(lines)
 
     def page_of_modules(self):
         for module in self.modules:
@@ -222,7 +200,8 @@ class Reference:
             name = "::".join((module.crate, *module.path))
             url = page_of_module(module)
             self.entries.append(Entry(name, "module", url, first_sentence(module.docs)[:SEARCH_SUMMARY]))
-            yield url, name, f"<h1><small>module</small> {name}</h1>{prose(module.docs, 2)}{self.inside(module, url)}"
+            body = f"<h1><small>module</small> {name}</h1>{prose(module.docs, 2)}{self.inside(module, url)}"
+            yield url, name, glossary.linked(body) if module.crate in glossary.THREADED else body
 
     def inside(self, module, url):
         """What a module has: its modules, types and functions, and for a guide the whole file."""
@@ -238,6 +217,9 @@ class Reference:
                 parts.append(f"<h2>{title}</h2>{table(rows)}")
         if elsewhere:
             parts.append(f"<h2>Passed on from other modules</h2>{table(elsewhere)}")
+        constants = [self.constant(home, item, url) for home, item in self.constants_in(module)]
+        if constants:
+            parts.append("<h2>Constants</h2>" + "".join(constants))
         functions = [self.call(home, item, item.members[0], url, "") for home, item in self.functions_in(module)]
         if functions:
             parts.append("<h2>Functions</h2>" + "".join(functions))
@@ -287,6 +269,20 @@ class Reference:
                     if item.kind == "fn" and self.is_reached(home, item):
                         yield home, item
 
+    def constants_in(self, module):
+        """The public constants of a module, and those of modules of its own."""
+        for home in self.modules:
+            if self.is_shown_in(home, module):
+                yield from ((home, item) for item in home.items if item.kind == "const" and item.is_public)
+
+    def constant(self, home, item, url):
+        """A constant with its comment."""
+        self.entries.append(Entry(item.name, "constant", f"{url}#{item.name}", first_sentence(item.docs)[:SEARCH_SUMMARY]))
+        return (
+            f'<section class="constant" id="{item.name}"><pre>{self.typed(item.head + ";", home)}</pre>{prose(item.docs)}'
+            f"<p>{self.source_link(home.file, item.line)}</p></section>"
+        )
+
     def page_of_definitions(self):
         """A page for each file of specs."""
         files = collections.defaultdict(list)
@@ -305,7 +301,7 @@ class Reference:
         self.entries.append(Entry(title, kind, f"{url}#{place}", " ".join(one.docs.split())[:SEARCH_SUMMARY]))
         return (
             f'<section class="call" id="{place}"><h3><a href="#{place}">{html.escape(title)}</a></h3>'
-            f"{prose(one.docs)}<pre>{self.linked(one.text, one.names)}</pre>"
+            f"{prose(one.docs)}<pre>{self.links.linked(one.text, Scope(one.names))}</pre>"
             f"<p>{self.source_link(one.file, one.line)}</p></section>"
         )
 
@@ -317,17 +313,25 @@ class Reference:
             parts += [self.definition(one, "lemma", f"{name}.{one.name}", LEMMAS) for one in found]
         yield LEMMAS, "Lemmas", "".join(parts)
 
+    def page_of_glossary(self):
+        """The words of the documents."""
+        with open(os.path.join(self.root, glossary.SOURCE), encoding="utf-8") as source:
+            text = source.read()
+        self.entries += [Entry(name, "in the glossary", url, said[:SEARCH_SUMMARY]) for name, url, said in glossary.terms(text)]
+        yield glossary.URL, "Glossary", glossary.page_of(text)
+
     def front_page(self, introduction):
         """What a reader sees first: what lasso is, what one may want, and all crates."""
         tasks = [(self.url_of_call(call), call, task) for task, call in self.tasks]
         crates = [module for module in self.modules if not module.path]
         rows = [(page_of_module(one), one.crate, first_sentence(one.docs)) for one in crates]
         examples = [(page_of_module(one), one.path[0], first_sentence(one.docs)) for one in self.modules if one.crate == EXAMPLES and len(one.path) == 1]
+        reading = [(glossary.URL, "glossary", "The words of comments, as shard, spine, event and pass.")]
         proving = [(LEMMAS, "lemmas", "What a caller's proof cites."), ("module.lasso.laws.html", "laws", "Laws that a caller's body calls.")]
         return (
             f"<h1>lasso: a proved string interner</h1>{introduction}<h2>I want to ..</h2>"
             f'<table>{"".join(f"<tr><td>{html.escape(task)}</td><td><a href={chr(34)}{url}{chr(34)}><code>{call}</code></a></td></tr>" for url, call, task in tasks)}</table>'
-            f"<h2>Callers to copy</h2>{table(examples)}<h2>To prove</h2>{table(proving)}<h2>Crates</h2>{table(rows)}"
+            f"<h2>Words</h2>{table(reading)}<h2>Callers to copy</h2>{table(examples)}<h2>To prove</h2>{table(proving)}<h2>Crates</h2>{table(rows)}"
         )
 
     def url_of_call(self, call):
@@ -337,12 +341,12 @@ class Reference:
                 return entry.url
         raise LookupError(f"tasks.tsv: there is no public {call}")
 
-    def search_index(self):
-        return json.dumps([list(entry) for entry in sorted(set(self.entries))], ensure_ascii=False)
+    def task_of(self, call):
+        """What a reader may want of a call, or ''."""
+        return "; ".join(task for task, other in self.tasks if other == call)
 
-    def words(self):
-        """The comment and the text of each definition, for the box that opens at its name."""
-        return json.dumps({key: [" ".join(one.docs.split()), one.text] for key, one in self.definitions.items()}, ensure_ascii=False)
+    def search_index(self):
+        return json.dumps([list(entry) if entry.task else list(entry[:4]) for entry in sorted(set(self.entries))], ensure_ascii=False)
 
 
 def shown_body(item):
@@ -351,14 +355,6 @@ def shown_body(item):
         return " {" + item.body + "}"
     fields = FIELD.findall(item.body) if item.kind == "struct" else []
     return " {\n" + "\n".join(fields) + "\n}" if fields else ""
-
-
-def anchor(name):
-    return re.sub(r"[^\w-]", "_", name)
-
-
-def page_of_type(crate, name):
-    return f"type.{crate}.{name}.html"
 
 
 def page_of_module(module):
@@ -391,7 +387,7 @@ def page(title, body, front="index.html"):
 <input id="search" type="search" autocomplete="off" aria-controls="found" placeholder="a call, a type or a word: press /"></form></header>
 <ol id="found" hidden></ol>
 <main>{body}</main>
-<div id="box" role="tooltip" hidden></div>
+<div id="box" role="region" aria-label="Definition" hidden></div>
 </body>
 </html>
 """

@@ -1,9 +1,12 @@
-// Search over SEARCH (name, kind, page, summary), and a box with the text of a word of contracts from WORDS.
+// Search over SEARCH (name, kind, page, first sentence, what a reader may want of it), and a box with a word of contracts from WORDS:
+// what is said of it, its text, its page, and the numbers of the words in its text that have a page too.
 "use strict";
 const search = document.getElementById("search");
 const found = document.getElementById("found");
 const box = document.getElementById("box");
 const MOST = 40;
+const SHOWN = 90;
+const KEYS = Object.keys(WORDS);
 
 // How well an entry fits: 0 is best, from NONE on it does not fit. Of several words each has to fit.
 const NONE = 4;
@@ -16,10 +19,16 @@ function rank(entry, asked) {
 }
 
 function rankWord(entry, asked) {
+  const shorter = asked.replace(/(?<=.{3})(s|ing)$/, "");
+  return Math.min(rankForm(entry, asked), shorter === asked ? NONE : rankForm(entry, shorter) + 0.5);
+}
+
+function rankForm(entry, asked) {
   const name = entry[0].toLowerCase();
   const last = name.split("::").pop();
   if (last === asked || name === asked) return 0;
   if (last.startsWith(asked)) return 1;
+  if (entry.length > 4 && entry[4].split(/\W+/).some((word) => word.startsWith(asked))) return 1.5;
   if (name.includes(asked)) return 2;
   return entry[3].toLowerCase().includes(asked) ? 3 : NONE;
 }
@@ -37,7 +46,7 @@ function show() {
     link.href = url;
     link.textContent = name;
     const said = document.createElement("small");
-    said.textContent = ` ${kind}. ${summary}`;
+    said.textContent = ` ${kind}. ${summary.slice(0, SHOWN)}`;
     line.append(link, said);
     found.append(line);
   }
@@ -61,21 +70,42 @@ document.addEventListener("keydown", (event) => {
   if (event.key === "Escape") { box.hidden = true; found.hidden = true; }
 });
 
+function linkTo(page, words) {
+  const link = document.createElement("a");
+  link.href = page;
+  link.textContent = words;
+  return link;
+}
+
+// The text of a definition, with a link at each word that has a page.
+function withLinks(text, numbers) {
+  const keys = new Map(numbers.map((number) => [KEYS[number].split(".").pop(), KEYS[number]]));
+  return text.split(/([A-Za-z_][\w'-]*)/).map((part) => (keys.has(part) ? linkTo(WORDS[keys.get(part)][2], part) : part));
+}
+
 function open(word) {
-  const [said, text] = WORDS[word.dataset.word] || [];
-  if (text === undefined) return;
+  if (!WORDS[word.dataset.word]) return;
+  stay();
+  const [said, text, page, ...numbers] = WORDS[word.dataset.word];
   const comment = document.createElement("div");
-  comment.textContent = said;
+  comment.append(linkTo(page, word.dataset.word.split(".").pop()), said ? `: ${said.replaceAll("`", "")}` : "");
   const definition = document.createElement("pre");
-  definition.textContent = text;
+  definition.append(...withLinks(text, numbers));
   box.replaceChildren(comment, definition);
   const place = word.getBoundingClientRect();
   box.hidden = false;
-  box.style.top = `${place.bottom + scrollY + 4}px`;
+  const above = place.top - box.offsetHeight - 4;
+  const fitsBelow = place.bottom + box.offsetHeight + 4 <= innerHeight;
+  box.style.top = `${scrollY + (fitsBelow || above < 0 ? place.bottom + 4 : above)}px`;
   box.style.left = `${Math.max(8, Math.min(place.left + scrollX, scrollX + innerWidth - box.offsetWidth - 8))}px`;
 }
 
-function close() { box.hidden = true; }
+// The box closes a moment after the pointer left its word, and stays while the pointer is in it.
+let closing = 0;
+function stay() { clearTimeout(closing); }
+function close() { stay(); closing = setTimeout(() => { box.hidden = true; }, 250); }
+box.addEventListener("mouseenter", stay);
+box.addEventListener("mouseleave", close);
 
 for (const word of document.querySelectorAll("a.word")) {
   word.addEventListener("mouseenter", () => open(word));

@@ -9,7 +9,7 @@ import re
 
 CRATE = re.compile(r"^(\w+)(?: \w+)*:", re.MULTILINE)
 LEFT_OUT = re.compile(r"(?:test|tool)_\w+|lasso_saving")
-IMPORT = re.compile(r"^ *(?:ghost )?use Rattle\.([\w.]+?)\.(?:\{([^}]*)\}|(\w+))(?: as (\w+))?;?$", re.MULTILINE)
+IMPORT = re.compile(r"^ *(?:ghost )?use (?:Rattle\.)?([\w.]+?)\.(?:\{([^}]*)\}|(\w+))(?: as (\w+))?;?$", re.MULTILINE)
 MODULE = re.compile(r"^(pub )?mod (\w+);", re.MULTILINE)
 EXPORT = re.compile(r"^pub use (?:crate::|self::|super::)?([\w:]+?)(?:::)?(?:\{([^}]*)\}|(?<=::)(\w+))?;", re.MULTILINE)
 ITEM = re.compile(
@@ -19,6 +19,9 @@ ITEM = re.compile(
 USED = re.compile(r"^(?:pub )?use (lasso\w*)(?:::\w+)*?::(?:\{([^}]*)\}|(\w+));", re.MULTILINE)
 CONSTRUCTOR = re.compile(r"^  ([A-Za-z][\w']*) :")
 LEMMA = re.compile(r"^( *)pub ([\w'-]+) : ")
+PASSED_ON = re.compile(r"^pub use Rattle\.([\w.]+)\.(\w+)(?: as (\w+))?$", re.MULTILINE)
+GHOST = re.compile(r"^    ghost (?!use\b)(\w+)(?:[^;{]|\{[^}]*\})*;", re.MULTILINE)
+VARIANT = re.compile(r"^    ([A-Z]\w*)\b", re.MULTILINE)
 DEFINITION = re.compile(r"^(?:abbrev pub|unfoldable pub|pub record|pub data|pub|pub syntax) ([\w'◌≡]+)")
 NAME = re.compile(r"[A-Za-z_][\w'-]*")
 
@@ -236,6 +239,31 @@ def exports_of(text):
 def used_in(text):
     """Of each name that a file uses of a crate of the repository, that crate."""
     return {word.strip(): crate for crate, group, one in USED.findall(text) for word in (group or one).split(",")}
+
+
+def passed_on(root, crate):
+    """Of each module of specs that a crate passes on to callers, the path that it has elsewhere."""
+    listed = os.path.join(root, "crates", crate, "specs", "Lib.antt")
+    found = PASSED_ON.findall(read(listed)) if os.path.isfile(listed) else ()
+    return {f"{crate}.specs.{renamed or name}": f"{path}.{name}" for path, name, renamed in found}
+
+
+def parts_of(item, form, mark):
+    """The parts of an item that have a form, each with its name, comment, text and line of the item's body."""
+    lines = item.body.split("\n")
+    for match in form.finditer(item.body):
+        number = item.body.count("\n", 0, match.start())
+        yield match.group(1), comment_above(lines, number, mark), " ".join(match.group().split()), number
+
+
+def ghosts_of(item):
+    """What contracts see of a trait or of a type's `Model`."""
+    return parts_of(item, GHOST, "//")
+
+
+def variants_of(item):
+    """The variants of an enum."""
+    return parts_of(item, VARIANT, "///")
 
 
 def modules_of(root, crate):
