@@ -21,18 +21,18 @@ struct interner {
     pthread_mutex_t lock;
 };
 
-/* A part of the calls: which lines are interned, or which codes are resolved, and the sum of the codes or lengths. */
+/* A part of the calls: the lines that are interned, in their order, or the codes that are resolved, and the sum of the codes or lengths. */
 struct part {
     pthread_t thread;
     struct interner *interner;
     struct lasso_shared handle;
     const struct lines *lines;
-    const uint32_t *order, *codes;
-    size_t count;
+    const uint32_t *codes;
+    size_t first, count;
     uint64_t sum;
 };
 
-static uint32_t intern(struct part *part, uint32_t line)
+static uint32_t intern(struct part *part, size_t line)
 {
     const int32_t *at = part->lines->offsets + line;
     const uint8_t *text = part->lines->bytes + at[0];
@@ -54,7 +54,7 @@ static void *intern_all(void *argument)
 {
     struct part *part = argument;
     for (size_t at = 0; at < part->count; at++)
-        part->sum += intern(part, part->order[at]);
+        part->sum += intern(part, part->first + at);
     return NULL;
 }
 
@@ -115,70 +115,89 @@ static void time_parts(const char *call, int threads, struct part *parts, void *
     printf("%s %d %.1f\n", call, threads, nanoseconds / (double)parts[0].count);
 }
 
-/* The lines in another order, the first line of each text, and what the sums have to be. */
+/* The lines in another order with their codes, the texts in the order of their codes, and what the sums have to be. */
 struct work {
-    struct lines lines;
-    uint32_t *again, *firsts, *codes;
-    size_t texts;
-    uint64_t positions, lengths;
+    struct lines again, texts;
+    uint32_t *codes;
+    uint64_t positions;
 };
+
+static struct lines room_for(const struct lines *lines)
+{
+    struct lines made = {room(lines->length), 0, room((lines->count + 1) * sizeof *made.offsets), 0};
+    made.offsets[0] = 0;
+    return made;
+}
+
+/* Appends a line of others. */
+static void append(struct lines *lines, const struct lines *others, size_t line)
+{
+    size_t length = (size_t)(others->offsets[line + 1] - others->offsets[line]);
+    memcpy(lines->bytes + lines->length, others->bytes + others->offsets[line], length);
+    lines->length += length;
+    lines->offsets[++lines->count] = (int32_t)lines->length;
+}
 
 static struct work read_work(struct interner *filled)
 {
-    struct work work = {.lines = read_lines(stdin)};
-    struct part part = {.interner = filled, .lines = &work.lines};
-    size_t count = work.lines.count;
-    work.again = room(count * sizeof *work.again);
-    work.firsts = room(count * sizeof *work.firsts);
-    work.codes = room(count * sizeof *work.codes);
+    struct lines lines = read_lines(stdin);
+    struct work work = {room_for(&lines), room_for(&lines), room(lines.count * sizeof *work.codes), 0};
+    struct part part = {.interner = filled, .lines = &lines};
     if (filled->is_shared && lasso_shared_join(&filled->shared, &part.handle) != LASSO_DONE)
         fail("out of memory");
-    for (size_t line = 0; line < count; line++) {
-        uint32_t code = intern(&part, (uint32_t)line);
-        if (code > work.texts)
+    for (size_t line = 0; line < lines.count; line++) {
+        uint32_t code = intern(&part, line);
+        if (code > work.texts.count)
             fail("a wrong code");
-        if (code == work.texts)
-            work.firsts[work.texts++] = (uint32_t)line;
+        if (code == work.texts.count)
+            append(&work.texts, &lines, line);
         work.positions += code;
-        work.again[line] = (uint32_t)(line * STRIDE % count);
     }
-    for (size_t at = 0; at < count; at++)
-        work.codes[at] = intern(&part, work.again[at]);
-    work.lengths = work.lines.length;
+    for (size_t at = 0; at < lines.count; at++) {
+        size_t line = at * STRIDE % lines.count;
+        append(&work.again, &lines, line);
+        work.codes[at] = intern(&part, line);
+    }
     lasso_shared_free(&part.handle);
+    free(lines.bytes);
+    free(lines.offsets);
     return work;
+}
+
+/* One round of calls by this number of threads. */
+static void time_calls(struct interner *filled, const struct work *work, int threads)
+{
+    struct interner fresh = {.is_shared = filled->is_shared};
+    struct part present[MOST_THREADS] = {{0}}, fill[MOST_THREADS] = {{0}}, resolve[MOST_THREADS] = {{0}};
+    size_t texts = work->texts.count, share = (texts + (size_t)threads - 1) / (size_t)threads;
+    for (int at = 0; at < threads; at++) {
+        size_t first = share * (size_t)at, left = first < texts ? texts - first : 0;
+        present[at] = (struct part){.interner = filled, .lines = &work->again, .count = work->again.count};
+        resolve[at] = (struct part){.interner = filled, .codes = work->codes, .count = work->again.count};
+        fill[at] = (struct part){.interner = &fresh, .lines = &work->texts, .first = first, .count = left < share ? left : share};
+    }
+    time_parts("present", threads, present, intern_all, (uint64_t)threads * work->positions);
+    begin(&fresh);
+    time_parts("new", threads, fill, intern_all, (uint64_t)texts * (texts - 1) / 2);
+    end(&fresh);
+    time_parts("resolve", threads, resolve, resolve_all, (uint64_t)threads * work->again.length);
 }
 
 int main(int argc, char **argv)
 {
-    struct interner filled = {0}, fresh = {0};
+    struct interner filled = {0};
     if (argc != 2 || (strcmp(argv[1], "shared") != 0 && strcmp(argv[1], "mutex") != 0))
         fail("usage: threads shared|mutex < LINES");
-    filled.is_shared = fresh.is_shared = strcmp(argv[1], "shared") == 0;
+    filled.is_shared = strcmp(argv[1], "shared") == 0;
     begin(&filled);
     struct work work = read_work(&filled);
-    for (size_t k = 0; k < sizeof THREADS / sizeof *THREADS; k++) {
-        int threads = THREADS[k];
-        struct part present[MOST_THREADS] = {{0}}, fill[MOST_THREADS] = {{0}}, resolve[MOST_THREADS] = {{0}};
-        size_t share = (work.texts + (size_t)threads - 1) / (size_t)threads;
-        for (int at = 0; at < threads; at++) {
-            size_t from = share * (size_t)at;
-            present[at] = (struct part){.interner = &filled, .lines = &work.lines, .order = work.again, .count = work.lines.count};
-            resolve[at] = (struct part){.interner = &filled, .codes = work.codes, .count = work.lines.count};
-            fill[at] = (struct part){.interner = &fresh, .lines = &work.lines, .order = work.firsts + from,
-                                     .count = from >= work.texts ? 0 : work.texts - from < share ? work.texts - from : share};
-        }
-        time_parts("present", threads, present, intern_all, (uint64_t)threads * work.positions);
-        begin(&fresh);
-        time_parts("new", threads, fill, intern_all, (uint64_t)work.texts * (work.texts - 1) / 2);
-        end(&fresh);
-        time_parts("resolve", threads, resolve, resolve_all, (uint64_t)threads * work.lengths);
-    }
+    for (size_t at = 0; at < sizeof THREADS / sizeof *THREADS; at++)
+        time_calls(&filled, &work, THREADS[at]);
     end(&filled);
-    free(work.lines.bytes);
-    free(work.lines.offsets);
-    free(work.again);
-    free(work.firsts);
+    free(work.again.bytes);
+    free(work.again.offsets);
+    free(work.texts.bytes);
+    free(work.texts.offsets);
     free(work.codes);
     return 0;
 }
