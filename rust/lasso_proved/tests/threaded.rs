@@ -189,7 +189,7 @@ fn threads_share_what_a_limit_leaves() {
         });
         let used: usize = rodeo.strings().map(str::len).sum();
         assert_eq!(rodeo.current_memory_usage(), used);
-        assert!(used <= limit && !refused[0].is_empty());
+        assert!(used <= limit && refused.iter().any(|its| !its.is_empty()));
         assert!(refused.iter().flatten().all(|length| used + length > limit));
     }
 }
@@ -212,7 +212,7 @@ fn limits_fall_while_threads_intern() {
 
 #[test]
 fn threads_share_the_last_keys() {
-    for _ in 0..20 {
+    for _ in 0..5 {
         let rodeo: ThreadedRodeo<MicroSpur> = (0..250).map(|number| text_of(number, 20)).collect();
         let taken = at_once(MANY, |number| {
             let key = rodeo.try_get_or_intern(text_of(1000 + number, 20));
@@ -228,7 +228,7 @@ fn threads_share_the_last_keys() {
 
 #[test]
 fn the_first_text_has_the_first_key_in_64_threads() {
-    for round in 0..20 {
+    for round in 0..4 {
         let rodeo: ThreadedRodeo<MiniSpur> = ThreadedRodeo::new();
         at_once(MANY, |number| {
             let intern = |text| match (number + round) % 2 {
