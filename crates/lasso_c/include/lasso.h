@@ -502,10 +502,11 @@ void lasso_free(struct lasso *lasso);
  * interner, and a code is a position in it. So a text has one code in all threads, and keeps it.
  *
  * Each thread has a handle of its own, which lasso_shared_join makes from any handle of the interner. Join in the
- * thread that owns that handle, before the other thread starts. One call at a time uses a handle, even to read; ordering the calls of two threads with one handle is the caller's, by a lock or a
- * thread's start or join. Calls with different handles may run at once, and need no order. memcpy may move a handle if
- * the old copy is never passed to a call again. The interner lasts until its last handle is freed, in any order. A
- * program with threads is linked with -pthread, too.
+ * thread that owns that handle, before the other thread starts. One call at a time uses a handle, even to read;
+ * ordering the calls of two threads with one handle is the caller's, by a lock or a thread's start or join. Calls with
+ * different handles may run at once, and need no order. memcpy may move a handle if the old copy is never passed to a
+ * call again. The interner lasts until its last handle is freed, in any order. A program with threads is linked with
+ * -pthread, too.
  *
  * No call waits. lasso_shared_intern and lasso_shared_get return LASSO_BUSY if another thread is inside a step of the
  * interner, after they looked about a hundred times. The caller tries again, as lasso_shared_intern_wait and
