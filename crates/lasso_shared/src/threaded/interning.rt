@@ -38,11 +38,12 @@ impl<K: Key, S: BuildHasher + Drop> ThreadedRodeo<K, S> {
         ensures key { IfOk result (λ key. HasKey K.key_at self.now.opening (seen pass.new) text.now key) }
         ensures present { (key : K) → HasKey K.key_at self.now.opening (seen pass.old) text.now key → result ≡ Ok key }
 
-        // What stays
+        // The pass stays the same one, and what it has seen only grows.
         ensures same { IsSamePass pass.new pass.old }
         ensures kept { IsPrefix (seen pass.old) (seen pass.new) }
 
-        // The reply and the events, by one list of all threads
+        // One list of all threads explains the reply and the events of the call, at a moment between what the pass had seen and
+        // what it then has seen.
         ensures call { IsPassCall K.key_at self.now pass.old pass.new (Intern Copied text.now) (Interned result) }
         ensures opening { IsOpening K.key_at self.now.opening }
         ensures legal { IsLegal K.key_at self.now.opening (seen pass.new) }
@@ -75,11 +76,12 @@ impl<K: Key, S: BuildHasher + Drop> ThreadedRodeo<K, S> {
         ensures key { IfOk result (λ key. HasKey K.key_at self.now.opening (seen pass.new) text.now key) }
         ensures present { (key : K) → HasKey K.key_at self.now.opening (seen pass.old) text.now key → result ≡ Ok key }
 
-        // What stays
+        // The pass stays the same one, and what it has seen only grows.
         ensures same { IsSamePass pass.new pass.old }
         ensures kept { IsPrefix (seen pass.old) (seen pass.new) }
 
-        // The reply and the events, by one list of all threads
+        // One list of all threads explains the reply and the events of the call, at a moment between what the pass had seen and
+        // what it then has seen.
         ensures call { IsPassCall K.key_at self.now pass.old pass.new (Intern Static text.now) (Interned result) }
         ensures opening { IsOpening K.key_at self.now.opening }
         ensures legal { IsLegal K.key_at self.now.opening (seen pass.new) }

@@ -32,11 +32,11 @@ impl<K: Key, S: BuildHasher + Drop> ThreadedRodeo<K, S> {
         ensures key { IfSome result (λ key. HasKey K.key_at self.now.opening (seen pass.new) text.now key) }
         ensures present { (key : K) → HasKey K.key_at self.now.opening (seen pass.old) text.now key → result ≡ Some key }
 
-        // What stays
+        // The pass stays the same one, and what it has seen only grows.
         ensures same { IsSamePass pass.new pass.old }
         ensures kept { IsPrefix (seen pass.old) (seen pass.new) }
 
-        // The reply and the events, by one list of all threads
+        // One list of all threads explains the reply at a moment between what the pass had seen and what it then has seen.
         ensures call { IsPassCall K.key_at self.now pass.old pass.new (Get text.now) (Found result) }
         ensures opening { IsOpening K.key_at self.now.opening }
         ensures legal { IsLegal K.key_at self.now.opening (seen pass.new) }
@@ -61,11 +61,11 @@ impl<K: Key, S: BuildHasher + Drop> ThreadedRodeo<K, S> {
         // The key of a text that the pass had seen is contained.
         ensures present { (text : Text) → HasKey K.key_at self.now.opening (seen pass.old) text key → IsTrue result }
 
-        // What stays
+        // The pass stays the same one, and what it has seen only grows.
         ensures same { IsSamePass pass.new pass.old }
         ensures kept { IsPrefix (seen pass.old) (seen pass.new) }
 
-        // The reply and the events, by one list of all threads
+        // One list of all threads explains the reply at a moment between what the pass had seen and what it then has seen.
         ensures call { IsPassCall K.key_at self.now pass.old pass.new (ContainsKey (K.number key)) (Flag result) }
         ensures opening { IsOpening K.key_at self.now.opening }
         ensures legal { IsLegal K.key_at self.now.opening (seen pass.new) }
@@ -89,11 +89,11 @@ impl<K: Key, S: BuildHasher + Drop> ThreadedRodeo<K, S> {
         // The key of a text that the pass had seen resolves to it.
         ensures present { (text : Text) → HasKey K.key_at self.now.opening (seen pass.old) text key → option_map (λ t. t.now) result ≡ Some text }
 
-        // What stays
+        // The pass stays the same one, and what it has seen only grows.
         ensures same { IsSamePass pass.new pass.old }
         ensures kept { IsPrefix (seen pass.old) (seen pass.new) }
 
-        // The reply and the events, by one list of all threads
+        // One list of all threads explains the reply at a moment between what the pass had seen and what it then has seen.
         ensures call { IsPassCall K.key_at self.now pass.old pass.new (Resolve (K.number key)) (Resolved (option_map (λ t. t.now) result)) }
         ensures opening { IsOpening K.key_at self.now.opening }
         ensures legal { IsLegal K.key_at self.now.opening (seen pass.new) }

@@ -39,10 +39,10 @@ impl<K: Key, S: BuildHasher, A: Allocator> Rodeo<K, S, A> {
         texts: &[&str],
         keys: &mut Vec<Option<K>, B>,
     ) -> LassoResult<()>
-        // On success
+        // On success `keys` has at its end each text's key in order, or `None` of an absent one.
         ensures keys { OnOk result (AddsFound K.key_at self.now.texts (map (λ t. t.now) texts.now) keys.old.items keys.new.items) }
 
-        // On failure
+        // On failure memory ran out for `keys`, which has the same items. With room for all it can't.
         ensures unchanged { OnErr result (keys.new.items ≡ keys.old.items) }
         ensures refused { IfErr result (λ error. (error ≡ FailedAllocation) × (vec_capacity keys.old < vec_len keys.old + length texts.now)) }
     {
@@ -85,10 +85,10 @@ impl<K: Key, S: BuildHasher, A: Allocator> Rodeo<K, S, A> {
     ) -> LassoResult<()>
         requires { HaveTexts K.number self.now.texts keys.now }
 
-        // On success
+        // On success `texts` has at its end each key's text in order.
         ensures texts { OnOk result (AddsTexts K.number self.now.texts keys.now texts.old.items texts.new.items) }
 
-        // On failure
+        // On failure memory ran out for `texts`, which has the same items. With room for all it can't.
         ensures unchanged { OnErr result (texts.new.items ≡ texts.old.items) }
         ensures refused { IfErr result (λ error. (error ≡ FailedAllocation) × (vec_capacity texts.old < vec_len texts.old + length keys.now)) }
     {

@@ -29,12 +29,12 @@ impl<K: Key, S: BuildHasher + Clone, A: Allocator + Clone> Rodeo<K, S, A> {
     /// assert!(rt; copy.current_memory_usage() == 13);
     /// ```
     pub fn try_clone(&self) -> LassoResult<Self>
-        // On success it has the same texts in one bucket of their bytes, under this limit or that size if it is greater.
+        // On success the clone has the same texts in one bucket of their bytes. Its limit is this one's, or that size if it is greater.
         ensures texts { IfOk result (λ r. r.texts ≡ self.now.texts) }
         ensures account { IfOk result (λ r. clone_of self.now.texts self.now.account.limit ≡ Some r.account) }
         ensures made { IfOk result (IsMadeWith (clone_size self.now.texts) (bytes_of self.now.texts)) }
 
-        // On failure memory ran out, as it does if a `usize` can't count the texts' bytes.
+        // The error is always that memory ran out. It is certain if a `usize` can't count the texts' bytes.
         ensures refused { IfErr result (λ error. error ≡ FailedAllocation) }
         ensures overflow { 2 ^ 64 ≤ bytes_of self.now.texts → result ≡ Err FailedAllocation }
     {
@@ -65,12 +65,12 @@ impl<K: Key, S: BuildHasher + Clone, A: Allocator + Clone> Rodeo<K, S, A> {
     /// assert!(rt; other.try_resolve(hello) == Some("Hello, world!"));
     /// ```
     pub fn clone(&self) -> LassoResult<Self>
-        // On success it has the same texts in one bucket of their bytes, under this limit or that size if it is greater.
+        // On success the clone has the same texts in one bucket of their bytes. Its limit is this one's, or that size if it is greater.
         ensures texts { IfOk result (λ r. r.texts ≡ self.now.texts) }
         ensures account { IfOk result (λ r. clone_of self.now.texts self.now.account.limit ≡ Some r.account) }
         ensures made { IfOk result (IsMadeWith (clone_size self.now.texts) (bytes_of self.now.texts)) }
 
-        // On failure memory ran out, as it does if a `usize` can't count the texts' bytes.
+        // The error is always that memory ran out. It is certain if a `usize` can't count the texts' bytes.
         ensures refused { IfErr result (λ error. error ≡ FailedAllocation) }
         ensures overflow { 2 ^ 64 ≤ bytes_of self.now.texts → result ≡ Err FailedAllocation }
     {
@@ -96,11 +96,11 @@ impl<K: Key, S: BuildHasher + Clone, A: Allocator + Clone> Rodeo<K, S, A> {
         ensures copied { OnOk result (self.new.copied ≡ bytes_of source.now.texts) }
         ensures most { OnOk result (self.new.most ≡ most_copied self.old) }
 
-        // What stays is the first bucket's size. Either way it counts as cleared.
+        // In each case the first bucket's size stays, and the interner counts as once cleared.
         ensures first { self.new.first ≡ self.old.first }
         ensures mark { self.new.is_cleared ≡ true }
 
-        // On failure the limit had no room for a text, or memory ran out, and no text is left.
+        // On failure the limit had no room for a text, or memory ran out. No text is left: those stored so far were cleared again.
         ensures reason { IfErr result (λ error. (error ≡ MemoryLimitReached) ⊎ (error ≡ FailedAllocation)) }
         ensures emptied { OnErr result (self.new.texts ≡ []) }
         ensures uncopied { OnErr result (self.new.copied ≡ 0) }
@@ -135,11 +135,11 @@ impl<K: Key, S: BuildHasher + Clone, A: Allocator + Clone> Rodeo<K, S, A> {
         ensures copied { OnOk result (self.new.copied ≡ bytes_of source.now.texts) }
         ensures most { OnOk result (self.new.most ≡ most_copied self.old) }
 
-        // What stays is the first bucket's size. Either way it counts as cleared.
+        // In each case the first bucket's size stays, and the interner counts as once cleared.
         ensures first { self.new.first ≡ self.old.first }
         ensures mark { self.new.is_cleared ≡ true }
 
-        // On failure the limit had no room for a text, or memory ran out, and no text is left.
+        // On failure the limit had no room for a text, or memory ran out. No text is left: those stored so far were cleared again.
         ensures reason { IfErr result (λ error. (error ≡ MemoryLimitReached) ⊎ (error ≡ FailedAllocation)) }
         ensures emptied { OnErr result (self.new.texts ≡ []) }
         ensures uncopied { OnErr result (self.new.copied ≡ 0) }

@@ -38,7 +38,7 @@ impl<K: Key, S: BuildHasher, A: Allocator + Clone> Rodeo<K, S, A> {
         ensures filled { OnOk result ((it : I.IntoIter) × I.into_iter_gives items it
             × InternsItems I.IntoIter.next_gives T.text K.key_at it self.old self.new) }
 
-        // On failure the items before the refused one are interned, and that one changed nothing.
+        // On failure the items before the refused one are interned, and that one changed nothing: the error is its own.
         ensures refused { IfErr result (λ error. (it : I.IntoIter) × I.into_iter_gives items it
             × StopsAtItem I.IntoIter.next_gives T.text K.key_at it self.old error self.new) }
     {

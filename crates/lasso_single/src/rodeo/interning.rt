@@ -38,10 +38,10 @@ impl<K: Key, S: BuildHasher, A: Allocator + Clone> Rodeo<K, S, A> {
         ensures account { IsAbsent self.old text.now → OnOk result (account_with self.old text.now ≡ Some self.new.account) }
         ensures copied { IsAbsent self.old text.now → OnOk result (self.new.copied ≡ self.old.copied + length text.now) }
 
-        // What stays
+        // What stays in each case: the first bucket's size, and the record of clears
         ensures origin { KeepsOrigin self.old self.new }
 
-        // On failure nothing changes. The first reason that applies is the error; for a present text none does.
+        // On failure nothing changes. No key left comes before the limit, and the limit before memory, which may run out at any time.
         ensures unchanged { OnErr result (self.new ≡ self.old) }
         ensures no_key { (result ≡ Err KeySpaceExhaustion) ↔ (IsAbsent self.old text.now × (next_key K.key_at self.old ≡ None)) }
         ensures limit { (result ≡ Err MemoryLimitReached)
@@ -49,7 +49,7 @@ impl<K: Key, S: BuildHasher, A: Allocator + Clone> Rodeo<K, S, A> {
         ensures memory { result ≡ Err FailedAllocation
             → IsAbsent self.old text.now × IsSome (next_key K.key_at self.old) × IsSome (account_with self.old text.now) }
 
-        // All of this at once
+        // The same facts as one relation
         ensures all { InternsIn K.key_at self.old text.now result self.new }
     {
         self.intern(text)
@@ -116,10 +116,10 @@ impl<K: Key, S: BuildHasher, A: Allocator + Clone> Rodeo<K, S, A> {
         ensures account { IsAbsent self.old text.now → OnOk result (account_with self.old text.now ≡ Some self.new.account) }
         ensures copied { IsAbsent self.old text.now → OnOk result (self.new.copied ≡ self.old.copied + length text.now) }
 
-        // What stays
+        // What stays in each case: the first bucket's size, and the record of clears
         ensures origin { KeepsOrigin self.old self.new }
 
-        // On failure nothing changes. The first reason that applies is the error; for a present text none does.
+        // On failure nothing changes. No key left comes before the limit, and the limit before memory, which may run out at any time.
         ensures unchanged { OnErr result (self.new ≡ self.old) }
         ensures no_key { (result ≡ Err KeySpaceExhaustion) ↔ (IsAbsent self.old text.now × (next_key K.key_at self.old ≡ None)) }
         ensures limit { (result ≡ Err MemoryLimitReached)
@@ -127,7 +127,7 @@ impl<K: Key, S: BuildHasher, A: Allocator + Clone> Rodeo<K, S, A> {
         ensures memory { result ≡ Err FailedAllocation
             → IsAbsent self.old text.now × IsSome (next_key K.key_at self.old) × IsSome (account_with self.old text.now) }
 
-        // All of this at once
+        // The same facts as one relation
         ensures all { InternsIn K.key_at self.old text.now result self.new }
     {
         self.try_get_or_intern(text)
@@ -151,18 +151,18 @@ impl<K: Key, S: BuildHasher, A: Allocator + Clone> Rodeo<K, S, A> {
         ensures present { IsPresent self.old text.now → IsOk result × (self.new ≡ self.old) }
         ensures appended { IsAbsent self.old text.now → OnOk result (self.new.texts ≡ self.old.texts ++ text.now ∷ []) }
 
-        // What stays: no byte is copied.
+        // What stays in each case: no byte is copied.
         ensures account { self.new.account ≡ self.old.account }
         ensures copied { self.new.copied ≡ self.old.copied }
         ensures origin { KeepsOrigin self.old self.new }
 
-        // On failure nothing changes. The first reason that applies is the error; the limit is none.
+        // On failure nothing changes. No key left comes before memory, which may run out at any time; the limit is never the error.
         ensures unchanged { OnErr result (self.new ≡ self.old) }
         ensures no_key { (result ≡ Err KeySpaceExhaustion) ↔ (IsAbsent self.old text.now × (next_key K.key_at self.old ≡ None)) }
         ensures no_limit { result ≢ Err MemoryLimitReached }
         ensures memory { result ≡ Err FailedAllocation → IsAbsent self.old text.now × IsSome (next_key K.key_at self.old) }
 
-        // All of this at once
+        // The same facts as one relation
         ensures all { InternsStaticIn K.key_at self.old text.now result self.new }
     {
         self.intern_static(text)
@@ -204,18 +204,18 @@ impl<K: Key, S: BuildHasher, A: Allocator + Clone> Rodeo<K, S, A> {
         ensures present { IsPresent self.old text.now → IsOk result × (self.new ≡ self.old) }
         ensures appended { IsAbsent self.old text.now → OnOk result (self.new.texts ≡ self.old.texts ++ text.now ∷ []) }
 
-        // What stays: no byte is copied.
+        // What stays in each case: no byte is copied.
         ensures account { self.new.account ≡ self.old.account }
         ensures copied { self.new.copied ≡ self.old.copied }
         ensures origin { KeepsOrigin self.old self.new }
 
-        // On failure nothing changes. The first reason that applies is the error; the limit is none.
+        // On failure nothing changes. No key left comes before memory, which may run out at any time; the limit is never the error.
         ensures unchanged { OnErr result (self.new ≡ self.old) }
         ensures no_key { (result ≡ Err KeySpaceExhaustion) ↔ (IsAbsent self.old text.now × (next_key K.key_at self.old ≡ None)) }
         ensures no_limit { result ≢ Err MemoryLimitReached }
         ensures memory { result ≡ Err FailedAllocation → IsAbsent self.old text.now × IsSome (next_key K.key_at self.old) }
 
-        // All of this at once
+        // The same facts as one relation
         ensures all { InternsStaticIn K.key_at self.old text.now result self.new }
     {
         self.try_get_or_intern_static(text)
