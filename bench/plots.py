@@ -15,7 +15,7 @@ from lasso import CALLS, COUNTS, RIVALS, SIZES, THREADS, Figures  # noqa: E402
 GREY = "#7d7d7d"
 COLOURS = {"lasso": "#c2571a", "lasso, fastest hasher": "#2f7fd0", "std": "#8a63d2"}
 MARKS = {"lasso": "o", "lasso, fastest hasher": "s", "std": "^"}
-OURS = "ours"
+EQUAL = "as fast"
 # The bytes of a text in the picture of single calls.
 SIZE = 11
 
@@ -49,8 +49,9 @@ def save(figure, folder, name, title):
     pyplot.close(figure)
 
 
-def draw_ours(axes):
-    axes.axhline(1, color=GREY, linewidth=2, label=OURS)
+def draw_equal(axes):
+    """The line of a call that takes as long as the other's."""
+    axes.axhline(1, color=GREY, linewidth=2, label=EQUAL)
 
 
 def finish(axes, title, places, words, label):
@@ -64,13 +65,13 @@ def draw_calls(figures, folder):
     figure, panels = pyplot.subplots(1, 4, figsize=(11, 3.4), sharey=True)
     places = range(len(COUNTS))
     for axes, (call, words) in zip(panels, CALLS.items()):
-        draw_ours(axes)
+        draw_equal(axes)
         for rival in RIVALS:
-            axes.plot(places, [1 / figures.call(count, SIZE, call, rival) for count in COUNTS], color=COLOURS[rival], marker=MARKS[rival], label=rival)
+            axes.plot(places, [figures.call(count, SIZE, call, rival) for count in COUNTS], color=COLOURS[rival], marker=MARKS[rival], label=rival)
         finish(axes, words, places, ["10 k", "100 k", "1 M"], "texts")
     panels[0].set_ylim(bottom=0)
-    panels[0].set_ylabel("time of a call, ours = 1")
-    save(figure, folder, "calls.svg", f"Time of single calls over texts of {SIZE} bytes, ours = 1; less is faster")
+    panels[0].set_ylabel("our time to theirs")
+    save(figure, folder, "calls.svg", f"Time of single calls over texts of {SIZE} bytes, ours to theirs: below 1 ours is faster")
 
 
 def draw_threads(figures, folder):
@@ -79,17 +80,17 @@ def draw_threads(figures, folder):
     figure, panels = pyplot.subplots(len(names), len(calls), figsize=(11, 3 * len(names) + 0.6), squeeze=False)
     for name, line in zip(names, panels):
         for axes, (call, (ours, words)) in zip(line, calls.items()):
-            draw_ours(axes)
+            draw_equal(axes)
             for rival in RIVALS:
-                ratios = [1 / figures.thread(name, ours, call, threads, rival) for threads in THREADS]
+                ratios = [figures.thread(name, ours, call, threads, rival) for threads in THREADS]
                 axes.plot(range(len(THREADS)), ratios, color=COLOURS[rival], marker=MARKS[rival], label=rival)
             axes.set_yscale("log")
-            axes.yaxis.set_major_locator(FixedLocator([2.0**power for power in range(-4, 10)]))
+            axes.yaxis.set_major_locator(FixedLocator([2.0**power for power in range(-10, 4)]))
             axes.yaxis.set_minor_locator(NullLocator())
             axes.yaxis.set_major_formatter(StrMethodFormatter("{x:g}"))
             finish(axes, f"{words}, {name}", range(len(THREADS)), list(map(str, THREADS)), "threads")
-        line[0].set_ylabel("time of a call, ours = 1")
-    save(figure, folder, "threads.svg", "Time of calls by threads that share an interner, ours = 1; less is faster; scales are logarithmic")
+        line[0].set_ylabel("our time to theirs")
+    save(figure, folder, "threads.svg", "Time of calls by threads that share an interner, ours to theirs: below 1 ours is faster; scales are logarithmic")
 
 
 def draw_lines(figures, folder):
@@ -97,15 +98,15 @@ def draw_lines(figures, folder):
     figure, panels = pyplot.subplots(1, 2, figsize=(11, 3.8))
     width = 0.26
     for axes, (what, words) in zip(panels, {"seconds": "processor time", "peak": "peak memory"}.items()):
-        draw_ours(axes)
+        draw_equal(axes)
         for at, rival in enumerate(RIVALS):
             places = [place + (at - 1) * width for place in range(len(names))]
-            axes.bar(places, [1 / figures.line(name, what, rival) for name in names], width, color=COLOURS[rival], label=rival)
+            axes.bar(places, [figures.line(name, what, rival) for name in names], width, color=COLOURS[rival], label=rival)
         finish(axes, words, range(len(names)), names, "input")
         axes.tick_params(axis="x", rotation=30)
         axes.set_ylim(bottom=0)
-    panels[0].set_ylabel("ours = 1")
-    save(figure, folder, "lines.svg", "Numbering the lines of an input: processor time and peak memory, ours = 1; less is better")
+    panels[0].set_ylabel("ours to theirs")
+    save(figure, folder, "lines.svg", "Numbering the lines of an input: processor time and peak memory, ours to theirs: below 1 ours is better")
 
 
 def main():

@@ -28,7 +28,7 @@ function rankForm(entry, asked) {
   const last = name.split("::").pop();
   if (last === asked || name === asked) return 0;
   if (last.startsWith(asked)) return 1;
-  if (entry.length > 4 && entry[4].split(/\W+/).some((word) => word.startsWith(asked))) return 1.5;
+  if (entry.length > 4 && entry[4].toLowerCase().split(/\W+/).some((word) => word.startsWith(asked))) return 1.5;
   if (name.includes(asked)) return 2;
   return entry[3].toLowerCase().includes(asked) ? 3 : NONE;
 }

@@ -33,19 +33,22 @@ int main(void)
     struct lasso_shared shared = LASSO_SHARED_NONE;
     struct lasso_text text = LASSO_NO_TEXT;
     int started = 0, wrong = lasso_shared_new(&shared) != LASSO_DONE;
-    for (; started < THREADS && !wrong; started += !wrong) {
+    while (started < THREADS && !wrong) {
         struct worker *worker = &workers[started];
         worker->first = (uint32_t)(started * TEXTS / THREADS);
         /* A handle is joined in the thread that owns the one it is made from, before its own thread starts. */
         wrong = lasso_shared_join(&shared, &worker->handle) != LASSO_DONE
             || pthread_create(&worker->thread, NULL, work, worker) != 0;
+        started += !wrong;
     }
     for (int k = 0; k < started; k++)
         wrong |= pthread_join(workers[k].thread, NULL) != 0 || workers[k].status != LASSO_DONE;
     for (int n = 0; n < TEXTS && !wrong; n++)
         for (int k = 1; k < THREADS; k++)
             wrong |= workers[k].codes[n] != workers[0].codes[n];
-    if (!wrong && lasso_shared_text_now(&shared, 0, &text) == LASSO_DONE)
+    /* Which text has code 0 depends on the order of the threads. */
+    wrong = wrong || lasso_shared_text_now(&shared, 0, &text) != LASSO_DONE;
+    if (!wrong)
         printf("%zu texts, each with one code; code 0 is %.*s\n", lasso_shared_len(&shared), (int)text.length, (const char *)text.bytes);
     else
         fputs("no memory, no thread, or a text with two codes\n", stderr);

@@ -174,6 +174,8 @@ PyObject *core_item(Core *core, PyObject *index)
     if (code == -1 && PyErr_Occurred())
         return NULL;
     core_enter(core);
+    if (!interner_is_live(&core->interner))
+        return raise_status(LASSO_NO_INTERNER, -1);
     if (code < 0 || (size_t)code >= interner_len(&core->interner))
         return PyErr_Format(PyExc_IndexError, "no text has the code %zd: there are %zu texts", code, interner_len(&core->interner));
     uint32_t status = interner_text(&core->interner, (uint32_t)code, &text);
@@ -237,6 +239,10 @@ static int limit_of(PyObject *number, size_t *limit)
     if (number == Py_None)
         return 0;
     PyObject *whole = PyNumber_Index(number);
+    if (whole == NULL && PyErr_ExceptionMatches(PyExc_TypeError)) {
+        PyErr_Clear();
+        PyErr_Format(PyExc_TypeError, "a limit is a whole number of bytes or None, and this is %R", number);
+    }
     if (whole == NULL)
         return -1;
     *limit = PyLong_AsSize_t(whole);

@@ -39,11 +39,12 @@ class InternerClosed(LassoError):
 
 
 # By the statuses of lasso.h.
+_NO_INTERNER = 12
 _ERRORS: dict[int, type[LassoError]] = {
-    1: WrongLayout, 2: WrongLayout, 3: NotUtf8, 9: OutOfMemory, 10: LimitReached, 11: CodesExhausted, 12: InternerClosed, 14: WrongLayout,
+    1: WrongLayout, 2: WrongLayout, 3: NotUtf8, 9: OutOfMemory, 10: LimitReached, 11: CodesExhausted, _NO_INTERNER: InternerClosed, 14: WrongLayout,
 }
 
 
 def error_of(status: int, message: str, position: int | None = None) -> LassoError:
     """The exception of a status of lasso.h that is not LASSO_DONE."""
-    return _ERRORS.get(status, LassoError)(message, position)
+    return _ERRORS.get(status, LassoError)("the interner is closed" if status == _NO_INTERNER else message, position)

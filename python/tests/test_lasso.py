@@ -292,7 +292,7 @@ def test_tells_that_it_is_closed() -> None:
     for call in calls:
         with pytest.raises(InternerClosed):
             call()
-    with pytest.raises(IndexError):
+    with pytest.raises(InternerClosed, match="the interner is closed"):
         interner[0]
     assert (len(interner), interner.memory, interner.limit) == (0, 0, 0)
 

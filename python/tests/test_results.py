@@ -191,7 +191,7 @@ def test_says_which_codes_there_are() -> None:
 def test_takes_whole_limits_alone() -> None:
     interner = Interner()
     for wrong in (1.5, "5", b"5", [5]):
-        with pytest.raises(TypeError):
+        with pytest.raises(TypeError, match="a limit is a whole number of bytes or None"):
             Interner(limit=wrong)  # type: ignore[arg-type]
         with pytest.raises(TypeError):
             interner.limit = wrong  # type: ignore[assignment]

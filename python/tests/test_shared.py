@@ -265,7 +265,7 @@ def test_tells_that_it_is_closed() -> None:
     for call in calls:
         with pytest.raises(InternerClosed):
             together(call)
-    with pytest.raises(IndexError):
+    with pytest.raises(InternerClosed):
         shared[0]
     assert (shared.closed, len(shared), repr(shared)) == (True, 0, "<SharedInterner: closed>")
 
