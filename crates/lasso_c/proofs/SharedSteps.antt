@@ -63,7 +63,7 @@ one_more greatest bytes offsets at first now before mid code after so_far next s
         subst (λ (ts : List Text). InternsEach before ts (so_far.codes ++ code ∷ []) after) (sym more) (each_push before (take at all) so_far.codes mid next.0 code after so_far.interned.0 next.3),
         λ j low. elim (cases_lt j at) [
           | inl below ↦ so_far.interned.1 j below
-          | inr above ↦ (let last : at ≡ j = omega (arith, low, above) in subst (λ n. fault_at greatest bytes offsets n ≡ None) last next.2)
+          | inr above ↦ (let last : at ≡ j = omega (arith, low, above) in subst (λ (n : ℕ). fault_at greatest bytes offsets n ≡ None) last next.2)
         ],
       );
       written = ap (λ (cs : List ℕ). set cs at code) so_far.written ∙ over_push so_far.codes first at code many room (subst (λ (cs : List ℕ). at < length cs) so_far.written (omega (arith, so_far.room)));
@@ -85,7 +85,7 @@ with_text greatest bytes offsets at from to text before after reply small is_fro
     let end = get_or offsets (at + 1) 0 in
     let cut : text ≡ slice_range bytes (get_or offsets at 0) end = between.0 ∙ (ap (λ n. slice_range bytes n to) is_from ∙ ap (λ n. slice_range bytes (get_or offsets at 0) n) is_to) in
     let here : slice_get (layout_texts bytes offsets) at ≡ Some text = text_is bytes offsets at small ∙ ap (λ (t : Text). Some t) (sym cut) in
-    let good : fault_at greatest bytes offsets at ≡ None = subst (λ n. text_fault greatest bytes at (get_or offsets at 0) n ≡ None) is_to (subst (λ n. text_fault greatest bytes at n to ≡ None) is_from between.3) in
+    let good : fault_at greatest bytes offsets at ≡ None = subst (λ (n : ℕ). text_fault greatest bytes at (get_or offsets at 0) n ≡ None) is_to (subst (λ (n : ℕ). text_fault greatest bytes at n to ≡ None) is_from between.3) in
     at_number greatest bytes offsets at text before after reply here good found
 
 -- why a batch is refused before its first text, with the numbers that it has at hand
