@@ -55,6 +55,21 @@ impl User {
         at: ptr::null_mut(),
         live: false,
     });
+
+    /// The code of a text, which is appended if it is absent.
+    #[inline]
+    fn intern(&mut self, text: &str) -> LassoResult<u32> {
+        let mut code = 0;
+        loop {
+            // SAFETY: a handle that the caller alone has, a text, and a variable (1, 2).
+            let status =
+                unsafe { lasso_shared_intern(&mut self.0, text.as_ptr(), text.len(), &mut code) };
+            if status != BUSY {
+                return outcome(status).map(|()| code);
+            }
+            thread::yield_now();
+        }
+    }
 }
 
 impl Drop for User {
@@ -109,17 +124,30 @@ impl Users {
     }
 
     /// The code of a text, which is appended if it is absent.
-    #[inline]
     pub(crate) fn intern(&self, text: &str) -> LassoResult<u32> {
-        let (mut user, mut code) = (self.user()?, 0);
-        loop {
-            // SAFETY: a handle under its lock, a text, and a variable (1, 2).
-            let status =
-                unsafe { lasso_shared_intern(&mut user.0, text.as_ptr(), text.len(), &mut code) };
-            if status != BUSY {
-                return outcome(status).map(|()| code);
-            }
-            thread::yield_now();
+        self.user()?.intern(text)
+    }
+
+    /// The code of a text, which is appended if it is absent; or `None` if it `may` not be, which is
+    /// asked while the thread's handle is locked.
+    #[inline]
+    pub(crate) fn intern_if(
+        &self,
+        text: &str,
+        may: impl FnOnce() -> bool,
+    ) -> LassoResult<Option<u32>> {
+        let mut user = self.user()?;
+        if may() {
+            user.intern(text).map(Some)
+        } else {
+            Ok(None)
+        }
+    }
+
+    /// Waits until each call that now has a handle's lock has ended.
+    pub(crate) fn wait_for_calls(&self) {
+        for seat in self.seats.iter() {
+            drop(lock(seat));
         }
     }
 

@@ -151,8 +151,12 @@ impl<K: Key, S: BuildHasher> ThreadedRodeo<K, S> {
     pub fn try_get_or_intern<T: AsRef<str>>(&self, val: T) -> LassoResult<K> {
         let text = val.as_ref();
         let has_all = K::try_from_usize(LAST_POSITION).is_some();
-        if has_all && self.max_memory_usage() == usize::MAX {
-            return self.users.intern(text).map(key_of);
+        let is_free = || has_all && self.max_memory_usage() == usize::MAX;
+        if is_free() {
+            // A limit that is set meanwhile waits for this call, or is seen here.
+            if let Some(code) = self.users.intern_if(text, is_free)? {
+                return Ok(key_of(code));
+            }
         }
         match self.users.get(text)? {
             Some(code) => Ok(key_of(code)),
@@ -259,7 +263,8 @@ impl<K, S> ThreadedRodeo<K, S> {
     }
 
     /// Sets how many bytes the texts may have. With fewer than they have now each absent text of at
-    /// least one byte is refused.
+    /// least one byte is refused. It waits for calls of other threads that append a text, so that
+    /// none is appended past the limit after it.
     ///
     /// ```rust
     /// use lasso_proved::{MemoryLimits, ThreadedRodeo};
@@ -270,8 +275,12 @@ impl<K, S> ThreadedRodeo<K, S> {
     /// assert!(rodeo.try_get_or_intern("x".repeat(4096)).is_ok());
     /// ```
     pub fn set_memory_limits(&self, memory_limits: MemoryLimits) {
+        // Whoever counts before it appends waits for this lock.
+        let _counted = self.lock_counted();
         self.limit
             .store(memory_limits.max_memory_usage(), Ordering::SeqCst);
+        // The others may have seen that there was no limit.
+        self.users.wait_for_calls();
     }
 
     /// How many bytes the texts have, or those of the capacity if that is more.

@@ -195,6 +195,29 @@ fn threads_share_what_a_limit_leaves() {
 }
 
 #[test]
+fn nothing_passes_a_limit_that_was_set() {
+    for limit in [usize::MAX, 1 << 40].repeat(10) {
+        let rodeo = limited(1, limit);
+        let texts = at_once(5, |number| {
+            if number == 0 {
+                while rodeo.len() < 100 {
+                    thread::yield_now();
+                }
+                rodeo.set_memory_limits(MemoryLimits::for_memory_usage(0));
+                return rodeo.len();
+            }
+            (number..)
+                .step_by(4)
+                .take(500)
+                .take_while(|text| rodeo.try_get_or_intern(text.to_string()).is_ok())
+                .count()
+        });
+        assert_eq!(texts[0], rodeo.len());
+        assert_eq!(texts[0], texts[1..].iter().sum());
+    }
+}
+
+#[test]
 fn limits_fall_while_threads_intern() {
     let rodeo = limited(1, 40_000);
     at_once(9, |number| {
