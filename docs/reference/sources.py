@@ -24,6 +24,8 @@ GHOST = re.compile(r"^    ghost (?!use\b)(\w+)(?:[^;{]|\{[^}]*\})*;", re.MULTILI
 VARIANT = re.compile(r"^    ([A-Z]\w*)\b", re.MULTILINE)
 DEFINITION = re.compile(r"^(?:abbrev pub|unfoldable pub|pub record|pub data|pub|pub syntax) ([\w'◌≡]+)")
 NAME = re.compile(r"[A-Za-z_][\w'-]*")
+# The head of a clause, after the comment of the clauses from it on. With a star it is of what a borrow leaves once it has ended.
+CLAUSE = re.compile(r"(?P<above>(?:\n *//[^\n]*)*)\s+(?P<kind>requires|ensures)(?P<star>\*?)(?: (?P<name>[\w-]+))? $")
 
 
 @dataclasses.dataclass
@@ -139,7 +141,7 @@ def signature_and_clauses(text, start):
     while True:
         opening = re.compile(r"\{|;$", re.MULTILINE).search(text, at)
         before = text[at : opening.start()]
-        clause = re.search(r"(?:\n *// (?P<above>.*))?\s(?P<kind>requires|ensures)(?: (?P<name>[\w-]+))? $", before)
+        clause = CLAUSE.search(before)
         if signature is None:
             signature = text[start : at + clause.start() if clause else opening.start()].rstrip()
         if not clause or opening.group() == ";":
