@@ -43,10 +43,10 @@ help:
 
 #:
 #: Run lasso_lines on a file:
-#: make try FILE=path [ARGS=..]      builds lasso_lines without proof and runs it on the file, in a minute or two
+#: make try FILE=path [ARGS=..]      builds lasso_lines without proof and runs it on the file, in 1 to 1.5 minutes
 #:                                   (rt try: at most 1 MiB of output and 60 seconds; 20 million steps if it interprets)
 try: input toolchain
-	@printf '%s\n' "make try proves nothing. make run FILE='$$FILE' proves lasso_lines first: once, about 35 minutes on four cores." >&2
+	@printf '%s\n' "make try proves nothing. make run FILE='$$FILE' proves lasso_lines first: once, half an hour on four cores." >&2
 	@said=$$(mktemp) && trap 'rm -f "$$said"' EXIT && (cd crates/lasso_lines && set -f && rt try -- $$ARGS) < "$$FILE" 2> "$$said"; status=$$?; \
 	if grep -q '^checked: no-answer: .* wrote more than' "$$said"; then \
 		echo "make try: the output is more than 1 MiB (1048576 bytes), the most that rt try hands on." >&2; \
@@ -128,13 +128,14 @@ check: crate toolchain
 	@if [ -d "cases/$$CRATE" ]; then (cd "crates/$$CRATE" && { rt run < /dev/null > /dev/null || [ -e "out/$$CRATE.stamp" ]; }) && cases/run "$$CRATE"; fi
 	@if [ -d "cases/$$CRATE/modules" ]; then cases/modules "$$CRATE"; fi
 
-#: make test                         all that needs no proof, in ten minutes on two processors: the checks of documents and layout, all tests,
+#: make test                         all that needs no proof, in 3 minutes on four cores: the checks of documents and layout, all tests,
 #:                                   the tests of modules, and the cases over programs that are built without proof
 test: python
 	@.ci/test
 
-#: make verify                       the gate: make test; proofs of all libraries and programs from nothing, by rt ci; the mutants (wrong
-#:                                   bodies) that have to be refused; all cases over the proved programs; and the tools, without proof
+#: make verify                       the gate, in about an hour: make test; proofs of all libraries and programs from nothing, by rt ci; the
+#:                                   mutants (wrong bodies) that have to be refused; all cases over the proved programs; and the tools,
+#:                                   without proof
 verify: python
 	@.ci/verify
 
