@@ -15,7 +15,7 @@
  * For every call:
  * - A length counts elements, not bytes: bytes of a uint8_t array, numbers of an int32_t, int64_t or uint32_t
  *   array.
- * - The caller owns all memory. No pointer is kept after a call returns.
+ * - The caller owns all arrays. None is kept after a call returns.
  * - A pointer is aligned for its elements. It may be NULL if its length is 0. A handle, a report and each other
  *   pointer without a length is never NULL, except that lasso_free(NULL) and lasso_shared_free(NULL) do nothing.
  *   (For an array of no elements, inline functions of this header pass another pointer than NULL. A caller without
@@ -27,7 +27,8 @@
  *   call that returns LASSO_DONE writes what is said below to the front of each output, and leaves the rest of it as
  *   it was.
  * - Calls may run in several threads at once. Threads may share what all of them only read, as a dictionary from
- *   which two decode. While a call runs, nothing else reads or writes what it writes.
+ *   which two decode, but no handle: one call at a time uses it, even to read. While a call runs, nothing else reads or
+ *   writes what it writes.
  * - No call is made in a signal handler, or in the forked child of a process with threads.
  *
  * lasso_encode and lasso_encode_nulls take memory from malloc and realloc, and free it before they return.
@@ -96,9 +97,13 @@ enum lasso_status {
  * What a call reports besides its status. It writes all three, whatever the status.
  *
  * LASSO_DONE:              texts and bytes are the sizes of the written layout, which has texts + 1 offsets; at is 0.
- * LASSO_CODES_TOO_SHORT to
+ * LASSO_CODES_TOO_SHORT,
+ * LASSO_OFFSETS_TOO_SHORT,
  * LASSO_BYTES_TOO_SHORT:   texts and bytes are the sizes that the layout needs; at is 0.
- * LASSO_OFFSETS_FALL to
+ * LASSO_OFFSETS_FALL,
+ * LASSO_OFFSET_PAST_BYTES,
+ * LASSO_NOT_UTF8,
+ * LASSO_NO_SUCH_CODE,
  * LASSO_TOO_MANY_BYTES:    at is the number of the first wrong text or code, from 0, and 0 if the first offset is past
  *                          the bytes; texts and bytes are 0.
  * LASSO_BITMAP_TOO_SHORT:  at is the number of the first row without a bit, from 0; texts and bytes are 0.
@@ -301,9 +306,9 @@ uint32_t lasso_intern(struct lasso *lasso, const uint8_t *text, size_t text_leng
  * bytes, offsets      read: as in lasso_encode.
  * codes               written. codes_length counts codes, one for each text; it may be greater.
  *
- * Returns LASSO_NO_INTERNER; LASSO_CODES_TOO_SHORT, or LASSO_OFFSET_PAST_BYTES if the first offset is past the bytes:
- * then no text is interned, and the report is all 0. Else what the first refused text gives: LASSO_OFFSETS_FALL,
- * LASSO_OFFSET_PAST_BYTES, LASSO_NOT_UTF8, or as lasso_intern; else LASSO_DONE.
+ * Returns the first that applies: LASSO_NO_INTERNER; LASSO_CODES_TOO_SHORT, or LASSO_OFFSET_PAST_BYTES if the first
+ * offset is past the bytes: then no text is interned, and the report is all 0. Else what the first refused text gives:
+ * LASSO_OFFSETS_FALL, LASSO_OFFSET_PAST_BYTES, LASSO_NOT_UTF8, or as lasso_intern; else LASSO_DONE.
  */
 uint32_t lasso_intern_batch(struct lasso *lasso,
                             const uint8_t *bytes, size_t bytes_length,
@@ -400,7 +405,10 @@ struct lasso_text {
     size_t length;
 };
 
-/* No text: what a struct lasso_text is before it is passed to a call. */
+/*
+ * No text: what a struct lasso_text is before it is passed to a call. What is proved supposes this, or a text that still
+ * lasts; no call reads what was there before.
+ */
 #define LASSO_NO_TEXT {(const uint8_t *)"", 0}
 
 /*

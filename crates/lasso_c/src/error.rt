@@ -77,11 +77,12 @@ impl From<LassoError> for CallError {
 #[repr(C)]
 #[derive(Clone, Copy)]
 pub struct LassoReport {
-    /// How many texts were written, or have to fit if an output is too short; else 0.
+    /// How many texts were written, or have to fit if an output is too short; else 0. Of a call that interns a batch: how many
+    /// of its rows were done, also if the next one is refused.
     pub texts: usize,
-    /// How many bytes they have.
+    /// How many bytes these texts have; 0 of a batch.
     pub bytes: usize,
-    /// At which text or code, counted from 0, the call was refused; else 0.
+    /// At which text or code, counted from 0, the call was refused; else 0. Of a batch: its first row that was not done, if it was refused.
     pub at: usize,
 }
 

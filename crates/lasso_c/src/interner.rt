@@ -45,8 +45,8 @@ pub extern "C" fn lasso_new(alloc: Global, lasso: &mut Lasso, limit: usize) -> u
     make(alloc, lasso, Capacity::default(), limit, Seed::fixed())
 }
 
-/// Interns a text, and writes its code. It returns `NOT_UTF8`; `NO_INTERNER`; and if the interner refuses the text
-/// `LIMIT_REACHED`, `NO_CODE_LEFT` or `NO_MEMORY`. Nothing has changed then.
+/// Interns a text, and writes its code. It returns the first that applies: `NOT_UTF8`; `NO_INTERNER`; for an absent text
+/// `NO_CODE_LEFT`, `LIMIT_REACHED`, `NO_MEMORY`; else `DONE`. If it is not `DONE`, the texts, their bytes and `code` are as before.
 #[unsafe(no_mangle)]
 pub extern "C" fn lasso_intern(lasso: &mut Lasso, text: &[u8], code: &mut u32) -> u32
     // Which status
@@ -79,9 +79,10 @@ pub extern "C" fn lasso_intern(lasso: &mut Lasso, text: &[u8], code: &mut u32) -
 }
 
 /// Interns the texts of a layout in their order, up to the first that is refused, and writes the codes of those before it. The
-/// report says how many these are, and also where the refused one is. It returns `CODES_TOO_SHORT` and interns none if a code
-/// of each text has no room, `NO_INTERNER` without an interner, and else what the refused text gives: `OFFSETS_FALL`,
-/// `OFFSET_PAST_BYTES` or `NOT_UTF8` for its layout, or a refusal of `lasso_intern`.
+/// report says how many these are, and also where the refused one is. It returns the first that applies: `NO_INTERNER` without an
+/// interner; `CODES_TOO_SHORT` if `codes` has fewer places than there are texts, or `OFFSET_PAST_BYTES` if the first offset is past
+/// the bytes, and interns none then; else what the refused text gives: `OFFSETS_FALL`, `OFFSET_PAST_BYTES` or `NOT_UTF8` for its
+/// layout, or a refusal of `lasso_intern`.
 #[unsafe(no_mangle)]
 pub extern "C" fn lasso_intern_batch(
     lasso: &mut Lasso,
@@ -101,8 +102,8 @@ pub extern "C" fn lasso_intern_batch(
 }
 
 /// Interns a layout as `lasso_intern_batch` does, with nulls: bit i of byte i / 8 of `present`, counted from the least, is 1 if row i is
-/// present; if `present` is empty, each row is present. A null has the code `null`, and no text is interned for it. It returns
-/// `BITMAP_TOO_SHORT` and interns none if `present` has too few bits.
+/// present; if `present` is empty, each row is present. A null has the code `null`, and no text is interned for it. After
+/// `CODES_TOO_SHORT` comes `BITMAP_TOO_SHORT`, if `present` has too few bits: it interns none then.
 #[unsafe(no_mangle)]
 pub extern "C" fn lasso_intern_batch_nulls(
     lasso: &mut Lasso,
@@ -166,9 +167,9 @@ fn find_code(lasso: &mut Lasso, text: &[u8]) -> Result<u32, CallError>
 }
 
 /// Writes the code of each text of a layout, and `absent` for a text that the interner does not have. The report has their
-/// number. It returns `NO_INTERNER` without an interner, `CODES_TOO_SHORT` if a code of each text has no room, and
-/// `OFFSETS_FALL`, `OFFSET_PAST_BYTES` or `NOT_UTF8` for what is first wrong with the layout. What is refused writes nothing but
-/// its report.
+/// number. It returns the first that applies: `NO_INTERNER` without an interner; `CODES_TOO_SHORT` if `codes` has fewer places than
+/// there are texts; `OFFSETS_FALL`, `OFFSET_PAST_BYTES` or `NOT_UTF8` for what is first wrong with the layout; else `DONE`. What
+/// is refused writes nothing but its report.
 #[unsafe(no_mangle)]
 pub extern "C" fn lasso_get_batch(
     lasso: &mut Lasso,
@@ -223,8 +224,9 @@ pub extern "C" fn lasso_resolve(
 }
 
 /// Writes the layout of the texts from a code on: what a reader lacks that has those before. The report has their sizes, which
-/// are those that are needed if it returns `OFFSETS_TOO_SHORT` or `BYTES_TOO_SHORT`. It returns `TOO_MANY_BYTES` if they have
-/// more bytes than the greatest offset, `NO_INTERNER` without an interner. What is refused writes nothing but its report.
+/// are those that are needed if it returns `OFFSETS_TOO_SHORT` or `BYTES_TOO_SHORT`. It returns the first that applies:
+/// `NO_INTERNER` without an interner; `TOO_MANY_BYTES` if the texts have more bytes than the greatest offset;
+/// `OFFSETS_TOO_SHORT`; `BYTES_TOO_SHORT`; else `DONE`. What is refused writes nothing but its report.
 #[unsafe(no_mangle)]
 pub extern "C" fn lasso_dictionary(
     lasso: &mut Lasso,

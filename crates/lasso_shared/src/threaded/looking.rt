@@ -15,8 +15,9 @@ use std::hash::BuildHasher;
 use std::sync::Wait;
 
 impl<K: Key, S: BuildHasher + Drop> ThreadedRodeo<K, S> {
-    /// The text's key, or `None` if it is not in the list. It takes no memory. It waits for those who write
-    /// in the text's shard, and for the spine if the text is absent.
+    /// The text's key, or `None` if the list lacks it at a point between what the pass had seen and what it
+    /// then has seen. A text that the pass had seen is found. The pass has to be one of this interner. It takes
+    /// no memory. It waits for those who write in the text's shard, and for the spine if the text is absent.
     ///
     /// ```rust
     /// let rodeo: SpurThreadedRodeo = ThreadedRodeo::default(rt.alloc())?;

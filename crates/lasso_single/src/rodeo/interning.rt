@@ -20,8 +20,9 @@ use std::hash::BuildHasher;
 impl<K: Key, S: BuildHasher, A: Allocator + Clone> Rodeo<K, S, A> {
     /// Returns the text's key, and appends the text first if it is new. Interning a present text never fails.
     /// A new text fails when the key type has no key for its position (`KeySpaceExhaustion`), else when it
-    /// would pass the memory limit (`MemoryLimitReached`), else when out of memory (`FailedAllocation`).
-    /// Nothing changes then.
+    /// would pass the memory limit (`MemoryLimitReached`), else when out of memory (`FailedAllocation`). Then
+    /// the texts and the counts of their bytes are as before; no contract says so of `capacity` and
+    /// `allocated_bytes`.
     ///
     /// ```rust
     /// let mut rodeo = Rodeo::default(rt.alloc())?;
@@ -136,7 +137,8 @@ impl<K: Key, S: BuildHasher, A: Allocator + Clone> Rodeo<K, S, A> {
     /// Returns the text's key, and appends the text first if it is new. The text is kept as it is, with no
     /// copy, so the memory limit never refuses it. Interning a present text never fails. A new text fails
     /// when the key type has no key for its position (`KeySpaceExhaustion`), else when out of memory
-    /// (`FailedAllocation`). Nothing changes then.
+    /// (`FailedAllocation`). Then the texts and the counts of their bytes are as before; no contract says so
+    /// of `capacity` and `allocated_bytes`.
     ///
     /// ```rust
     /// let mut rodeo: SpurRodeo = Rodeo::with_capacity(rt.alloc(), Capacity::for_bytes(4))?;
