@@ -8,9 +8,11 @@ import re
 import markdown
 from pygments import highlight
 from pygments.formatters import HtmlFormatter
+from pygments.lexers.c_cpp import CLexer
 from pygments.lexers.rust import RustLexer
 
 import glossary
+import header
 from links import Links, Place, Scope, anchor, page_of_type
 from sources import ghosts_of, imports, variants_of
 
@@ -19,6 +21,14 @@ FORMATTER = HtmlFormatter(nowrap=True)
 SEARCH_SUMMARY = 240
 # A name in highlighted code that may be a type's.
 TYPE_SHOWN = re.compile(r'(<span class="(?:n|nc|nb|kt)">)([A-Z]\w*)(</span>)')
+# Words of examples that need an explanation where they stand.
+IN_EXAMPLES = (
+    ('<span class="n">rt</span>', "the runtime that main or a test receives: it gives memory, threads and output"),
+    ('<span class="fm">assert!</span>', "in a test, as assert!(rt; c): the test fails if c is false"),
+)
+# A list of calls is put before pages with this number of them or more.
+MANY_CALLS = 4
+HEADING = re.compile(r'<h2>(?P<group>.*?)</h2>|<section class="call" id="(?P<place>[^"]*)"><h3><a [^>]*>(?P<name>.*?)</a>', re.DOTALL)
 FIELD = re.compile(r"^(?:    ///.*\n)*    pub (?!ghost).*,$", re.MULTILINE)
 EXAMPLES = "lasso_guide"
 LEMMAS = "lemmas.html"
@@ -32,6 +42,8 @@ def code(text):
 def prose(text, level=4):
     """The HTML of a comment in Markdown, whose headings begin at a level of the page's."""
     shown = markdown.markdown(text, extensions=["fenced_code", "codehilite", "tables"], extension_configs={"codehilite": {"guess_lang": False}})
+    for word, said in IN_EXAMPLES:
+        shown = shown.replace(word, f'<abbr title="{said}">{word}</abbr>')
     return re.sub(r"<(/?)h([1-6])>", lambda tag: f"<{tag[1]}h{min(6, int(tag[2]) + level - 1)}>", shown)
 
 
@@ -58,6 +70,10 @@ class Reference:
         self.types = self.reachable_types()
         self.links = Links(definitions, passed_on, std_words, self.types, dict(self.places()))
         self.entries = []
+        with open(os.path.join(root, header.SOURCE), encoding="utf-8") as source:
+            self.prototypes = header.prototypes(source.read())
+        with open(os.path.join(os.path.dirname(os.path.abspath(__file__)), "reading.html"), encoding="utf-8") as source:
+            self.reading = source.read()
 
     def exported(self):
         """The names that reachable modules export, by the last module of their path."""
@@ -97,10 +113,11 @@ class Reference:
                 yield f"{page.crate}.{item.name}", Place(" ".join(item.docs.split()), item.head, f"{page_of_module(page)}#{item.name}")
 
     def typed(self, text, module):
-        """Code of a module with a link at each type that has a page."""
+        """Code of a module with a link at each type that has a page, and an explanation at each of std."""
         def link(shown):
             home = self.links.home_of_type(module, shown[2])
-            return f'{shown[1]}<a href="{page_of_type(home, shown[2])}">{shown[2]}</a>{shown[3]}' if home else shown[0]
+            said = f'<a href="{page_of_type(home, shown[2])}">{shown[2]}</a>' if home else self.links.explained(shown[2], shown[2])
+            return f"{shown[1]}{said}{shown[3]}"
 
         return TYPE_SHOWN.sub(link, code(text))
 
@@ -120,6 +137,7 @@ class Reference:
             for clause in found:
                 above = f'<p class="group">{html.escape(clause.above)}</p>' if clause.above else ""
                 name = f'<span class="name">{html.escape(clause.name)}</span>' if clause.name else ""
+                name += "<small>once what is lent is given back: </small>" if clause.is_of_loans else ""
                 fact = " ".join(clause.fact.split())
                 rows.append(f'<li>{above}{name}<code>{self.links.linked(fact, scope)}</code></li>')
             parts.append(f'<h4>{title}</h4><ul class="clauses">{"".join(rows)}</ul>')
@@ -133,11 +151,38 @@ class Reference:
         title = f"{owner}::{call.name}" if owner else call.name
         self.entries.append(Entry(title, "call", f"{url}#{place}", first_sentence(call.docs)[:SEARCH_SUMMARY], self.task_of(title)))
         of = f' <small>of <code>{html.escape(item.trait)}</code></small>' if item.trait else ""
-        return (
-            f'<section class="call" id="{place}"><h3><a href="#{place}">{html.escape(call.name)}</a>{of}</h3>'
+        shown = (
+            f'<section class="call" id="{place}"><h3><a href="#{place}">{html.escape(call.name)}</a>{of}</h3>{self.in_c(call)}'
             f'<pre class="signature">{self.typed(call.signature, module)}</pre>{prose(call.docs)}{self.clauses(call, scope)}'
             f"<p>{self.source_link(module.file, call.line)}</p></section>"
         )
+        return glossary.linked(shown) if module.crate in glossary.THREADED else shown
+
+    def in_c(self, call):
+        """What the header says of a call of the library for C, or ''."""
+        found = self.prototypes.get(call.name) if 'extern "C"' in call.signature else None
+        if not found:
+            return ""
+        return (
+            f'<pre class="prototype">{highlight(found.text, CLexer(), FORMATTER)}</pre><pre class="said">{html.escape(found.said)}</pre>'
+            f"<p>{self.source_link(header.SOURCE, found.line)}</p><h4>The same call in Rattle</h4>"
+        )
+
+    def with_help(self, body):
+        """A page after its title, with how to read a clause, and with a list of its calls if there are many."""
+        if '<section class="call"' not in body:
+            return body
+        parts, groups = list(HEADING.finditer(body)), []
+        for part in parts:
+            if part["name"]:
+                groups = groups or [("", [])]
+                groups[-1][1].append(f'<a href="#{part["place"]}">{part["name"]}</a>')
+            else:
+                groups.append((part["group"], []))
+        lists = "".join(f"<li>{group} {', '.join(calls)}</li>" for group, calls in groups if calls)
+        contents = f'<nav aria-label="Calls"><ul class="contents">{lists}</ul></nav>' if sum(len(calls) for _, calls in groups) >= MANY_CALLS else ""
+        title, end, rest = body.partition("</h1>")
+        return f'{title}{end}{contents}<details class="reading"><summary>How to read a clause</summary>{self.reading}</details>{rest}'
 
     def calls_of_type(self, crate, name, url):
         """The calls of a type or trait, in the order of the sources, under the comment of their file."""
@@ -183,7 +228,7 @@ class Reference:
                 f"<p>{self.source_link(module.file, item.line)}</p>"
                 f"{self.contract_view(crate, name)}{self.calls_of_type(crate, name, url)}"
             )
-            yield url, name, glossary.linked(body) if crate in glossary.THREADED else body
+            yield url, name, self.with_help(body)
 
     def with_variants(self, declared, item, url, name):
         """The code of an enum with a place at each variant."""
@@ -201,7 +246,7 @@ class Reference:
             url = page_of_module(module)
             self.entries.append(Entry(name, "module", url, first_sentence(module.docs)[:SEARCH_SUMMARY]))
             body = f"<h1><small>module</small> {name}</h1>{prose(module.docs, 2)}{self.inside(module, url)}"
-            yield url, name, glossary.linked(body) if module.crate in glossary.THREADED else body
+            yield url, name, self.with_help(body)
 
     def inside(self, module, url):
         """What a module has: its modules, types and functions, and for a guide the whole file."""
@@ -329,7 +374,7 @@ class Reference:
         reading = [(glossary.URL, "glossary", "The words of comments, as shard, spine, event and pass.")]
         proving = [(LEMMAS, "lemmas", "What a caller's proof cites."), ("module.lasso.laws.html", "laws", "Laws that a caller's body calls.")]
         return (
-            f"<h1>lasso: a proved string interner</h1>{introduction}<h2>I want to ..</h2>"
+            f"<h1>lasso: a proved string interner</h1>{introduction}<h2 id='reading'>How to read a clause</h2>{self.reading}<h2>I want to ..</h2>"
             f'<table>{"".join(f"<tr><td>{html.escape(task)}</td><td><a href={chr(34)}{url}{chr(34)}><code>{call}</code></a></td></tr>" for url, call, task in tasks)}</table>'
             f"<h2>Words</h2>{table(reading)}<h2>Callers to copy</h2>{table(examples)}<h2>To prove</h2>{table(proving)}<h2>Crates</h2>{table(rows)}"
         )

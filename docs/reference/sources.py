@@ -24,18 +24,20 @@ GHOST = re.compile(r"^    ghost (?!use\b)(\w+)(?:[^;{]|\{[^}]*\})*;", re.MULTILI
 VARIANT = re.compile(r"^    ([A-Z]\w*)\b", re.MULTILINE)
 DEFINITION = re.compile(r"^(?:abbrev pub|unfoldable pub|pub record|pub data|pub|pub syntax) ([\w'◌≡]+)")
 NAME = re.compile(r"[A-Za-z_][\w'-]*")
-# The head of a clause, after the comment of the clauses from it on. With a star it is of what a borrow leaves once it has ended.
+# The head of a clause, after the comment of the clauses from it on.
 CLAUSE = re.compile(r"(?P<above>(?:\n *//[^\n]*)*)\s+(?P<kind>requires|ensures)(?P<star>\*?)(?: (?P<name>[\w-]+))? $")
 
 
 @dataclasses.dataclass
 class Clause:
-    """What follows `requires` or `ensures` of a function: its name or none, and the fact. `above` is the comment before it."""
+    """What follows `requires` or `ensures` of a function: its name or none, and the fact. `above` is the comment before it;
+    `is_of_loans` that a star stands there: it holds once what was lent is given back."""
 
     kind: str
     name: str
     fact: str
     above: str = ""
+    is_of_loans: bool = False
 
 
 @dataclasses.dataclass
@@ -147,7 +149,9 @@ def signature_and_clauses(text, start):
         if not clause or opening.group() == ";":
             return signature, clauses, opening.start()
         at = end_of_braces(text, opening.end()) + 1
-        clauses.append(Clause(clause["kind"], clause["name"] or "", text[opening.end() : at - 1].strip(), clause["above"] or ""))
+        above = " ".join(line.strip().removeprefix("//").strip() for line in clause["above"].strip().split("\n"))
+        fact = text[opening.end() : at - 1].strip()
+        clauses.append(Clause(clause["kind"], clause["name"] or "", fact, above, bool(clause["star"])))
 
 
 def undented(text, by):
