@@ -26,6 +26,8 @@ IN_EXAMPLES = (
     ('<span class="n">rt</span>', "the runtime that main or a test receives: it gives memory, threads and output"),
     ('<span class="fm">assert!</span>', "in a test, as assert!(rt; c): the test fails if c is false"),
 )
+# The files of a type's calls that come first on its page, by what a caller does; then the others as they are in the sources.
+ORDER = ("makers", "from_static", "interning", "looking", "batches", "filling", "now", "changes", "limits", "walking", "plain")
 # A list of calls is put before pages with this number of them or more.
 MANY_CALLS = 4
 HEADING = re.compile(r'<h2>(?P<group>.*?)</h2>|<section class="call" id="(?P<place>[^"]*)"><h3><a [^>]*>(?P<name>.*?)</a>', re.DOTALL)
@@ -164,7 +166,7 @@ class Reference:
         if not found:
             return ""
         return (
-            f'<pre class="prototype">{highlight(found.text, CLexer(), FORMATTER)}</pre><pre class="said">{html.escape(found.said)}</pre>'
+            f'<pre class="prototype">{highlight(found.text, CLexer(), FORMATTER)}</pre>{said_in_header(found.said)}'
             f"<p>{self.source_link(header.SOURCE, found.line)}</p><h4>The same call in Rattle</h4>"
         )
 
@@ -185,11 +187,9 @@ class Reference:
         return f'{title}{end}{contents}<details class="reading"><summary>How to read a clause</summary>{self.reading}</details>{rest}'
 
     def calls_of_type(self, crate, name, url):
-        """The calls of a type or trait, in the order of the sources, under the comment of their file."""
+        """The calls of a type or trait, in the order of what a caller does, each file's under its comment."""
         parts = []
-        for module in self.modules:
-            if module.crate != crate:
-                continue
+        for module in sorted((one for one in self.modules if one.crate == crate), key=order_of):
             found = []
             for item in module.items:
                 if item.name != name or item.kind not in ("impl", "trait"):
@@ -392,6 +392,18 @@ class Reference:
 
     def search_index(self):
         return json.dumps([list(entry) if entry.task else list(entry[:4]) for entry in sorted(set(self.entries))], ensure_ascii=False)
+
+
+def order_of(module):
+    """Where a file's calls come on the page of their type: those of the type's own file first."""
+    last = module.path[-1] if module.path else ""
+    return ORDER.index(last) + 1 if last in ORDER else 0 if len(module.path) < 2 else len(ORDER) + 1
+
+
+def said_in_header(comment):
+    """The HTML of a comment of the header: a paragraph that has columns stays in its lines."""
+    parts = (html.escape(part) for part in comment.split("\n\n"))
+    return "".join(f'<pre class="said">{part}</pre>' if re.search(r"\S   +|\n-", part) else f"<p>{part}</p>" for part in parts)
 
 
 def shown_body(item):

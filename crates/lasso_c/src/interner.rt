@@ -91,10 +91,17 @@ pub extern "C" fn lasso_intern_batch(
     codes: &mut [u32],
     report: &mut LassoReport,
 ) -> u32
+    // How it ends: the status and the report
     ensures outcome { ColumnEnds greatest_offset lasso.old.seat.value [] bytes.now offsets.now codes.old result report.new lasso.new.seat.value }
+
+    // The rows before a refused one are interned, and their codes written
     ensures texts { PutsNew lasso.old.seat.value lasso.new.seat.value (first_texts report.new.texts bytes.now offsets.now) }
     ensures codes { codes.new ≡ over (codes_in lasso.new.seat.value (first_texts report.new.texts bytes.now offsets.now)) codes.old }
+
+    // What stays: how texts are hashed
     ensures seed { seed_in lasso.new.seat.value ≡ seed_in lasso.old.seat.value }
+
+    // How many rows were done
     ensures whole { result ≡ DONE → report.new.texts ≡ length (layout_texts bytes.now offsets.now) }
     ensures within { report.new.texts ≤ length (layout_texts bytes.now offsets.now) }
 {
@@ -114,10 +121,17 @@ pub extern "C" fn lasso_intern_batch_nulls(
     codes: &mut [u32],
     report: &mut LassoReport,
 ) -> u32
+    // How it ends: the status and the report
     ensures outcome { ColumnEnds greatest_offset lasso.old.seat.value present.now bytes.now offsets.now codes.old result report.new lasso.new.seat.value }
+
+    // The rows before a refused one are interned, and their codes written
     ensures texts { PutsNew lasso.old.seat.value lasso.new.seat.value (present_texts (first_rows report.new.texts present.now bytes.now offsets.now)) }
     ensures codes { codes.new ≡ over (row_codes_in null lasso.new.seat.value (first_rows report.new.texts present.now bytes.now offsets.now)) codes.old }
+
+    // What stays: how texts are hashed
     ensures seed { seed_in lasso.new.seat.value ≡ seed_in lasso.old.seat.value }
+
+    // How many rows were done
     ensures whole { result ≡ DONE → report.new.texts ≡ length (layout_texts bytes.now offsets.now) }
     ensures within { report.new.texts ≤ length (layout_texts bytes.now offsets.now) }
 {
