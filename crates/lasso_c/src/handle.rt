@@ -8,7 +8,7 @@ use crate::seed::Seed;
 use crate::seeded::Interner;
 use std::alloc::Global;
 
-/// An interner, or none. All zero it is none.
+/// An interner, or none. All zero it is none. Contracts see it as `seat.value`: `Some` of the interner, or `None`.
 #[repr(C)]
 pub struct Lasso {
     pub(crate) seat: Seat,

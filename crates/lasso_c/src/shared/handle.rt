@@ -8,7 +8,8 @@ use crate::shared::member::Member;
 use crate::shared::seat::Seat;
 use std::alloc::Global;
 
-/// One thread's part of a shared interner, or none. All zero it is none.
+/// One thread's part of a shared interner, or none. All zero it is none. Contracts see it as `seat.value`: `Some` of the member that
+/// the thread has, or `None`.
 #[repr(C)]
 pub struct LassoShared {
     pub(crate) seat: Seat,
