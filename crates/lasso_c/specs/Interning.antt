@@ -38,7 +38,8 @@ abbrev pub InternsCode : ℕ → InternerView → Text → Result ℕ CallError 
 InternsCode at old text (Ok code) new = InternsIn {K = ℕ} key_of_code old text (Ok (code + 1)) new
 InternsCode at old text (Err refusal) new = (error : LassoError) × InternsIn {K = ℕ} key_of_code old text (Err error) new × (refusal ≡ refusal_at at error)
 
--- the same, unless something is wrong with the text
+-- an interner interns the text of this number, as `InternsCode` says, unless something is wrong with the text: then
+-- that is the outcome, and nothing changes
 abbrev pub InternsUnless : Option CallError → ℕ → InternerView → Text → Result ℕ CallError → InternerView → Type 0
 InternsUnless None at old text outcome new = InternsCode at old text outcome new
 InternsUnless (Some refusal) at old text outcome new = (outcome ≡ Err refusal) × (new ≡ old)
@@ -78,7 +79,8 @@ pub record InternsColumn (greatest : ℕ) (bits bytes offsets : List ℕ) (done 
   pub before : extend {K = ℕ} key_of_code old (present_texts (take done (column_rows bits bytes offsets))) (Ok tt) new
   pub ends : EndsAfter greatest bits bytes offsets done new outcome
 
--- the same, unless the codes or the bitmap are too short
+-- a batch is interned as `InternsColumn` says, unless the codes or the bitmap are too short: then no row is
+-- done, and nothing changes
 abbrev pub InternsRoomed : ℕ → Bool → Bool → List ℕ → List ℕ → List ℕ → ℕ → InternerView → Result (Unit {0}) CallError → InternerView → Type 0
 InternsRoomed greatest true fits bits bytes offsets done old outcome new = (done ≡ 0) × (outcome ≡ Err (CodesTooShort nothing)) × (new ≡ old)
 InternsRoomed greatest false false bits bytes offsets done old outcome new = (done ≡ 0) × (outcome ≡ Err (BitmapTooShort (8 * length bits))) × (new ≡ old)
@@ -90,7 +92,7 @@ InternsPart greatest room bits bytes offsets done old outcome new =
     let rows = length (layout_texts bytes offsets) in
     InternsRoomed greatest (nat_lt room rows) (bits_fit bits rows) bits bytes offsets done old outcome new
 
--- the same with room for the codes that this buffer holds
+-- a batch is interned as `InternsPart` says, with room for the codes that this buffer holds
 abbrev pub InternsInto : ℕ → (codes : List ℕ) → List ℕ → List ℕ → List ℕ → ℕ → InternerView → Result (Unit {0}) CallError → InternerView → Type 0
 InternsInto greatest codes bits bytes offsets done old outcome new = InternsPart greatest (length codes) bits bytes offsets done old outcome new
 
@@ -108,7 +110,7 @@ BatchEnds greatest (Some old) bits bytes offsets room status report new =
     (interner : Interner) × (outcome : Result (Unit {0}) CallError) × (new ≡ Some interner) × InternsPart greatest room bits bytes offsets report.texts old.rodeo outcome interner.rodeo
     × (status ≡ outcome_status outcome) × (report ≡ batch_report report.texts outcome)
 
--- the same with room for the codes that this buffer holds
+-- how a batch ends on a handle, as `BatchEnds` says, with room for the codes that this buffer holds
 abbrev pub ColumnEnds : ℕ → Option Interner → List ℕ → List ℕ → List ℕ → (codes : List ℕ) → ℕ → LassoReport → Option Interner → Type 0
 ColumnEnds greatest old bits bytes offsets codes status report new = BatchEnds greatest old bits bytes offsets (length codes) status report new
 
@@ -119,7 +121,8 @@ TextInterned None text status new = (status ≡ NO_INTERNER) × (new ≡ None)
 TextInterned (Some old) text status new =
     (interner : Interner) × (outcome : Result ℕ CallError) × (new ≡ Some interner) × InternsCode 0 old.rodeo text outcome interner.rodeo × (status ≡ outcome_status outcome)
 
--- the same, unless the bytes are not UTF-8
+-- how interning one text ends on a handle, as `TextInterned` says, unless the bytes are not UTF-8: then the status
+-- is `NOT_UTF8`, and nothing changes
 abbrev pub TextEnds : Bool → Option Interner → Text → ℕ → Option Interner → Type 0
 TextEnds true old text status new = TextInterned old text status new
 TextEnds false old text status new = (status ≡ NOT_UTF8) × (new ≡ old)
