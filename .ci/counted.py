@@ -16,11 +16,12 @@ CC = "cc"
 
 @dataclass
 class Part:
-    """A command with its words, and a name for what it tries. Where `is_shown` is set, what it writes is shown as it comes."""
+    """A command with its words, and a name for what it tries. Where `is_shown` is set, what it writes is shown as it comes. It runs in a folder."""
 
     name: str
     words: list
     is_shown: bool = False
+    folder: str = HERE
 
 
 @dataclass
@@ -46,7 +47,7 @@ def run(part):
     begun = time.monotonic()
     with tempfile.TemporaryFile() as said:
         started = subprocess.Popen(
-            part.words, cwd=HERE, stdin=subprocess.DEVNULL, stdout=subprocess.PIPE if part.is_shown else said, stderr=subprocess.STDOUT
+            part.words, cwd=part.folder, stdin=subprocess.DEVNULL, stdout=subprocess.PIPE if part.is_shown else said, stderr=subprocess.STDOUT
         )
         for line in started.stdout or ():
             said.write(line)

@@ -45,7 +45,8 @@ def copy_of_tree():
 
 @contextlib.contextmanager
 def copy_of_room(room):
-    """A folder with the sources of the room and the libraries that were built in it, in which one crate can be tried beside others. It goes afterwards."""
+    """A folder with the sources of the room and the libraries that `rt ci` built in it, in which one crate can be tried beside others. It goes afterwards."""
+    stamp_libraries(room)
     with tempfile.TemporaryDirectory() as copy:
         for name in ("HANDLES", "crates.txt"):
             shutil.copy2(f"{room}/{name}", copy)

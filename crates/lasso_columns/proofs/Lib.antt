@@ -11,7 +11,7 @@ pub mod Steps
 pub mod Streamed
 pub mod EncodedLines
 pub mod Decoded
-pub mod Shared
+pub mod PartSizes
 pub mod PartLists
 pub mod Rewritten
 pub mod LayoutLaws

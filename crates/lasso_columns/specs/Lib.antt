@@ -1,7 +1,6 @@
 pub mod Merging
 pub mod Finding
 pub mod Faults
-pub mod Sharing
 pub mod Parts
 pub mod Rows
 pub mod Blocks

@@ -1,8 +1,8 @@
 //! Turns columns of texts into columns of codes, and back.
 //!
-//! `encode`, `encode_lines` and `encode_shared` hash with their interner's hasher, which may be any. The
-//! threads of `encode_in_parts` hash with a fixed seed. Whoever chooses the texts can make them collide, and
-//! a search then takes time linear in their number.
+//! `encode` and `encode_lines` hash with their interner's hasher, which may be any. The threads of
+//! `encode_in_parts` hash with a fixed seed. Whoever chooses the texts can make them collide, and a search then
+//! takes time linear in their number.
 #![tactic(auto)]
 
 mod ahead;
@@ -22,7 +22,6 @@ mod reading;
 mod reading_blocks;
 mod rounds;
 mod rows;
-mod sharing;
 mod stream;
 mod writing;
 
@@ -41,6 +40,5 @@ pub use parts::encode_in_parts;
 pub use reading::{append_dictionary, read_dictionary};
 pub use rounds::{put_block, put_blocks};
 pub use rows::{NULL, encode_rows, is_null};
-pub use sharing::{encode_shared, encode_shared_as};
 pub use stream::{Rounds, StreamEncoder, StreamError, encode_stream, encode_stream_by};
 pub use writing::{Dictionary, write_dictionary};

@@ -84,7 +84,7 @@ pub(super) fn encode_shared<R: AllocGlobal + Threads + Wait + Sync>(
     codes: &mut Vec<u32>,
     workers: usize,
 ) -> LassoResult<()> {
-    lasso_columns::encode_shared(rt, rodeo, texts, codes, workers)
+    lasso_shared_columns::encode_shared(rt, rodeo, texts, codes, workers)
 }
 
 // Encodes with a new pass.
@@ -96,7 +96,7 @@ fn encode_by_pass<R: AllocGlobal + Threads + Wait + Sync>(
     workers: usize,
 ) -> LassoResult<()> {
     let mut pass = rodeo.pass();
-    lasso_columns::encode_shared_as(rt, rodeo, &mut pass, texts, codes, workers)
+    lasso_shared_columns::encode_shared_as(rt, rodeo, &mut pass, texts, codes, workers)
 }
 
 // Which of the two calls encodes.

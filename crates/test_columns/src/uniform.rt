@@ -6,7 +6,7 @@ use crate::shared::{TWENTY, are_codes, encoded, has_from, is_kept, stand_for};
 use lasso::index::hash_text;
 use lasso::keyed::keyed_by;
 use lasso::{FixedState, LassoResult, MemoryLimits, Spur, SpurThreadedRodeo, ThreadedRodeo};
-use lasso_columns::encode_shared;
+use lasso_shared_columns::encode_shared;
 use std::alloc::Global;
 use std::hash::BuildHasher;
 use std::sync::Wait;

@@ -6,8 +6,9 @@ use crate::timing::{
 };
 use anyhow::{Result, ensure};
 use lasso::{Key, Spur, SpurRodeo, SpurRodeoReader, SpurThreadedRodeo};
-use lasso_columns::{decode, encode, encode_in_parts, encode_lines, encode_shared, merge};
+use lasso_columns::{decode, encode, encode_in_parts, encode_lines, merge};
 use lasso_input::first_line;
+use lasso_shared_columns::encode_shared;
 use std::alloc::Global;
 use std::rt::Clock;
 use std::str::from_utf8;

@@ -3,7 +3,7 @@ use Rattle.std.proofs.lemmas.List.{take-append-drop, length-map, length-take, ta
 use Rattle.std.proofs.lemmas.Result.{err_from_is_err_and}
 use Rattle.lasso_parts.specs.Texts.{Text}
 use Rattle.lasso_single.proofs.Encoded.{Encoded, encoded_length, told_list, told_codes}
-use Rattle.lasso_columns.proofs.Shared.{parts_reach}
+use Rattle.lasso_columns.proofs.PartSizes.{parts_reach}
 use Rattle.lasso_columns.proofs.PartLists.{encoded_join, texts_split_at, texts_more_here, next_here, slice_is}
 use Rattle.lasso_single.specs.Coding.{IsRefused, MayLackMemory, encoded_texts}
 use Rattle.lasso_columns.proofs.parts.encode_in_parts.Given.{Over}

@@ -5,7 +5,7 @@ use Rattle.std.proofs.lemmas.List.{length-drop, length-map, length-take-le, take
 use Rattle.lasso_parts.specs.Texts.{Text}
 use Rattle.lasso_single.specs.Filling.{extend}
 use Rattle.lasso_single.proofs.Filled.{accepted}
-use Rattle.lasso_columns.proofs.Shared.{parts_reach}
+use Rattle.lasso_columns.proofs.PartSizes.{parts_reach}
 use Rattle.lasso_single.specs.Coding.{spur_at, IsRefused}
 use Rattle.lasso_columns.specs.Adding.{AddsCounts, RefusesNew}
 use Rattle.lasso_columns.proofs.Added.{adds_join}

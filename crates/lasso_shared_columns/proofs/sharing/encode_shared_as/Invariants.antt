@@ -4,7 +4,7 @@ use Rattle.lasso_log.specs.Notes.{Since}
 use Rattle.lasso_log.specs.Views.{list_of, seen, IsSamePass}
 use Rattle.lasso_single.specs.Codes.{AreCodes}
 use Rattle.lasso_single.specs.Coding.{spur_at}
-use Rattle.lasso_columns.proofs.sharing.encode_shared_as.Given as goal
+use Rattle.lasso_shared_columns.proofs.sharing.encode_shared_as.Given as goal
 
 -- the texts of the earlier parts have their codes in the list that the pass has seen
 abbrev pub invariant-loop-part : goal.invariant-loop-part

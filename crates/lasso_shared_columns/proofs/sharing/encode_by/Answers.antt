@@ -4,8 +4,8 @@ use Rattle.std.proofs.lemmas.Result.{err_from_is_err_and}
 use Rattle.std.specs.Slice.Iter.{chunks_rest}
 use Rattle.lasso_parts.specs.Texts.{Text}
 use Rattle.lasso_log.specs.Views.{list_of, seen}
-use Rattle.lasso_columns.proofs.Shared.{CodedSo, coded_none, coded_batch, coded_all, batch_refused}
-use Rattle.lasso_columns.proofs.sharing.encode_by.Goals as goal
+use Rattle.lasso_shared_columns.proofs.Shared.{CodedSo, coded_none, coded_batch, coded_all, batch_refused}
+use Rattle.lasso_shared_columns.proofs.sharing.encode_by.Goals as goal
 
 abbrev now_of : List (Bor Text) → List Text
 now_of texts = map (λ t. t.now) texts

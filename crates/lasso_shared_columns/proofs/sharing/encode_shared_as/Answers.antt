@@ -7,9 +7,10 @@ use Rattle.lasso_log.specs.Views.{InternerId, list_of, seen}
 use Rattle.lasso_log.proofs.Tickets.{since_trans}
 use Rattle.lasso_single.specs.Codes.{AreCodes}
 use Rattle.lasso_single.specs.Coding.{spur_at}
-use Rattle.lasso_columns.specs.Sharing.{IsPartOf, IsRefusalIn}
-use Rattle.lasso_columns.proofs.Shared.{shared_join, refused_more, part_texts, part_contained, parts_reach, ok_at, err_at}
-use Rattle.lasso_columns.proofs.sharing.encode_shared_as.Goals as goal
+use Rattle.lasso_shared_columns.specs.Sharing.{IsPartOf, IsRefusalIn}
+use Rattle.lasso_shared_columns.proofs.Shared.{shared_join, refused_more, part_texts, part_contained, ok_at, err_at}
+use Rattle.lasso_columns.proofs.PartSizes.{parts_reach}
+use Rattle.lasso_shared_columns.proofs.sharing.encode_shared_as.Goals as goal
 
 pub loop-part-preserved : goal.loop-part-preserved
 loop-part-preserved g c =

@@ -1,6 +1,6 @@
 use Rattle.std.proofs.Common.{ℕ, ◌≡◌, ◌+◌, ◌-◌, ◌<◌, List, [], ◌∷◌, ◌++◌, length, map, take, get_or, sym, ap, ◌∙◌, arith, append_assoc}
 use Rattle.std.proofs.lemmas.List.{take_all, take_more, map_push, append-nil}
-use Rattle.lasso_columns.proofs.sharing.add_codes.Goals as goal
+use Rattle.lasso_shared_columns.proofs.sharing.add_codes.Goals as goal
 
 -- one position more
 added : (keys : List ℕ) (i d : ℕ) (before codes after : List ℕ) → i < length keys → codes ≡ before ++ map (λ k. k - 1) (take i keys) → after ≡ codes ++ (get_or keys i d - 1) ∷ [] → after ≡ before ++ map (λ k. k - 1) (take (i + 1) keys)

@@ -1,5 +1,5 @@
 use Rattle.std.proofs.Common.{◌≡◌, ◌-◌, ◌++◌, map, take}
-use Rattle.lasso_columns.proofs.sharing.add_codes.Given as goal
+use Rattle.lasso_shared_columns.proofs.sharing.add_codes.Given as goal
 
 -- the positions of the keys before the index were appended
 abbrev pub invariant-loop-key : goal.invariant-loop-key

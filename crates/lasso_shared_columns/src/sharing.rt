@@ -6,7 +6,7 @@ ghost use Rattle.lasso_log.specs.Notes.{Since};
 ghost use Rattle.lasso_log.specs.Views.{PassView, InternerId, IsSamePass, list_of, seen};
 ghost use Rattle.lasso_single.specs.Codes.{AreCodes, AddsCodes};
 ghost use Rattle.lasso_single.specs.Coding.{spur_at};
-ghost use Rattle.lasso_columns.specs.Sharing.{AddsSharedCodes, IsPartOf, IsRefusalIn, IsRefusalOnce};
+ghost use Rattle.lasso_shared_columns.specs.Sharing.{AddsSharedCodes, IsPartOf, IsRefusalIn, IsRefusalOnce};
 
 use lasso_log::log::{Pass, Snapshot};
 use lasso_parts::keys::Spur;

@@ -1,8 +1,8 @@
 use Rattle.std.proofs.Common.{◌≡◌, map}
 use Rattle.std.specs.Slice.Iter.{chunks_rest}
 use Rattle.lasso_log.specs.Views.{list_of}
-use Rattle.lasso_columns.proofs.Shared.{CodedSo}
-use Rattle.lasso_columns.proofs.sharing.encode_by.Given as goal
+use Rattle.lasso_shared_columns.proofs.Shared.{CodedSo}
+use Rattle.lasso_shared_columns.proofs.sharing.encode_by.Given as goal
 
 -- the texts of the batches so far have their codes in the list that the pass has seen
 abbrev pub invariant-loop-batch : goal.invariant-loop-batch

@@ -3,9 +3,8 @@
 -- The key that a call of a pass returns is the text's key in the list that the pass has then seen, so the
 -- code is the text's position there. The lists that passes see only grow. So codes stay right, also after
 -- a pass has learned what another has seen: the codes of all workers are those of one list.
-use Rattle.std.proofs.Common.{ℕ, zero, suc, one-mul, Bor, Result, Err, MatchResult, ◌⊎◌, inl, inr, refl, append_assoc, append-nil, ◌≡◌, ◌+◌, ◌-◌, ◌*◌, ◌<◌, ◌≤◌, List, [], ◌∷◌, ◌++◌, length, take, drop, map, min, ◌/◌, ◌%◌, Option, Some, Ok, sym, ap, subst, ◌∙◌, arith}
+use Rattle.std.proofs.Common.{ℕ, Bor, Result, Err, MatchResult, ◌⊎◌, inl, inr, refl, append_assoc, append-nil, ◌≡◌, ◌+◌, ◌-◌, ◌*◌, List, [], ◌∷◌, ◌++◌, take, drop, map, Option, Some, Ok, sym, ap, subst, ◌∙◌, arith}
 use Rattle.std.specs.Prelude.{Contains}
-use Rattle.std.proofs.Math.Nat.{mul-le-mul_right}
 use Rattle.std.proofs.Math.Seq.{take-add}
 use Rattle.std.proofs.lemmas.List.{take-map, drop-map, take-append-drop}
 use Rattle.std.proofs.lemmas.List.Elements.{Contains-append_left, Contains-append_right}
@@ -27,7 +26,7 @@ use Rattle.lasso_single.proofs.Coded.{codes_past, map_some_both}
 use Rattle.lasso_single.proofs.Encoded.{found_at}
 use Rattle.lasso_single.specs.Codes.{AreCodes}
 use Rattle.lasso_single.specs.Coding.{spur_at}
-use Rattle.lasso_columns.specs.Sharing.{IsRefusalIn}
+use Rattle.lasso_shared_columns.specs.Sharing.{IsRefusalIn}
 
 grown : (o : Totals) (before past after : History) → before ++ past ≡ after → IsPrefix (totals o before).texts (totals o after).texts
 grown o before past after is =
@@ -132,20 +131,6 @@ part_contained texts part n size text is there =
     let reached : Contains (take ((n + 1) * size) all) text =
     subst (λ ts. Contains ts text) (part_texts texts part n size is) (Contains-append_right (take (n * size) all) (map now part) text there) in
     subst (λ ts. Contains ts text) (take-append-drop ((n + 1) * size) all) (Contains-append_left (take ((n + 1) * size) all) (drop ((n + 1) * size) all) text reached)
-
-last_part : (r size : ℕ) → r < size → r ≤ min 1 r * size
-last_part zero size small = omega arith
-last_part (suc r) size small = let one : min 1 (suc r) ≡ 1 = omega arith in let whole : min 1 (suc r) * size ≡ size = ap (λ n. n * size) one ∙ one-mul size in omega (arith, whole)
-
-reach : (q r length size n : ℕ) → size * q + r ≡ length → r < size → q + min 1 r ≤ n → length ≤ n * size
-reach q r length size n is small many =
-    let enough : (q + min 1 r) * size ≤ n * size = mul-le-mul_right size many in
-    let last : r ≤ min 1 r * size = last_part r size small in
-    omega (arith, enough, last, is)
-
--- parts of this size reach the end if there are at least `length / size` of them, rounded up
-pub parts_reach : (length size n : ℕ) → 0 < size → length / size + min 1 (length % size) ≤ n → length ≤ n * size
-parts_reach length size n some many = reach (length / size) (length % size) length size n (omega arith) (omega arith) many
 
 -- what holds of the value of an `Ok`, and of the error of an `Err`
 pub ok_at : {T E : Type 0} (P : T → Type 0) (Q : E → Type 0) (r : Result T E) (x : T) → MatchResult r P Q → r ≡ Ok x → P x
