@@ -5,6 +5,8 @@ PREFIX ?= /usr/local
 WORDS = FILE ARGS PREFIX DESTDIR BINDIR INCLUDEDIR LIBDIR MANDIR BASHDIR ZSHDIR FISHDIR CRATE PART
 $(foreach word,$(WORDS),$(eval override $(word) := $$(value $(word))))
 export $(WORDS)
+# With it `cd` would go elsewhere, and print where.
+unexport CDPATH
 PROGRAM = crates/lasso_lines/out/lasso_lines
 CODES = crates/lasso_codes/out/lasso_codes
 LIBRARY = crates/lasso_c/out/liblasso_c.a
@@ -27,8 +29,8 @@ OWN_LINES = grep -vE '^(interpreter|checked|races): |^run=[a-z-]+ .*proved=no$$'
 define build
 	@$(MAKE) -s toolchain
 	@echo "proving and building $(1) and the libraries below it; what is proved is kept for the next time" >&2
-	@jobs=$$(.ci/jobs); cd crates/$(1) && rm -f out.failed && \
-	{ rt $(2) $${jobs:+--jobs "$$jobs"} $(3) < /dev/null 2>&1 || touch out.failed; } | tee out.log | $(PROGRESS) >&2
+	@jobs=$$(.ci/jobs); cd crates/$(1) && touch out.failed && \
+	{ rt $(2) $${jobs:+--jobs "$$jobs"} $(3) < /dev/null 2>&1 && rm out.failed; } | tee out.log | $(PROGRESS) >&2
 	@cd crates/$(1) && if [ -e out.failed ]; then cat out.log >&2; rm -f out.failed out.log; exit 1; fi
 	@rm -f crates/$(1)/out.log
 endef
@@ -39,7 +41,7 @@ endef
 help:
 	@sed -n 's/^#: \{0,1\}//p' Makefile
 	@echo
-	@echo "FILE is a file of lines, $(FILE) unless given; ARGS are words of lasso_lines, as ARGS='--limit 5000'."
+	@echo "FILE is a file of lines, sample/words.txt unless given; ARGS are words of lasso_lines, as ARGS='--limit 5000'."
 
 #:
 #: Run lasso_lines on a file:
