@@ -148,7 +148,7 @@ def make_real_inputs():
     }
     for name, command in commands.items():
         if not os.path.exists(f"{INPUTS}/{name}"):
-            said_of(["bash", "-c", f"{command} > {INPUTS}/{name}.part && mv {INPUTS}/{name}.part {INPUTS}/{name}"])
+            said_of(["bash", "-o", "pipefail", "-c", f"{command} > {INPUTS}/{name}.part && mv {INPUTS}/{name}.part {INPUTS}/{name}"])
 
 
 def rounds_of_calls(first):
