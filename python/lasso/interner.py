@@ -72,9 +72,11 @@ class Interner(Core):
 
     def to_categorical(self, codes: Any) -> Any:
         """A pandas Categorical of codes: those that ``encode`` returned, or any array of integers. Its categories are the interner's texts in the
-        order of their codes; NULL and -1 are nulls. It needs pandas, and raises ValueError for a code that has no text, and TypeError for
-        what are no integers."""
+        order of their codes; NULL, -1 and what is masked are nulls. It needs pandas, and raises ValueError for a code that has no text, and
+        TypeError for what are no integers."""
         numpy, pandas = importlib.import_module("numpy"), importlib.import_module("pandas")
+        if isinstance(codes, numpy.ma.MaskedArray) and codes.dtype.kind in "iu":
+            codes = [NULL if code is None else code for code in codes.tolist()]
         numbers = numpy.asarray(codes)
         if isinstance(codes, (bytes, bytearray)) or numbers.ndim != 1 or (numbers.size > 0 and numbers.dtype.kind not in "iu"):
             raise TypeError(f"codes are integers in one dimension, and these are a {type(codes).__name__} of {numbers.dtype}")

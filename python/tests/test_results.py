@@ -91,6 +91,9 @@ def test_makes_categoricals_of_integers_by_value() -> None:
         assert (made.codes.tolist(), made.categories.tolist()) == ([0, -1, 1], ["red", "blue"])
     assert len(interner.to_categorical([])) == 0
     assert interner.to_categorical(numpy.array([1, 0], dtype=numpy.uint8)).tolist() == ["blue", "red"]
+    for kind in (numpy.uint32, numpy.int64):
+        made = interner.to_categorical(numpy.ma.array([1, 0, 2**32 - 1 if kind is numpy.uint32 else 2**40], mask=[False, True, True], dtype=kind))
+        assert made.isna().tolist() == [False, True, True] and made[0] == "blue"
     for wrong in (codes.tobytes(), bytearray(codes.tobytes()), [0.5], ["red"], [[0]], [True], 5):
         with pytest.raises(TypeError):
             interner.to_categorical(wrong)
