@@ -49,7 +49,7 @@ help:
 #:                                   (rt try: at most 1 MiB of output and 60 seconds; 20 million steps if it interprets)
 try: input toolchain
 	@printf '%s\n' "make try proves nothing. make run FILE='$$FILE' proves lasso_lines first: once, half an hour on four cores." >&2
-	@said=$$(mktemp) && trap 'rm -f "$$said"' EXIT && (cd crates/lasso_lines && set -f && rt try -- $$ARGS) < "$$FILE" 2> "$$said"; status=$$?; \
+	@said=$$(realpath -- "$$(mktemp)") && trap 'rm -f "$$said"' EXIT && (cd crates/lasso_lines && set -f && rt try -- $$ARGS) < "$$FILE" 2> "$$said"; status=$$?; \
 	if grep -q '^checked: no-answer: .* wrote more than' "$$said"; then \
 		echo "make try: the output is more than 1 MiB (1048576 bytes), the most that rt try hands on." >&2; \
 		printf '%s\n' "Give fewer lines, as by head -n 1000 '$$FILE' > part && make try FILE=part, or use make run: it has no such limit." >&2; \
