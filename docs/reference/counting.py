@@ -50,8 +50,6 @@ def unexplained(folder):
             calls = [] if name.startswith(("words.", "lemmas.")) else CALL.findall(source.read())
         for call in calls:
             signature = SIGNATURE.search(call)
-            if not signature:  # defined by the header for C, without clauses
-                continue
             parameters = set(PARAMETER.findall(plain(signature[1])))
             for clause in CLAUSE.findall(call, signature.end()):
                 found = list(words_without(clause, parameters))

@@ -51,9 +51,22 @@ def prototypes(text):
 
 
 def shown(comment, places):
-    """The HTML of a comment: a paragraph that has columns or a list stays in its lines. A word with a place leads there."""
+    """The HTML of a comment: a paragraph that has columns stays in its lines. A word with a place leads there."""
     def link(word):
         return f'<a href="{places[word[0]]}">{word[0]}</a>' if word[0] in places else word[0]
 
-    parts = (WORD.sub(link, html.escape(part)) for part in comment.split("\n\n"))
-    return "".join(f'<pre class="said">{part}</pre>' if re.search(r"\S   +|\n-|^    ", part) else f"<p>{part}</p>" for part in parts)
+    return "".join(paragraph(WORD.sub(link, html.escape(part))) for part in comment.split("\n\n"))
+
+
+def paragraph(part):
+    """The HTML of a paragraph, which may have lists of lines that begin with a dash."""
+    if re.search(r"\S   +|^    ", part):
+        return f'<pre class="said">{part}</pre>'
+    shown, kind = "", ""
+    for line in part.split("\n"):
+        item = "li" if line.startswith("- ") or kind == "li" and line.startswith("  ") else "p"
+        begins = item != kind or line.startswith("- ")
+        shown += f"\0{item} {line.removeprefix('- ')}" if begins else f"\n{line}"
+        kind = item
+    tagged = re.sub(r"\0(li|p) ([^\0]*)", r"<\1>\2</\1>", shown)
+    return re.sub(r"(?:<li>.*?</li>)+", lambda items: f"<ul>{items[0]}</ul>", tagged, flags=re.DOTALL)

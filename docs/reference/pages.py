@@ -182,10 +182,10 @@ class Reference:
         found = self.header.prototypes.get(call.name) if 'extern "C"' in call.signature else None
         return f"{self.declared_in_c(found)}<h4>The same call in Rattle</h4>" if found else ""
 
-    def declared_in_c(self, found):
+    def declared_in_c(self, found, shown_as="prototype"):
         """A part of the header with its comment."""
         return (
-            f'<pre class="prototype">{highlight(found.text, CLexer(), FORMATTER)}</pre>{header.shown(found.said, self.in_header)}'
+            f'<pre class="{shown_as}">{highlight(found.text, CLexer(), FORMATTER)}</pre>{header.shown(found.said, self.in_header)}'
             f"<p>{self.source_link(header.SOURCE, found.line)}</p>"
         )
 
@@ -200,7 +200,7 @@ class Reference:
             parts.append(f"<h2>{title}</h2>")
             for name, one in found.items():
                 self.entries.append(Entry(name, kind, self.in_header[name], first_sentence(one.said)[:SEARCH_SUMMARY], self.task_of(name)))
-                parts.append(f'<section class="call" id="{name}"><h3><a href="#{name}">{name}</a></h3>{self.declared_in_c(one)}</section>')
+                parts.append(f'<section class="call" id="{name}"><h3><a href="#{name}">{name}</a></h3>{self.declared_in_c(one, "signature")}</section>')
         return "".join(parts)
 
     def with_help(self, body):
