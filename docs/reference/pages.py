@@ -34,6 +34,11 @@ HEADING = re.compile(r'<h2>(?P<group>.*?)</h2>|<section class="call" id="(?P<pla
 FIELD = re.compile(r"^(?:    ///.*\n)*    pub (?!ghost).*,$", re.MULTILINE)
 EXAMPLES = "lasso_guide"
 LEMMAS = "lemmas.html"
+C_CRATE = "lasso_c"
+# The page that also has what the header for C says.
+HEADER_PAGE = f"module.{C_CRATE}.html"
+# The head of a page of the library for C.
+OF_C = re.compile(rf'<p class="path">{C_CRATE}</p>|</small> {C_CRATE}(?:::|$)')
 
 
 def code(text):
@@ -73,9 +78,10 @@ class Reference:
         self.links = Links(definitions, passed_on, std_words, self.types, dict(self.places()))
         self.entries = []
         with open(os.path.join(root, header.SOURCE), encoding="utf-8") as source:
-            self.prototypes = header.prototypes(source.read())
-        with open(os.path.join(os.path.dirname(os.path.abspath(__file__)), "reading.html"), encoding="utf-8") as source:
-            self.reading = source.read()
+            self.header = header.read(source.read())
+        self.in_header = dict(self.places_of_header())
+        here = os.path.dirname(os.path.abspath(__file__))
+        self.reading, self.reading_c = (open_text(os.path.join(here, name)) for name in ("reading.html", "reading_c.html"))
 
     def exported(self):
         """The names that reachable modules export, by the last module of their path."""
@@ -113,6 +119,17 @@ class Reference:
         for page in self.modules:
             for _, item in self.constants_in(page) if page.is_public else ():
                 yield f"{page.crate}.{item.name}", Place(" ".join(item.docs.split()), item.head, f"{page_of_module(page)}#{item.name}")
+
+    def places_of_header(self):
+        """Where the pages have each call, type and name of the header."""
+        for page in self.modules:
+            if page.crate == C_CRATE and page.is_public:
+                yield from ((item.name, f"{page_of_module(page)}#{anchor(item.name)}") for _, item in self.functions_in(page))
+        for name in (*self.header.inlines, *self.header.constants, *(status for status, _, _ in self.header.statuses)):
+            yield name, f"{HEADER_PAGE}#{name}"
+        for crate, name in self.types:
+            if crate == C_CRATE and in_c(name) in self.header.types:
+                yield f"struct {in_c(name)}", page_of_type(crate, name)
 
     def typed(self, text, module):
         """Code of a module with a link at each type that has a page, and an explanation at each of std."""
@@ -162,13 +179,29 @@ class Reference:
 
     def in_c(self, call):
         """What the header says of a call of the library for C, or ''."""
-        found = self.prototypes.get(call.name) if 'extern "C"' in call.signature else None
-        if not found:
-            return ""
+        found = self.header.prototypes.get(call.name) if 'extern "C"' in call.signature else None
+        return f"{self.declared_in_c(found)}<h4>The same call in Rattle</h4>" if found else ""
+
+    def declared_in_c(self, found, shown_as="prototype"):
+        """A part of the header with its comment."""
         return (
-            f'<pre class="prototype">{highlight(found.text, CLexer(), FORMATTER)}</pre>{said_in_header(found.said)}'
-            f"<p>{self.source_link(header.SOURCE, found.line)}</p><h4>The same call in Rattle</h4>"
+            f'<pre class="{shown_as}">{highlight(found.text, CLexer(), FORMATTER)}</pre>{header.shown(found.said, self.in_header)}'
+            f"<p>{self.source_link(header.SOURCE, found.line)}</p>"
         )
+
+    def page_of_header(self):
+        """What the header says of every call, its statuses, its constants, and the calls that it defines."""
+        rows = []
+        for name, number, said in self.header.statuses:
+            self.entries.append(Entry(name, "status in C", self.in_header[name], said))
+            rows.append(f'<tr id="{name}"><td><code>{name}</code></td><td>{number}</td><td>{html.escape(said)}</td></tr>')
+        parts = [f'<h2>What lasso.h says</h2>{header.shown(self.header.head, self.in_header)}<h2 id="statuses">Statuses</h2><table>{"".join(rows)}</table>']
+        for title, kind, found in (("Constants", "constant in C", self.header.constants), ("Calls that lasso.h defines", "call", self.header.inlines)):
+            parts.append(f"<h2>{title}</h2>")
+            for name, one in found.items():
+                self.entries.append(Entry(name, kind, self.in_header[name], first_sentence(one.said)[:SEARCH_SUMMARY], self.task_of(name)))
+                parts.append(f'<section class="call" id="{name}"><h3><a href="#{name}">{name}</a></h3>{self.declared_in_c(one, "signature")}</section>')
+        return "".join(parts)
 
     def with_help(self, body):
         """A page after its title, with how to read a clause, and with a list of its calls if there are many."""
@@ -184,7 +217,8 @@ class Reference:
         lists = "".join(f"<li>{group} {', '.join(calls)}</li>" for group, calls in groups if calls)
         contents = f'<nav aria-label="Calls"><ul class="contents">{lists}</ul></nav>' if sum(len(calls) for _, calls in groups) >= MANY_CALLS else ""
         title, end, rest = body.partition("</h1>")
-        return f'{title}{end}{contents}<details class="reading"><summary>How to read a clause</summary>{self.reading}</details>{rest}'
+        reading = self.reading_c + self.reading if OF_C.search(title) else self.reading
+        return f'{title}{end}{contents}<details class="reading"><summary>How to read a clause</summary>{reading}</details>{rest}'
 
     def calls_of_type(self, crate, name, url):
         """The calls of a type or trait, in the order of what a caller does, each file's under its comment."""
@@ -224,11 +258,20 @@ class Reference:
                 declared = self.with_variants(declared, item, url, name)
             body = (
                 f'<p class="path">{crate}</p><h1><small>{item.kind}</small> {name}</h1>'
+                f"{self.type_in_c(crate, name)}"
                 f'<pre class="signature">{declared}</pre>{prose(item.docs, 2)}'
                 f"<p>{self.source_link(module.file, item.line)}</p>"
                 f"{self.contract_view(crate, name)}{self.calls_of_type(crate, name, url)}"
             )
             yield url, name, self.with_help(body)
+
+    def type_in_c(self, crate, name):
+        """What the header says of a type of the library for C, or ''."""
+        found = self.header.types.get(in_c(name)) if crate == C_CRATE else None
+        if not found:
+            return ""
+        self.entries.append(Entry(f"struct {in_c(name)}", "type in C", page_of_type(crate, name), first_sentence(found.said)[:SEARCH_SUMMARY]))
+        return f"<h2>In C</h2>{self.declared_in_c(found)}<h2>The same type in Rattle</h2>"
 
     def with_variants(self, declared, item, url, name):
         """The code of an enum with a place at each variant."""
@@ -245,7 +288,8 @@ class Reference:
             name = "::".join((module.crate, *module.path))
             url = page_of_module(module)
             self.entries.append(Entry(name, "module", url, first_sentence(module.docs)[:SEARCH_SUMMARY]))
-            body = f"<h1><small>module</small> {name}</h1>{prose(module.docs, 2)}{self.inside(module, url)}"
+            of_header = self.page_of_header() if url == HEADER_PAGE else ""
+            body = f"<h1><small>module</small> {name}</h1>{prose(module.docs, 2)}{of_header}{self.inside(module, url)}"
             yield url, name, self.with_help(body)
 
     def inside(self, module, url):
@@ -400,10 +444,14 @@ def order_of(module):
     return ORDER.index(last) + 1 if last in ORDER else 0 if len(module.path) < 2 else len(ORDER) + 1
 
 
-def said_in_header(comment):
-    """The HTML of a comment of the header: a paragraph that has columns stays in its lines."""
-    parts = (html.escape(part) for part in comment.split("\n\n"))
-    return "".join(f'<pre class="said">{part}</pre>' if re.search(r"\S   +|\n-", part) else f"<p>{part}</p>" for part in parts)
+def open_text(path):
+    with open(path, encoding="utf-8") as source:
+        return source.read()
+
+
+def in_c(name):
+    """The name in C of a type of the library for C, as `lasso_text` of `LassoText`."""
+    return re.sub(r"(?<=[a-z])(?=[A-Z])", "_", name).lower()
 
 
 def shown_body(item):

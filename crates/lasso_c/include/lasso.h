@@ -75,11 +75,11 @@ extern "C" {
 
 /* How a call ended. */
 enum lasso_status {
-    LASSO_DONE = 0,
+    LASSO_DONE = 0,              /* the call did what is said of it */
     LASSO_OFFSETS_FALL = 1,      /* an offset is below the one before it, and not negative */
     LASSO_OFFSET_PAST_BYTES = 2, /* an offset is past the bytes, or negative */
     LASSO_NOT_UTF8 = 3,          /* a text is not UTF-8 */
-    LASSO_NO_SUCH_CODE = 4,      /* the dictionary has no text for a code */
+    LASSO_NO_SUCH_CODE = 4,      /* the dictionary or the interner has no text for a code */
     LASSO_TOO_MANY_BYTES = 5,    /* the decoded texts have more than 2^31 - 1 bytes */
     LASSO_CODES_TOO_SHORT = 6,   /* there is no room for a code of each text */
     LASSO_OFFSETS_TOO_SHORT = 7, /* there is no room for an offset of each written text and one more */
@@ -291,7 +291,8 @@ uint32_t lasso_new_sized_keyed(struct lasso *lasso, size_t texts, size_t bytes, 
 uint32_t lasso_clone(struct lasso *lasso, struct lasso *clone);
 
 /*
- * Interns a text, and appends it first if it is absent. *code is its code until lasso_clear, lasso_new or lasso_free.
+ * Interns a text, and appends it first if it is absent. *code is its code until lasso_clear, lasso_free, or a call
+ * that makes an interner in the handle.
  *
  * Returns the first that applies: LASSO_NOT_UTF8; LASSO_NO_INTERNER; for an absent text LASSO_NO_CODE_LEFT,
  * LASSO_LIMIT_REACHED, LASSO_NO_MEMORY; else LASSO_DONE.
@@ -412,7 +413,7 @@ struct lasso_text {
 #define LASSO_NO_TEXT {(const uint8_t *)"", 0}
 
 /*
- * Lends the text of a code.
+ * Lends the text of a code, for as long as struct lasso_text says.
  *
  * text                the caller's, written: one struct, which before is LASSO_NO_TEXT or a text that still lasts.
  *

@@ -19,10 +19,10 @@ use std::hash::BuildHasher;
 
 impl<K: Key, S: BuildHasher, A: Allocator + Clone> Rodeo<K, S, A> {
     /// Returns the text's key, and appends the text first if it is new. Interning a present text never fails.
-    /// A new text fails when the key type has no key for its position (`KeySpaceExhaustion`), else when it
-    /// would pass the memory limit (`MemoryLimitReached`), else when out of memory (`FailedAllocation`). Then
-    /// the texts and the counts of their bytes are as before; no contract says so of `capacity` and
-    /// `allocated_bytes`.
+    /// A new text fails when the key type has no key for its position (`KeySpaceExhaustion`), else when no
+    /// bucket has room for it and its bytes would take the buckets past the memory limit
+    /// (`MemoryLimitReached`), else when out of memory (`FailedAllocation`). Then the texts and the counts of
+    /// their bytes are as before; no contract says so of `capacity` and `allocated_bytes`.
     ///
     /// ```rust
     /// let mut rodeo = Rodeo::default(rt.alloc())?;
@@ -42,7 +42,7 @@ impl<K: Key, S: BuildHasher, A: Allocator + Clone> Rodeo<K, S, A> {
         // What stays in each case: the first bucket's size, and the record of clears
         ensures origin { KeepsOrigin self.old self.new }
 
-        // On failure nothing changes. No key left comes before the limit, and the limit before memory, which may run out at any time.
+        // On failure texts and account stay. No key left comes before the limit, and the limit before memory, which may run out at any time.
         ensures unchanged { OnErr result (self.new ≡ self.old) }
         ensures no_key { (result ≡ Err KeySpaceExhaustion) ↔ (IsAbsent self.old text.now × (next_key K.key_at self.old ≡ None)) }
         ensures limit { (result ≡ Err MemoryLimitReached)
@@ -120,7 +120,7 @@ impl<K: Key, S: BuildHasher, A: Allocator + Clone> Rodeo<K, S, A> {
         // What stays in each case: the first bucket's size, and the record of clears
         ensures origin { KeepsOrigin self.old self.new }
 
-        // On failure nothing changes. No key left comes before the limit, and the limit before memory, which may run out at any time.
+        // On failure texts and account stay. No key left comes before the limit, and the limit before memory, which may run out at any time.
         ensures unchanged { OnErr result (self.new ≡ self.old) }
         ensures no_key { (result ≡ Err KeySpaceExhaustion) ↔ (IsAbsent self.old text.now × (next_key K.key_at self.old ≡ None)) }
         ensures limit { (result ≡ Err MemoryLimitReached)
@@ -158,7 +158,7 @@ impl<K: Key, S: BuildHasher, A: Allocator + Clone> Rodeo<K, S, A> {
         ensures copied { self.new.copied ≡ self.old.copied }
         ensures origin { KeepsOrigin self.old self.new }
 
-        // On failure nothing changes. No key left comes before memory, which may run out at any time; the limit is never the error.
+        // On failure texts and account stay. No key left comes before memory, which may run out at any time; the limit is never the error.
         ensures unchanged { OnErr result (self.new ≡ self.old) }
         ensures no_key { (result ≡ Err KeySpaceExhaustion) ↔ (IsAbsent self.old text.now × (next_key K.key_at self.old ≡ None)) }
         ensures no_limit { result ≢ Err MemoryLimitReached }
@@ -211,7 +211,7 @@ impl<K: Key, S: BuildHasher, A: Allocator + Clone> Rodeo<K, S, A> {
         ensures copied { self.new.copied ≡ self.old.copied }
         ensures origin { KeepsOrigin self.old self.new }
 
-        // On failure nothing changes. No key left comes before memory, which may run out at any time; the limit is never the error.
+        // On failure texts and account stay. No key left comes before memory, which may run out at any time; the limit is never the error.
         ensures unchanged { OnErr result (self.new ≡ self.old) }
         ensures no_key { (result ≡ Err KeySpaceExhaustion) ↔ (IsAbsent self.old text.now × (next_key K.key_at self.old ≡ None)) }
         ensures no_limit { result ≢ Err MemoryLimitReached }
