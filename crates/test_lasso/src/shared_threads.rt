@@ -1,8 +1,7 @@
 //! Two threads that use one shared interner through its interfaces.
-use crate::shared::{fresh, hello};
 use crate::shared_interfaces::by_reference;
 use crate::steps::Step::{Finds, Interns, Keeps};
-use crate::steps::{Step, Way, finds, is_so};
+use crate::steps::{Step, Way, finds, fresh, hello, is_so};
 use lasso::{LassoResult, MemoryLimits, Spur, SpurThreadedRodeo};
 use std::alloc::Global;
 use std::sync::Wait;
