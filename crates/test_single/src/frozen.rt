@@ -1,5 +1,4 @@
-//! Readers and resolvers in two threads, and a reader in a loop with a contract.
-ghost use Rattle.std.specs.Prelude.{◌≤◌, All, length};
+//! Readers and resolvers in two threads.
 
 use crate::interners::{
     SpurReader, SpurResolver, both, frozen, has_key, is_so, is_text, key_at, of_texts, resolving,
@@ -64,24 +63,6 @@ fn two_threads_share_a_reader(rt: HostRuntime) -> Result<(), Fail> {
     let reader = frozen(of_texts(rt.alloc(), &["A"])?);
     crosses(&reader);
     share(&rt, &reader)
-}
-
-// The length of the longest text in bytes. Its contract shows what can be proved of a loop over a reader.
-fn longest<K: Key, S: BuildHasher, A: Allocator>(reader: &RodeoReader<K, S, A>) -> usize
-    ensures { All (λ t. length t ≤ result) reader.now }
-{
-    let mut most = 0;
-    for (_key, text) in reader {
-        most = most.max(text.len());
-    }
-    most
-}
-
-#[test]
-fn a_loop_sees_each_text(rt: HostRuntime) -> Result<(), Fail> {
-    let reader = frozen(of_texts(rt.alloc(), &["ab", "cdef", "g"])?);
-    is_so(&rt, longest(&reader) == 4, "the longest text");
-    Ok(())
 }
 
 // Resolvers in two threads.
