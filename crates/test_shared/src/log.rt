@@ -1,12 +1,10 @@
 //! Hints of a pass: which positions they tell, and when they rest.
-ghost use Rattle.std.specs.Prelude.{◌≡◌, ◌∷◌, ◌++◌, [], IfOk, OnOk, codes};
+ghost use Rattle.std.specs.Prelude.{◌≡◌, ◌∷◌, ◌++◌, [], OnOk};
 ghost use Rattle.lasso_log.specs.Views.{InternerId, PassView, list_of, SpineView};
 ghost use Rattle.lasso_log.specs.History.{Lacks};
-ghost use Rattle.lasso_log.specs.Openings.{OpeningView};
 
 use crate::checks::is_so;
-use lasso_log::log::{Log, NewLog, OpeningTexts, Pass, Spine};
-use lasso_log::shared_memory::piece::Piece;
+use lasso_log::log::{Log, Opened, Pass, Spine};
 use lasso_parts::keys::{Key, Spur};
 use lasso_parts::util::{LassoError, LassoErrorKind, LassoResult};
 use std::alloc::Global;
@@ -36,31 +34,7 @@ fn add<R: Wait>(
     Ok(())
 }
 
-// Two texts for a log to open with, one of them empty. The other is copied into a bucket of 8 bytes.
-fn two_texts(alloc: Global) -> LassoResult<OpeningTexts>
-    ensures texts { IfOk result (λ t. t.texts ≡ codes "bc" ∷ [] ∷ []) }
-    ensures bucket { IfOk result (λ t. t.bucket.size ≡ 8) }
-{
-    let mut texts = OpeningTexts::new(alloc, 8)?;
-    let Some(copied) = texts.copy_in("bc") else {
-        return Err(LassoError::new(LassoErrorKind::FailedAllocation));
-    };
-    texts.push(alloc, copied)?;
-    texts.push(alloc, Piece::from_static(""))?;
-    Ok(texts)
-}
-
-// A log that opens with them.
-fn opens(alloc: Global) -> LassoResult<NewLog<Spur>>
-    ensures spine { IfOk result (λ n. n.spine.of ≡ n.log) }
-    ensures list { IfOk result (λ n. list_of n.log n.spine.notes ≡ codes "bc" ∷ [] ∷ []) }
-    ensures bucket { IfOk result (λ n. n.bucket.of ≡ n.log) }
-{
-    let texts = two_texts(alloc)?;
-    Ok(Log::open_with(texts, u64::MAX))
-}
-
-// The texts of the list, two of its opening and three that are appended.
+// The texts of the list, one of them empty.
 static TEXTS: [&str; 5] = ["bc", "", "a", "p", "q"];
 
 // A hash for each text. All choose the same set, and differ in bits that no position here has.
@@ -75,8 +49,8 @@ const TURNS: u32 = 10_000;
 // More texts than two rounds have.
 const HITS: u32 = 200_000;
 
-// Appends the last three texts.
-fn add_three<R: Wait>(
+// Appends the texts.
+fn add_all<R: Wait>(
     rt: &R,
     alloc: Global,
     log: &Log<Spur>,
@@ -84,9 +58,11 @@ fn add_three<R: Wait>(
     pass: &mut Pass<Spur>,
 ) -> LassoResult<()>
     requires of { (pass.old.of ≡ log.now) × (spine.old.of ≡ log.now) }
-    requires list { list_of log.now spine.old.notes ≡ codes "bc" ∷ [] ∷ [] }
+    requires list { list_of log.now spine.old.notes ≡ [] }
     ensures { pass.new.of ≡ log.now }
 {
+    add(rt, alloc, log, spine, pass, "bc")?;
+    add(rt, alloc, log, spine, pass, "")?;
     add(rt, alloc, log, spine, pass, "a")?;
     add(rt, alloc, log, spine, pass, "p")?;
     add(rt, alloc, log, spine, pass, "q")
@@ -212,10 +188,10 @@ fn append_and_tell<R: Abort + Wait>(
     spine: &mut Spine<Spur>,
 ) -> Result<(), Fail>
     requires of { spine.old.of ≡ log.now }
-    requires list { list_of log.now spine.old.notes ≡ codes "bc" ∷ [] ∷ [] }
+    requires list { list_of log.now spine.old.notes ≡ [] }
 {
     let mut pass = log.pass();
-    add_three(rt, alloc, log, spine, &mut pass)?;
+    add_all(rt, alloc, log, spine, &mut pass)?;
     let mut asked = Asked { log, pass };
     // without a table nothing is kept
     let is_asked = keeps(&mut asked, HASHES[2], 2);
@@ -228,10 +204,10 @@ fn append_and_tell<R: Abort + Wait>(
 
 #[test]
 fn hints_tell_the_texts_that_they_were_kept_of(rt: HostRuntime) -> Result<(), Fail> {
-    let NewLog {
-        log,
-        mut spine,
-        bucket: _,
-    } = opens(rt.alloc())?;
+    let opened = Opened {
+        size: 4096,
+        limit: u64::MAX,
+    };
+    let (log, mut spine) = Log::open(rt.alloc(), opened)?;
     append_and_tell(&rt, rt.alloc(), &log, &mut spine)
 }

@@ -1,17 +1,24 @@
 //! Makers of interners, and interners filled from items, by calls that a script of `tool_replay` can't make.
-//! After a refusal an iterator that is lent stands right after the refused item.
+//! After a refusal an iterator that is lent stands right after the refused item. Readers and resolvers in two threads.
 mod batches;
 
 use crate::interners::{
-    KEYS, LIMIT, MEMORY, Small, has_count, interner, interns, is_refused, is_so, is_so_at, takes,
+    KEYS, LIMIT, MEMORY, Small, SpurReader, SpurResolver, both, frozen, has_count, has_key,
+    interner, interns, is_refused, is_so, is_so_at, is_text, key_at, of_texts, resolving, takes,
 };
-use lasso_parts::keys::Spur;
+use lasso_parts::keys::{Key, Spur};
 use lasso_parts::util::{Capacity, FixedState, LassoResult, MemoryLimits};
+use lasso_single::reader::RodeoReader;
+use lasso_single::resolver::RodeoResolver;
 use lasso_single::rodeo::Rodeo;
-use std::alloc::Global;
+use std::alloc::{Allocator, Global};
+use std::hash::BuildHasher;
 use std::iter::repeat_n;
+use std::process::Abort;
 use std::slice::Iter;
 use std::test::Fail;
+use std::thread;
+use std::thread::Threads;
 use test_common::keys::{BelowTwo, Gap};
 use test_common::texts::{is_next, numbered};
 
@@ -180,4 +187,105 @@ fn from_iter_leaves_lent_items_after_the_refused_one(rt: HostRuntime) -> Result<
     is_so(&rt, refused, "the third item");
     is_so(&rt, is_next(&mut items, &texts, 3), "the fourth");
     Ok(())
+}
+
+// Readers in two threads.
+
+fn has_at(reader: &SpurReader, position: usize, text: &str) -> bool {
+    match reader.get(text) {
+        Some(key) => key.into_usize() == position,
+        None => false,
+    }
+}
+
+// Whether "A" is there with key 0, and no other key stands for a text.
+fn has_a_alone(reader: &SpurReader, near: Spur, far: Spur) -> bool {
+    has_at(reader, 0, "A")
+        && reader.get("F").is_none()
+        && is_text(reader.try_resolve(near), "A")
+        && reader.try_resolve(far).is_none()
+}
+
+fn is_shared<T: Send + Sync>(_value: &T) {}
+
+// A reader and its iterators are `Send` and `Sync` if the keys, the hasher and the allocator are.
+fn crosses<K: Key + Send + Sync, S: BuildHasher + Send + Sync, A: Allocator + Send + Sync>(
+    reader: &RodeoReader<K, S, A>,
+) {
+    is_shared(reader);
+    is_shared(&reader.iter());
+    is_shared(&reader.strings());
+}
+
+fn in_two_threads(rt: &impl Threads, reader: &SpurReader, near: Spur, far: Spur) -> (bool, bool) {
+    thread::join(
+        rt,
+        || has_a_alone(reader, near, far),
+        || has_a_alone(reader, near, far),
+    )
+}
+
+fn share<R: Threads + Abort>(rt: &R, reader: &SpurReader) -> Result<(), Fail> {
+    let (near, far) = (key_at(0)?, key_at(10)?);
+    is_so(
+        rt,
+        both(in_two_threads(rt, reader, near, far)),
+        "two threads",
+    );
+    is_so(rt, has_a_alone(reader, near, far), "one thread");
+    Ok(())
+}
+
+#[test]
+fn two_threads_share_a_reader(rt: HostRuntime) -> Result<(), Fail> {
+    let reader = frozen(of_texts(rt.alloc(), &["A"])?);
+    crosses(&reader);
+    share(&rt, &reader)
+}
+
+// Resolvers in two threads.
+
+// Whether the key `near` stands for "A", and the key `far` for no text.
+fn resolves_a_alone(resolver: &SpurResolver, near: Spur, far: Spur) -> bool {
+    is_text(resolver.try_resolve(near), "A") && resolver.try_resolve(far).is_none()
+}
+
+// A resolver is `Send` and `Sync` if the keys and the allocator are.
+fn resolver_crosses<K: Key + Send + Sync, A: Allocator + Send + Sync>(
+    resolver: &RodeoResolver<K, A>,
+) {
+    is_shared(resolver);
+}
+
+fn resolver_in_two_threads(
+    rt: &impl Threads,
+    resolver: &SpurResolver,
+    near: Spur,
+    far: Spur,
+) -> (bool, bool) {
+    thread::join(
+        rt,
+        || resolves_a_alone(resolver, near, far),
+        || resolves_a_alone(resolver, near, far),
+    )
+}
+
+fn share_resolver<R: Threads + Abort>(rt: &R, resolver: &SpurResolver) -> Result<(), Fail> {
+    let (near, far) = (key_at(0)?, key_at(10)?);
+    is_so(
+        rt,
+        both(resolver_in_two_threads(rt, resolver, near, far)),
+        "two threads",
+    );
+    is_so(rt, resolves_a_alone(resolver, near, far), "one thread");
+    Ok(())
+}
+
+#[test]
+fn two_threads_share_a_resolver(rt: HostRuntime) -> Result<(), Fail> {
+    let rodeo = of_texts(rt.alloc(), &["A"])?;
+    is_so(&rt, has_key(&rodeo, "A", 0), "the key of the text");
+    let resolver = resolving(rodeo);
+    resolver_crosses(&resolver);
+    share_resolver(&rt, &resolver)
 }
