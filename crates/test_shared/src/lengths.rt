@@ -60,50 +60,51 @@ fn a_text_of_each_length_is_found_by_a_pass(rt: HostRuntime) -> Result<(), Fail>
 }
 
 // The only bucket has one byte, which no call but the last takes.
+static OVER_ONE_BYTE: [Step; 38] = [
+    Finds("", None),
+    ByNew(Call::Finds("", None)),
+    AllocatesOver(0),
+    EqualsItself,
+    Counts(0),
+    Uses(1),
+    IsLimited(1),
+    Interns(Way::Given, "", Ok(0)),
+    ByOne(Call::Finds("", Some(0))),
+    ByOne(Call::Finds("a", None)),
+    Finds("", Some(0)),
+    Finds("a", None),
+    Counts(1),
+    Uses(1),
+    IsLimited(1),
+    EachInterns("", Ok(0)),
+    ByNew(Call::Finds("", Some(0))),
+    ByNew(Call::Finds("a", None)),
+    ByOne(Call::Finds("", Some(0))),
+    ByOne(Call::Finds("a", None)),
+    Finds("", Some(0)),
+    Finds("a", None),
+    Reads(0, Some("")),
+    Reads(1, None),
+    Counts(1),
+    Finds("a", None),
+    ByNew(Call::Finds("a", None)),
+    AllocatesOver(0),
+    EqualsItself,
+    Counts(1),
+    Uses(1),
+    IsLimited(1),
+    // the byte and the limit are left
+    Interns(Way::TryCopied, "z", Ok(1)),
+    Interns(Way::TryCopied, "y", FULL),
+    Counts(2),
+    Uses(1),
+    IsLimited(1),
+    Finds("", Some(0)),
+];
+
 #[test]
 fn the_empty_text_is_found(rt: HostRuntime) -> Result<(), Fail> {
-    static STEPS: [Step; 38] = [
-        Finds("", None),
-        ByNew(Call::Finds("", None)),
-        AllocatesOver(0),
-        EqualsItself,
-        Counts(0),
-        Uses(1),
-        IsLimited(1),
-        Interns(Way::Given, "", Ok(0)),
-        ByOne(Call::Finds("", Some(0))),
-        ByOne(Call::Finds("a", None)),
-        Finds("", Some(0)),
-        Finds("a", None),
-        Counts(1),
-        Uses(1),
-        IsLimited(1),
-        EachInterns("", Ok(0)),
-        ByNew(Call::Finds("", Some(0))),
-        ByNew(Call::Finds("a", None)),
-        ByOne(Call::Finds("", Some(0))),
-        ByOne(Call::Finds("a", None)),
-        Finds("", Some(0)),
-        Finds("a", None),
-        Reads(0, Some("")),
-        Reads(1, None),
-        Counts(1),
-        Finds("a", None),
-        ByNew(Call::Finds("a", None)),
-        AllocatesOver(0),
-        EqualsItself,
-        Counts(1),
-        Uses(1),
-        IsLimited(1),
-        // the byte and the limit are left
-        Interns(Way::TryCopied, "z", Ok(1)),
-        Interns(Way::TryCopied, "y", FULL),
-        Counts(2),
-        Uses(1),
-        IsLimited(1),
-        Finds("", Some(0)),
-    ];
-    runs_each::<Spur, _>(&rt, Maker::Full(1), &STEPS, &[1], &WAYS)
+    runs_each::<Spur, _>(&rt, Maker::Full(1), &OVER_ONE_BYTE, &[1], &WAYS)
 }
 
 // The only bucket has the bytes of the text, and they are the limit.
