@@ -49,5 +49,5 @@ def sample(size):
 
 if __name__ == "__main__":
     for size in LENGTHS:
-        hashes = ", ".join(f"0x{text_hash(seed, sample(size)):016x}" for seed in SEEDS)
-        print(f'("{sample(size).decode()}", [{hashes}]),')
+        hashes = " ".join(f"{text_hash(seed, sample(size)):016x}" for seed in SEEDS)
+        print(f'("{sample(size).decode()}", "{hashes}"),')

@@ -257,8 +257,8 @@ fn vectors() {
     let seeds = [Seed(0, 0), Seed(0x0706_0504_0302_0100, 0x0f0e_0d0c_0b0a_0908), Seed(u64::MAX, 1)];
     for size in [0, 1, 2, 3, 4, 7, 8, 9, 15, 16, 17, 31, 32, 33, 48, 63, 64, 65, 80] {
         let text: Vec<u8> = (0..size).map(|index: usize| 97 + ((index * index / 3 + 7 * index + size) % 26) as u8).collect();
-        let hashes = seeds.map(|seed| format!("0x{:016x}", text_hash(seed, &text))).join(", ");
-        println!("(\"{}\", [{hashes}]),", String::from_utf8_lossy(&text));
+        let hashes = seeds.map(|seed| format!("{:016x}", text_hash(seed, &text))).join(" ");
+        println!("(\"{}\", \"{hashes}\"),", String::from_utf8_lossy(&text));
     }
 }
 

@@ -19,32 +19,22 @@ mod decoding;
 mod encoding;
 pub mod error;
 pub mod handle;
-#[cfg(test)]
-mod handle_tests;
 pub mod interner;
 #[cfg(test)]
 mod interner_tests;
 pub mod large;
-#[cfg(test)]
-mod large_tests;
 pub mod laws;
 mod layout;
 pub mod lending;
-#[cfg(test)]
-mod lending_tests;
 #[cfg(test)]
 mod long_tests;
 pub mod making;
 #[cfg(test)]
 mod making_tests;
-#[cfg(test)]
-mod null_tests;
 mod nulls;
 mod offsets;
 pub mod seat;
 mod seed;
-#[cfg(test)]
-mod seed_tests;
 pub mod seeded;
 pub mod shared;
 #[cfg(test)]

@@ -5,7 +5,7 @@ use crate::interner::{
 };
 use crate::large::{lasso_intern_batch_large, lasso_intern_batch_nulls_large};
 use crate::tests::checks::{Seen, UNSET, is_as_told, told};
-use crate::tests::steps::{Step, walk_on};
+use crate::tests::steps::{Step, clones, walk_on};
 use crate::{lasso_encode, lasso_encode_nulls};
 use std::alloc::Global;
 use std::process::Abort;
@@ -224,6 +224,26 @@ fn each_call_takes_many_rows(rt: HostRuntime) -> Result<(), Fail> {
 fn each_call_takes_long_texts(rt: HostRuntime) -> Result<(), Fail> {
     let column = long_texts(rt.alloc())?;
     each_call_takes(&rt, &column)
+}
+
+#[test]
+fn an_interner_of_five_thousand_texts_is_cloned(rt: HostRuntime) -> Result<(), Fail> {
+    let column = numbers_below(rt.alloc(), "", 5000)?;
+    let mut codes = vec![in rt.alloc(); 9u32; 5000]?;
+    let (mut lasso, mut clone) = (Lasso::none(rt.alloc()), Lasso::none(rt.alloc()));
+    walk_on(&rt, &mut lasso, &[Step::Makes(usize::MAX)])?;
+    is_as_told(
+        &rt,
+        interns(&mut lasso, &column, Call::Batch, &mut codes),
+        1,
+    )?;
+    is_as_told(&rt, clones(rt.alloc(), &mut lasso, &mut clone, 0), 2)?;
+    is_as_told(
+        &rt,
+        interns(&mut clone, &column, Call::Batch, &mut codes),
+        3,
+    )?;
+    walk_on(&rt, &mut clone, &[Step::Counts(5000)])
 }
 
 // Interns the text, which is new, and looks it up.

@@ -22,7 +22,7 @@ pub fn find_newline(bytes: &[u8]) -> Option<usize>
 /// The bytes after the one at this position.
 ///
 /// ```rust
-/// assert!(rt; after_newline(b"to be\nor not\n", 5) == b"or not\n");
+/// assert!(rt; after_newline(b"to be\nor not\n", 5) == b"or not\n".as_slice());
 /// ```
 #[inline]
 pub fn after_newline(bytes: &[u8], at: usize) -> &[u8]
@@ -38,8 +38,8 @@ pub fn after_newline(bytes: &[u8], at: usize) -> &[u8]
 ///
 /// ```rust
 /// let (line, rest) = first_line(b"to be\nor not\n").ok_or("no line")?;
-/// assert!(rt; line == b"to be");
-/// assert!(rt; rest == b"or not\n");
+/// assert!(rt; line == b"to be".as_slice());
+/// assert!(rt; rest == b"or not\n".as_slice());
 /// ```
 #[inline]
 pub fn first_line(bytes: &[u8]) -> Option<(&[u8], &[u8])>

@@ -1,13 +1,10 @@
 //! The calls and assertions of the tests, each in a function without a contract. So the prover knows nothing of
 //! their results, and a test which makes many is proved fast. Types are chosen here once.
-ghost use Rattle.std.specs.Prelude.{map};
-ghost use Rattle.std.proofs.Common.{refl};
-
 use lasso::{
-    FixedState, Key, LassoError, LassoResult, MemoryLimits, Rodeo, Spur, SpurRodeo,
+    Capacity, FixedState, Key, LassoError, LassoResult, MemoryLimits, Rodeo, Spur, SpurRodeo,
     SpurRodeoReader, SpurThreadedRodeo, ThreadedRodeo,
 };
-use lasso_columns::{DecodeError, Layout, LineError, Offset, ReadError, WriteError};
+use lasso_columns::{DecodeError, Layout, LineError, ReadError, WriteError};
 use std::alloc::{Allocator, Global};
 use std::process::Abort;
 use std::sync::Wait;
@@ -33,6 +30,21 @@ fn interned(rodeo: &mut SpurRodeo, texts: &[&str]) -> LassoResult<()> {
 
 pub(super) fn shared_interner(alloc: Global) -> LassoResult<SpurThreadedRodeo> {
     ThreadedRodeo::default(alloc)
+}
+
+// An interner whose first bucket has 10 bytes. Two texts of five bytes fill it, and the limit of 10 bytes
+// leaves no second bucket.
+pub(super) fn limited(alloc: Global) -> LassoResult<SpurRodeo> {
+    let capacity = Capacity::for_bytes(10);
+    let limits = MemoryLimits::new(10);
+    Rodeo::with_capacity_and_memory_limits(alloc, capacity, limits)
+}
+
+// An interner as `limited`, which threads share.
+pub(super) fn limited_shared(alloc: Global) -> LassoResult<SpurThreadedRodeo> {
+    let capacity = Capacity::for_bytes(10);
+    let limits = MemoryLimits::new(10);
+    ThreadedRodeo::with_capacity_and_memory_limits(alloc, capacity, limits)
 }
 
 pub(super) fn encode(
@@ -156,14 +168,6 @@ pub(super) fn write_wide(
     from: usize,
 ) -> Result<Layout<u64>, WriteError> {
     lasso_columns::write_dictionary(alloc, rodeo, from)
-}
-
-pub(super) fn append_wide(
-    rodeo: &mut SpurRodeo,
-    bytes: &[u8],
-    offsets: &[u64],
-) -> Result<(), ReadError> {
-    lasso_columns::append_dictionary(rodeo, bytes, offsets)
 }
 
 pub(super) fn read_wide(
@@ -293,38 +297,4 @@ pub(super) fn stand_for<A: Allocator>(
         }
     }
     true
-}
-
-// A type of offsets for the tests, whose greatest offset is 9.
-
-#[derive(Clone, Copy)]
-pub(super) struct Narrow {
-    number: usize,
-}
-
-/// An offset past the greatest one.
-pub(super) fn past_greatest() -> Narrow {
-    Narrow { number: 10 }
-}
-
-impl Offset for Narrow {
-    const GREATEST: usize = 9;
-
-    ghost GREATEST = { 9 };
-
-    ghost number = { λ offset. offset.number };
-
-    ghost numbers = { map (λ offset. offset.number) };
-
-    ghost each = { λ offsets. refl };
-
-    fn into_usize(self) -> usize {
-        self.number
-    }
-
-    fn from_usize(number_of_bytes: usize) -> Self {
-        Narrow {
-            number: number_of_bytes,
-        }
-    }
 }

@@ -1,16 +1,14 @@
 //! Dictionaries that are written as bytes and offsets, and read again. The expected values are worked out by
 //! hand, or computed from numbers.
 use crate::calls::{
-    Narrow, all_right, append_dictionary, append_wide, ends_so, has_texts, interner, past_greatest,
-    read_dictionary, read_wide, write_dictionary, write_wide,
+    all_right, append_dictionary, ends_so, has_texts, interner, read_dictionary, read_wide,
+    write_dictionary, write_wide,
 };
-use crate::limited::limited;
 use crate::long_columns::{COUNT, Numbers, first_of, printed, slices};
 use crate::parts::{Script, with_each_refused};
-use lasso::{FixedState, LassoErrorKind, MemoryLimits, MicroSpur, Rodeo, SpurRodeo};
+use lasso::{FixedState, LassoErrorKind, MemoryLimits, SpurRodeo};
 use lasso_columns::{Dictionary, Layout, Offset, ReadError, WriteError};
 use std::alloc::Global;
-use std::process::Abort;
 use std::test::Fail;
 
 // `é` is the bytes c3 a9.
@@ -100,8 +98,8 @@ fn an_interner_and_its_frozen_forms_are_written(rt: HostRuntime) -> Result<(), F
     all_right(&rt, Ok(resolver?), FIVE.len())
 }
 
-// The bytes and the offsets of a layout, the fault at which appending or reading it ends, and the texts that
-// the interner then has.
+// The bytes and the offsets of a layout, the fault at which reading it ends, and the texts that the interner then
+// has.
 type Row = (
     &'static [u8],
     &'static [u32],
@@ -125,50 +123,6 @@ fn widened(alloc: Global, offsets: &[u32]) -> Result<Vec<u64>, Fail> {
         wide.push(u64::from(offsets[at]))?;
     }
     Ok(wide)
-}
-
-fn append_widened(
-    alloc: Global,
-    rodeo: &mut SpurRodeo,
-    row: Row,
-) -> Result<Option<ReadError>, Fail> {
-    let offsets = widened(alloc, row.1)?;
-    Ok(append_wide(rodeo, row.0, &offsets).err())
-}
-
-// Appends the layout, with offsets of one width or the other. Returns whether all is as the row says.
-fn appends(alloc: Global, rodeo: &mut SpurRodeo, row: Row, is_wide: bool) -> Result<bool, Fail> {
-    let ended = if is_wide {
-        append_widened(alloc, rodeo, row)?
-    } else {
-        append_dictionary(rodeo, row.0, row.1).err()
-    };
-    Ok(is_fault(ended, row.2)? && has_texts(rodeo, row.3))
-}
-
-// Appends the layouts in turn to the interner that was just made. Returns how many rows are right.
-fn appends_to(
-    alloc: Global,
-    made: Result<SpurRodeo, Fail>,
-    rows: &[Row],
-    is_wide: bool,
-) -> Result<usize, Fail> {
-    let mut rodeo = made?;
-    appends_each(alloc, &mut rodeo, rows, is_wide)
-}
-
-fn appends_each(
-    alloc: Global,
-    rodeo: &mut SpurRodeo,
-    rows: &[Row],
-    is_wide: bool,
-) -> Result<usize, Fail> {
-    for at in 0..rows.len() {
-        if !appends(alloc, rodeo, rows[at], is_wide)? {
-            return Ok(at);
-        }
-    }
-    Ok(rows.len())
 }
 
 // The limit, the usage of the interner that is read, and the layout.
@@ -227,33 +181,7 @@ fn reads(alloc: Global, readings: &[Reading]) -> Result<usize, Fail> {
 #[test]
 fn what_was_written_is_read(rt: HostRuntime) -> Result<(), Fail> {
     static WHOLE: [Reading; 1] = [(usize::MAX, 10, (BYTES, &OFFSETS, None, &TEXTS))];
-    static REST: [Row; 1] = [(b"bl\xc3\xa9a\n\0", &[0, 4, 6, 7], None, &TEXTS)];
-    all_right(&rt, reads(rt.alloc(), &WHOLE), 1)?;
-    appends_both_ways(&rt, &["red", ""], &REST)
-}
-
-// Appends each layout to a new interner of these texts, with offsets of both widths. Fails unless each row is
-// right.
-fn appends_both_ways<R: AllocGlobal + Abort>(
-    rt: &R,
-    opening: &[&str],
-    rows: &[Row],
-) -> Result<(), Fail> {
-    let alloc = rt.alloc();
-    for at in 0..rows.len() {
-        let row = &rows[at..at + 1];
-        all_right(
-            rt,
-            appends_to(alloc, interner(alloc, opening), row, false),
-            1,
-        )?;
-        all_right(
-            rt,
-            appends_to(alloc, interner(alloc, opening), row, true),
-            1,
-        )?;
-    }
-    Ok(())
+    all_right(&rt, reads(rt.alloc(), &WHOLE), 1)
 }
 
 fn writes_none(alloc: Global, rodeo: &SpurRodeo) -> Result<bool, WriteError> {
@@ -278,165 +206,6 @@ fn a_dictionary_may_have_no_texts(rt: HostRuntime) -> Result<(), Fail> {
     all_right(&rt, reads(rt.alloc(), &READINGS), READINGS.len())
 }
 
-// The offsets may begin after the first byte and end before the last.
-#[test]
-fn a_part_of_the_bytes_is_read(rt: HostRuntime) -> Result<(), Fail> {
-    static ROWS: [Row; 1] = [(b"abcdef", &[1, 3, 4], None, &["bc", "d"])];
-    appends_both_ways(&rt, &[], &ROWS)
-}
-
-// Appending each layout to an interner of `red` ends as the row says. Reading it ends with the same fault.
-fn end_so<R: AllocGlobal + Abort>(rt: &R, rows: &[Row]) -> Result<(), Fail> {
-    appends_both_ways(rt, &["red"], rows)?;
-    for at in 0..rows.len() {
-        all_right(rt, reads(rt.alloc(), &[(usize::MAX, 0, rows[at])]), 1)?;
-    }
-    Ok(())
-}
-
-#[test]
-fn wrong_offsets_are_told(rt: HostRuntime) -> Result<(), Fail> {
-    static ROWS: [Row; 8] = [
-        (
-            b"ab",
-            &[0, 2, 1],
-            Some(ReadError::OffsetsFall(1)),
-            &["red", "ab"],
-        ),
-        (b"ab", &[1, 0], Some(ReadError::OffsetsFall(0)), &["red"]),
-        (
-            b"ab",
-            &[0, 1, 2, 3],
-            Some(ReadError::OffsetPastBytes(2)),
-            &["red", "a", "b"],
-        ),
-        (b"ab", &[3], Some(ReadError::OffsetPastBytes(0)), &["red"]),
-        (
-            b"ab",
-            &[3, 3],
-            Some(ReadError::OffsetPastBytes(0)),
-            &["red"],
-        ),
-        (
-            b"ab",
-            &[3, 2],
-            Some(ReadError::OffsetPastBytes(0)),
-            &["red"],
-        ),
-        (
-            b"ab",
-            &[0, 1, u32::MAX],
-            Some(ReadError::OffsetPastBytes(1)),
-            &["red", "a"],
-        ),
-        (
-            b"",
-            &[0, 2_147_483_648],
-            Some(ReadError::OffsetPastBytes(0)),
-            &["red"],
-        ),
-    ];
-    end_so(&rt, &ROWS)
-}
-
-#[test]
-fn bytes_that_are_no_text_are_told(rt: HostRuntime) -> Result<(), Fail> {
-    // Neither byte of `é` is UTF-8 alone; both together are.
-    static ROWS: [Row; 3] = [
-        (
-            b"a\xff",
-            &[0, 1, 2],
-            Some(ReadError::NotText(1)),
-            &["red", "a"],
-        ),
-        (
-            b"\xc3\xa9",
-            &[0, 2, 2, 1],
-            Some(ReadError::OffsetsFall(2)),
-            &["red", "é", ""],
-        ),
-        (
-            b"\xc3\xa9",
-            &[0, 1, 2],
-            Some(ReadError::NotText(0)),
-            &["red"],
-        ),
-    ];
-    end_so(&rt, &ROWS)
-}
-
-#[test]
-fn a_doubled_text_is_told(rt: HostRuntime) -> Result<(), Fail> {
-    static ROWS: [Row; 2] = [
-        (
-            b"abcab",
-            &[0, 2, 3, 5],
-            Some(ReadError::Doubled(2)),
-            &["red", "ab", "c"],
-        ),
-        (
-            b"a",
-            &[0, 0, 1, 1],
-            Some(ReadError::Doubled(2)),
-            &["red", "", "a"],
-        ),
-    ];
-    // The interner has this text before the call.
-    static GREEN: [Row; 1] = [(
-        b"bluegreen",
-        &[0, 4, 9, 9],
-        Some(ReadError::Doubled(1)),
-        &["red", "green", "blue"],
-    )];
-    end_so(&rt, &ROWS)?;
-    appends_both_ways(&rt, &["red", "green"], &GREEN)
-}
-
-fn limited_interner(alloc: Global) -> Result<SpurRodeo, Fail> {
-    Ok(limited(alloc)?)
-}
-
-#[test]
-fn the_limit_ends_a_reading(rt: HostRuntime) -> Result<(), Fail> {
-    const OFFSETS: [u32; 5] = [0, 5, 10, 10, 11];
-    const REFUSED: ReadError = ReadError::Refused(3, LIMIT);
-    // The limit never refuses a present text.
-    static ROWS: [Row; 2] = [
-        (
-            b"firstother!",
-            &OFFSETS,
-            Some(REFUSED),
-            &["first", "other", ""],
-        ),
-        (
-            b"other",
-            &[0, 5],
-            Some(ReadError::Doubled(0)),
-            &["first", "other", ""],
-        ),
-    ];
-    static READINGS: [Reading; 2] = [
-        (10, 0, (b"firstother!", &OFFSETS, Some(REFUSED), &[])),
-        (
-            11,
-            11,
-            (b"firstother!", &OFFSETS, None, &["first", "other", "", "!"]),
-        ),
-    ];
-    let alloc = rt.alloc();
-    all_right(
-        &rt,
-        appends_to(alloc, limited_interner(alloc), &ROWS, false),
-        2,
-    )?;
-    all_right(
-        &rt,
-        appends_to(alloc, limited_interner(alloc), &ROWS, true),
-        2,
-    )?;
-    all_right(&rt, reads(alloc, &READINGS), READINGS.len())
-}
-
 // The first bucket has one byte, whatever the limit.
 #[test]
 fn a_limit_of_zero_leaves_room_for_a_byte(rt: HostRuntime) -> Result<(), Fail> {
@@ -450,113 +219,6 @@ fn a_limit_of_zero_leaves_room_for_a_byte(rt: HostRuntime) -> Result<(), Fail> {
         ),
     ];
     all_right(&rt, reads(rt.alloc(), &READINGS), READINGS.len())
-}
-
-// The bytes of 256 different texts of two letters each.
-fn pairs(alloc: Global) -> Result<Vec<u8>, Fail> {
-    let mut bytes = Vec::new(alloc);
-    for first in b'a'..b'q' {
-        for second in b'a'..b'q' {
-            bytes.push(first)?;
-            bytes.push(second)?;
-        }
-    }
-    Ok(bytes)
-}
-
-// Where texts of two bytes begin, and where the last of `count` of them ends.
-fn every_second(alloc: Global, count: u32) -> Result<Vec<u32>, Fail> {
-    let mut offsets = Vec::new(alloc);
-    for number in 0..count {
-        offsets.push(number.wrapping_mul(2))?;
-    }
-    offsets.push(count.wrapping_mul(2))?;
-    Ok(offsets)
-}
-
-fn read_micro(
-    alloc: Global,
-    bytes: &[u8],
-    offsets: &[u32],
-) -> Result<Rodeo<MicroSpur, FixedState, Global>, ReadError> {
-    let limits = MemoryLimits::default();
-    lasso_columns::read_dictionary(alloc, limits, FixedState::new(), bytes, offsets)
-}
-
-// Whether 255 keys are given, and none is left for another text.
-fn is_full(rodeo: &mut Rodeo<MicroSpur, FixedState, Global>) -> Result<bool, Fail> {
-    let count = rodeo.len();
-    let ended = lasso_columns::append_dictionary(rodeo, b"zz", &[0u32, 2]).err();
-    Ok(is_fault(ended, Some(ReadError::Refused(0, KEYS)))? && count == 255)
-}
-
-fn fills_the_keys(alloc: Global, bytes: &[u8], offsets: &[u32]) -> Result<bool, Fail> {
-    let mut rodeo = read_micro(alloc, bytes, offsets)?;
-    is_full(&mut rodeo)
-}
-
-// A `MicroSpur` has 255 keys.
-#[test]
-fn the_keys_end_a_reading(rt: HostRuntime) -> Result<(), Fail> {
-    let bytes = pairs(rt.alloc())?;
-    let some = every_second(rt.alloc(), 255)?;
-    let all = every_second(rt.alloc(), 256)?;
-    ends_so(&rt, fills_the_keys(rt.alloc(), &bytes, &some), "the keys")?;
-    ends_so(&rt, lacks_a_key(rt.alloc(), &bytes, &all), "no key")
-}
-
-// Whether the last text gets no key, and does get a greater one.
-fn lacks_a_key(alloc: Global, bytes: &[u8], offsets: &[u32]) -> Result<bool, Fail> {
-    let ended = read_micro(alloc, bytes, offsets).err();
-    let wanted = Some(ReadError::Refused(255, KEYS));
-    Ok(is_fault(ended, wanted)? && reads_all(alloc, bytes, offsets)?)
-}
-
-fn reads_all(alloc: Global, bytes: &[u8], offsets: &[u32]) -> Result<bool, ReadError> {
-    let limits = MemoryLimits::default();
-    let read = read_dictionary(alloc, limits, FixedState::new(), bytes, offsets)?;
-    Ok(read.len() == 256)
-}
-
-fn is_too_long(alloc: Global, rodeo: &SpurRodeo, position: usize) -> Result<bool, WriteError> {
-    match writes::<Narrow, SpurRodeo>(alloc, rodeo, (0, b"", &[])) {
-        Err(WriteError::NoMemory) => Err(WriteError::NoMemory),
-        ended => Ok(ended == Err(WriteError::TooManyBytes(position))),
-    }
-}
-
-// The five texts end at 3, 3, 7, 9 and 10 bytes.
-fn writes_up_to_nine(alloc: Global) -> Result<bool, Fail> {
-    static REST: Written = (1, b"bl\xc3\xa9a\n\0", &[0, 0, 4, 6, 7]);
-    let rodeo = interner(alloc, &FIVE_TEXTS)?;
-    let ended = writes::<Narrow, SpurRodeo>(alloc, &rodeo, REST);
-    Ok(is_too_long(alloc, &rodeo, 4)? && ended?)
-}
-
-// The last text ends at 10, past the greatest offset 9, though the bytes reach that far.
-fn appends_up_to_nine(rodeo: &mut SpurRodeo) -> Result<bool, Fail> {
-    let offsets = [
-        Narrow::from_usize(8),
-        Narrow::from_usize(9),
-        past_greatest(),
-    ];
-    let ended = lasso_columns::append_dictionary(rodeo, b"1234567890k", &offsets).err();
-    Ok(
-        is_fault(ended, Some(ReadError::OffsetPastBytes(1)))?
-            && has_texts(rodeo, &["abcdefgh", "i", "j", "9"]),
-    )
-}
-
-fn nine_and_one(alloc: Global) -> Result<bool, Fail> {
-    let mut rodeo = interner(alloc, &["abcdefgh", "i", "j"])?;
-    let ended = is_too_long(alloc, &rodeo, 2);
-    Ok(appends_up_to_nine(&mut rodeo)? && ended?)
-}
-
-#[test]
-fn bytes_past_the_greatest_offset_are_refused(rt: HostRuntime) -> Result<(), Fail> {
-    ends_so(&rt, writes_up_to_nine(rt.alloc()), "the five texts")?;
-    ends_so(&rt, nine_and_one(rt.alloc()), "the ten bytes")
 }
 
 // Whether there are 20,000 texts of five bytes.

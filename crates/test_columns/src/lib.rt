@@ -1,6 +1,5 @@
-//! Tests of `lasso_columns` through its public calls: whole columns, with values worked out by hand;
-//! columns that several threads encode, together or in parts; dictionaries that are written and read; and
-//! the examples in the doc comments.
+//! Tests of `lasso_columns` through its public calls: long columns; columns that several threads encode, together
+//! or in parts; streams; and dictionaries that are merged, written and read.
 #![tactic(auto)]
 
 #[cfg(test)]
@@ -8,10 +7,7 @@ mod calls;
 #[cfg(test)]
 mod columns;
 #[cfg(test)]
-mod counts;
-#[cfg(test)]
 mod dictionaries;
-pub mod limited;
 #[cfg(test)]
 mod long_columns;
 #[cfg(test)]

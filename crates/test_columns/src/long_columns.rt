@@ -7,7 +7,6 @@ use crate::columns::{are_decoded, is_merged};
 use crate::shared::{are_codes, encoded};
 use lasso::{SpurRodeo, SpurRodeoReader};
 use std::alloc::Global;
-use std::process::Abort;
 use std::sync::Wait;
 use std::test::Fail;
 use std::thread::Threads;
@@ -123,16 +122,10 @@ pub(super) fn encodes_long<R: AllocGlobal + Threads + Sync>(
 
 #[test]
 fn long_columns_are_encoded_and_decoded(rt: HostRuntime) -> Result<(), Fail> {
-    static WAYS: [Way; 1] = [Way::Texts];
+    static WAYS: [Way; 2] = [Way::Texts, Way::Lines];
     ends_so(&rt, encodes_long(&rt, Numbers::Repeated, &WAYS), "repeated")?;
     ends_so(&rt, encodes_long(&rt, Numbers::Distinct, &WAYS), "distinct")?;
     ends_so(&rt, encodes_long(&rt, Numbers::Mixed, &WAYS), "mixed")
-}
-
-#[test]
-fn many_lines_are_encoded(rt: HostRuntime) -> Result<(), Fail> {
-    static WAYS: [Way; 1] = [Way::Lines];
-    ends_so(&rt, encodes_long(&rt, Numbers::Mixed, &WAYS), "lines")
 }
 
 fn merges_into(

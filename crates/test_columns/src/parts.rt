@@ -25,21 +25,12 @@ static WAYS: [Way; 5] = [
     Way::Parts(7),
 ];
 
+// Each part keeps its list, or gives up after its first texts, or some of them do.
 #[test]
-fn parts_share_one_list(rt: HostRuntime) -> Result<(), Fail> {
-    ends_so(&rt, encodes_long(&rt, Numbers::Repeated, &WAYS), "parts")
-}
-
-// Each part gives up after its first texts.
-#[test]
-fn new_texts_have_the_codes_of_one_thread(rt: HostRuntime) -> Result<(), Fail> {
-    ends_so(&rt, encodes_long(&rt, Numbers::Distinct, &WAYS), "parts")
-}
-
-// Some parts give up, and others don't.
-#[test]
-fn parts_that_give_up_keep_their_place(rt: HostRuntime) -> Result<(), Fail> {
-    ends_so(&rt, encodes_long(&rt, Numbers::Mixed, &WAYS), "parts")
+fn parts_have_the_codes_of_one_thread(rt: HostRuntime) -> Result<(), Fail> {
+    ends_so(&rt, encodes_long(&rt, Numbers::Repeated, &WAYS), "kept")?;
+    ends_so(&rt, encodes_long(&rt, Numbers::Distinct, &WAYS), "given up")?;
+    ends_so(&rt, encodes_long(&rt, Numbers::Mixed, &WAYS), "some")
 }
 
 // An interner with room for this number of texts of five bytes, and no more.
@@ -113,57 +104,17 @@ fn limit_ends<R: AllocGlobal + Threads + Sync>(
     Ok(limit_ends_column(rt, &column, most)? && limit_ends_column(rt, &column, more)?)
 }
 
+// In the second column the parts gave up before.
 #[test]
 fn the_limit_ends_a_column_of_parts(rt: HostRuntime) -> Result<(), Fail> {
-    ends_so(
-        &rt,
-        limit_ends(&rt, Numbers::Repeated, 40, 180),
-        "the limit",
-    )
-}
-
-#[test]
-fn the_limit_ends_a_part_that_gave_up(rt: HostRuntime) -> Result<(), Fail> {
-    ends_so(&rt, limit_ends(&rt, Numbers::Mixed, 120, 900), "the limit")
-}
-
-static AFTER_NINE: [&str; 6] = ["green", "red", "white", "green", "white", "blue"];
-
-static CODES_FROM_NINE: [u32; 7] = [9, 2, 1, 3, 2, 3, 0];
-
-// Encodes the column after the code 9, and then an empty column.
-fn follows_nine<R: AllocGlobal + Threads + Sync>(
-    rt: &R,
-    rodeo: &mut SpurRodeo,
-    workers: usize,
-) -> Result<bool, Fail> {
-    let mut codes = Vec::new(rt.alloc());
-    codes.push(9)?;
-    encode_in_parts(rt, rodeo, &AFTER_NINE, &mut codes, workers)?;
-    encode_in_parts(rt, rodeo, &[], &mut codes, workers)?;
-    Ok(codes.as_slice() == CODES_FROM_NINE.as_slice() && rodeo.len() == 4)
-}
-
-fn follows_two<R: AllocGlobal + Threads + Sync>(rt: &R, workers: usize) -> Result<bool, Fail> {
-    let mut rodeo = interner(rt.alloc(), &["blue", "red"])?;
-    follows_nine(rt, &mut rodeo, workers)
-}
-
-#[test]
-fn parts_follow_what_was_there(rt: HostRuntime) -> Result<(), Fail> {
-    for at in 0..WORKERS.len() {
-        ends_so(&rt, follows_two(&rt, WORKERS[at]), "the codes")?;
-    }
-    ends_so(&rt, follows_two(&rt, 0), "the codes of no worker")
+    ends_so(&rt, limit_ends(&rt, Numbers::Repeated, 40, 180), "kept")?;
+    ends_so(&rt, limit_ends(&rt, Numbers::Mixed, 120, 900), "given up")
 }
 
 #[test]
 fn an_empty_column_has_no_codes(rt: HostRuntime) -> Result<(), Fail> {
-    ends_so(
-        &rt,
-        are_encoded(&rt, &[], &[], &[], Way::Parts(4)),
-        "no codes",
-    )
+    let parts = Way::Parts(4);
+    ends_so(&rt, are_encoded(&rt, &[], &[], &[], parts), "no codes")
 }
 
 // `count` texts that repeat three words.

@@ -1,8 +1,7 @@
 //! Columns that several threads encode. Their turns may differ from run to run; the tests check what is
 //! the same in each run.
-use crate::calls::{Call, all_right, ends_so, shared_interner};
+use crate::calls::{Call, all_right, ends_so, limited_shared, shared_interner};
 use crate::columns::limit_refuses;
-use crate::limited::limited_shared;
 use lasso::{Key, LassoResult, MemoryLimits, Spur, SpurThreadedRodeo, ThreadedRodeo};
 use std::alloc::Global;
 use std::hash::BuildHasher;

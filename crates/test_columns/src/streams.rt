@@ -2,7 +2,7 @@
 //! workers. The entries were worked out by hand, or are what `encode_rows` leaves of all bytes.
 use crate::calls::{all_right, is_by_the_limit, is_so};
 use lasso::{Capacity, LassoResult, MemoryLimits, Rodeo, SpurRodeo};
-use lasso_columns::{LineError, LineTexts, NULL, Rounds, StreamEncoder, StreamError, encode_rows};
+use lasso_columns::{LineError, NULL, Rounds, StreamError};
 use lasso_parts::hasher::TextState;
 use std::alloc::Global;
 use std::io;
@@ -487,94 +487,7 @@ fn an_odd_line_in_each_block(rt: HostRuntime) -> Result<(), Fail> {
     Ok(())
 }
 
-// The examples in the documents of the calls.
-#[test]
-fn example_of_encode_rows(rt: HostRuntime) -> Result<(), Fail> {
-    let mut rodeo: SpurRodeo = Rodeo::default(rt.alloc())?;
-    let mut entries = Vec::new(rt.alloc());
-    let ended = encode_rows(&mut rodeo, b"to\n-\nbe\nto\n", Some(b"-"), &mut entries);
-    is_so(&rt, ended.is_ok(), "rows");
-    is_so(
-        &rt,
-        entries.as_slice() == [0, NULL, 1, 0].as_slice(),
-        "entries",
-    );
-    Ok(())
-}
-
-#[test]
-fn example_of_encode_stream(rt: HostRuntime) -> Result<(), Fail> {
-    let mut rodeo: SpurRodeo = Rodeo::default(rt.alloc())?;
-    let mut entries = Vec::new(rt.alloc());
-    let mut input = BufReader::new(rt.alloc(), b"to\n-\nbe\nto\n".as_slice())?;
-    let ended = encode_stream(&rt, &mut input, &mut rodeo, &mut entries, Rounds::new(4));
-    is_so(&rt, ended.is_ok(), "stream");
-    is_so(
-        &rt,
-        entries.as_slice() == [0, NULL, 1, 0].as_slice(),
-        "entries",
-    );
-    Ok(())
-}
-
-// The entries of a stream, taken round by round. None if there are fewer than two rounds or a thousand.
-fn by_rounds<R: AllocGlobal + Threads + Sync>(
-    rt: &R,
-    bytes: &[u8],
-    rounds: Rounds,
-) -> Result<Vec<u32>, Fail> {
-    let mut rodeo: SpurRodeo = Rodeo::default(rt.alloc())?;
-    let mut input = BufReader::new(rt.alloc(), bytes)?;
-    let mut encoder = StreamEncoder::new(rt.alloc(), &mut input, rounds, LineTexts::Own)?;
-    let mut all = Vec::new(rt.alloc());
-    let mut entries = Vec::new(rt.alloc());
-    for number in 0..1000usize {
-        let round = encoder.encode_round(rt, &mut input, &mut rodeo, Some(b"-"), &mut entries);
-        all.extend_from_slice(&entries)?;
-        entries.clear();
-        if let Ok(true) = round {
-            continue;
-        }
-        if number == 0 || round.is_err() {
-            all.clear();
-        }
-        return Ok(all);
-    }
-    all.clear();
-    Ok(all)
-}
-
-#[test]
-fn a_stream_is_encoded_round_by_round(rt: HostRuntime) -> Result<(), Fail> {
-    let rounds = Rounds {
-        workers: 2,
-        first_lines: 0,
-        alone: 1,
-        smallest: 1,
-        largest: 1,
-        hasher: TextState::with_seed(5, 6),
-    };
-    let entries = by_rounds(&rt, b"to\n-\nbe\nto\nbe\nto\nor\n", rounds)?;
-    is_so(
-        &rt,
-        entries.as_slice() == [0, NULL, 1, 0, 1, 0, 2].as_slice(),
-        "entries",
-    );
-    Ok(())
-}
-
 // Streams that take thousands of rounds, and blocks that take thousands of reads.
-
-// The call without its contract.
-fn encode_rounds<R: AllocGlobal + Threads + Sync, I: BufRead>(
-    rt: &R,
-    input: &mut I,
-    rodeo: &mut SpurRodeo,
-    entries: &mut Vec<u32>,
-    rounds: Rounds,
-) -> Result<(), StreamError> {
-    lasso_columns::encode_stream(rt, input, rodeo, None, entries, rounds)
-}
 
 // Whether all of this number of empty lines are encoded, by reads of a byte.
 fn are_encoded<R: AllocGlobal + Threads + Sync>(
@@ -587,7 +500,7 @@ fn are_encoded<R: AllocGlobal + Threads + Sync>(
     let mut rodeo: SpurRodeo = Rodeo::default(rt.alloc())?;
     let mut entries = Vec::new(rt.alloc());
     let mut input = BufReader::with_capacity(rt.alloc(), 1, bytes.as_slice())?;
-    let ended = encode_rounds(rt, &mut input, &mut rodeo, &mut entries, rounds);
+    let ended = encode_stream(rt, &mut input, &mut rodeo, &mut entries, rounds);
     Ok(ended.is_ok() && entries.len() == lines)
 }
 

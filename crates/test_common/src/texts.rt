@@ -3,6 +3,7 @@
 ghost use Rattle.std.specs.Prelude.{◌<◌};
 
 use std::alloc::{AllocError, Global};
+use std::slice::Iter;
 use std::test::Fail;
 
 /// The text as a static one. It is never freed.
@@ -20,51 +21,22 @@ pub fn lettered(alloc: Global, letter: &str, count: u32) -> Result<Vec<String>, 
     Ok(texts)
 }
 
-/// The static texts of the letter and each number below `count`, from 0 on.
-pub fn lettered_static(alloc: Global, letter: &str, count: u32) -> Result<Vec<&'static str>, Fail> {
+/// The first `count` texts of five digits, from `00000` on.
+pub fn numbered(alloc: Global, count: usize) -> Result<Vec<String>, AllocError> {
     let mut texts = Vec::new(alloc);
     for number in 0..count {
-        texts.push(leaked(format!(in alloc; "{letter}{number}")?)?)?;
+        texts.push(format!(in alloc; "{number:05}")?)?;
     }
     Ok(texts)
 }
 
-/// A text of each length below 33. The index is the length.
-pub const OF_EACH_LENGTH: [&str; 33] = [
-    "",
-    "a",
-    "ab",
-    "abc",
-    "abcd",
-    "abcde",
-    "abcdef",
-    "abcdefg",
-    "abcdefgh",
-    "abcdefghi",
-    "abcdefghij",
-    "abcdefghijk",
-    "abcdefghijkl",
-    "abcdefghijklm",
-    "abcdefghijklmn",
-    "abcdefghijklmno",
-    "abcdefghijklmnop",
-    "abcdefghijklmnopq",
-    "abcdefghijklmnopqr",
-    "abcdefghijklmnopqrs",
-    "abcdefghijklmnopqrst",
-    "abcdefghijklmnopqrstu",
-    "abcdefghijklmnopqrstuv",
-    "abcdefghijklmnopqrstuvw",
-    "abcdefghijklmnopqrstuvwx",
-    "abcdefghijklmnopqrstuvwxy",
-    "abcdefghijklmnopqrstuvwxyz",
-    "abcdefghijklmnopqrstuvwxyzA",
-    "abcdefghijklmnopqrstuvwxyzAB",
-    "abcdefghijklmnopqrstuvwxyzABC",
-    "abcdefghijklmnopqrstuvwxyzABCD",
-    "abcdefghijklmnopqrstuvwxyzABCDE",
-    "abcdefghijklmnopqrstuvwxyzABCDEF",
-];
+/// Whether the next item is the text at this index.
+pub fn is_next(items: &mut Iter<'_, String>, texts: &[String], index: usize) -> bool {
+    match (items.next(), texts.get(index)) {
+        (Some(next), Some(wanted)) => next.as_str() == wanted.as_str(),
+        _ => false,
+    }
+}
 
 // Texts that have one hash under the fixed seed.
 

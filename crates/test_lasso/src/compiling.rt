@@ -1,11 +1,10 @@
 //! Names that are declared with values, and the code that small programs are compiled to.
 use crate::steps::{ends_so, is_so};
-use lasso::{Key, LassoErrorKind, LassoResult, MemoryLimits, Rodeo, Spur, SpurRodeo};
+use lasso::{Key, MemoryLimits, Rodeo, Spur, SpurRodeo};
 use lasso_guide::compiler::{CompileError, Instruction, Token, compile};
 use lasso_guide::errors::{DeclareError, declare};
-use lasso_guide::scopes::Scopes;
 use lasso_guide::symbols::{SymbolTable, first_name};
-use std::alloc::{AllocError, Global};
+use std::alloc::Global;
 use std::test::Fail;
 
 // let x = 2; { let y = x; let x = x + y; x }; x
@@ -81,61 +80,6 @@ fn a_name_out_of_scope_is_not_compiled(rt: HostRuntime) {
     );
 }
 
-// Variables of nested scopes.
-
-type Names = Scopes<Spur>;
-
-// Declares the name. Returns whether its variable has this place.
-fn declares(scopes: &mut Names, name: &str, place: usize) -> LassoResult<bool> {
-    Ok(scopes.declare(name)? == place)
-}
-
-fn is_at(scopes: &Names, name: &str, place: Option<usize>) -> bool {
-    scopes.place_of(name) == place
-}
-
-fn open(scopes: &mut Names) -> Result<(), AllocError> {
-    scopes.open()
-}
-
-fn closes(scopes: &mut Names) -> bool {
-    scopes.close()
-}
-
-// Declares `x`, and `y` and another `x` in an inner scope.
-fn declares_three(scopes: &mut Names) -> Result<bool, Fail> {
-    let outer = declares(scopes, "x", 0)?;
-    open(scopes)?;
-    Ok(outer && declares(scopes, "y", 1)? && declares(scopes, "x", 2)?)
-}
-
-fn closes_both(scopes: &mut Names) -> bool {
-    is_at(scopes, "x", Some(2))
-        && is_at(scopes, "y", Some(1))
-        && closes(scopes)
-        && is_at(scopes, "x", Some(0))
-        && is_at(scopes, "y", None)
-        && !closes(scopes)
-        && is_at(scopes, "x", Some(0))
-}
-
-fn empty(alloc: Global) -> LassoResult<Names> {
-    Scopes::new(alloc)
-}
-
-fn innermost_is_found(alloc: Global) -> Result<bool, Fail> {
-    let mut scopes = empty(alloc)?;
-    match declares_three(&mut scopes) {
-        Ok(declared) => Ok(declared && closes_both(&mut scopes)),
-        Err(fault) => Err(fault),
-    }
-}
-
-#[test]
-fn the_innermost_variable_of_a_name(rt: HostRuntime) -> Result<(), Fail> {
-    ends_so(&rt, innermost_is_found(rt.alloc()), "the places")
-}
-
 // Symbols keep the names that they stand for.
 
 #[test]
@@ -153,60 +97,31 @@ fn symbols_keep_their_names(rt: HostRuntime) -> Result<(), Fail> {
 
 // Names that are declared with values.
 
-// Declares the name. Returns the number of its key.
-fn declared(
-    names: &mut SpurRodeo,
-    values: &mut Vec<u64>,
-    name: &str,
-    value: u64,
-) -> Result<usize, DeclareError> {
-    match declare(names, values, name, value) {
-        Ok(width) => Ok(width.into_usize()),
-        Err(error) => Err(error),
+fn is_first(declared: Result<Spur, DeclareError>) -> bool {
+    match declared {
+        Ok(name) => name.into_usize() == 0,
+        Err(_) => false,
     }
 }
 
-fn width_is_declared(names: &mut SpurRodeo, values: &mut Vec<u64>) -> Result<bool, Fail> {
-    match declared(names, values, "width", 3) {
-        Ok(number) => Ok(number == 0 && values.as_slice() == [3].as_slice()),
-        Err(_) => Err(Fail::from("refused")),
-    }
-}
-
-// Declares the long name under a limit of 0.
-fn is_refused(names: &mut SpurRodeo, values: &mut Vec<u64>, long: &str) -> bool {
-    names.set_memory_limits(MemoryLimits::new(0));
-    match declared(names, values, long, 4) {
-        Err(DeclareError::Refused(error)) => {
-            error.kind() == LassoErrorKind::MemoryLimitReached && values.len() == 1
-        }
+fn is_refused_by_the_limit(declared: Result<Spur, DeclareError>) -> bool {
+    match declared {
+        Err(DeclareError::Refused(error)) => error.kind().is_memory_limit(),
         _ => false,
     }
 }
 
-fn long_name(alloc: Global) -> Result<String, AllocError> {
-    "x".repeat(alloc, 5000)
-}
-
-fn interner(alloc: Global) -> LassoResult<SpurRodeo> {
-    Rodeo::new(alloc)
-}
-
-fn are_declared(alloc: Global, names: &mut SpurRodeo) -> Result<bool, Fail> {
-    let long = long_name(alloc)?;
-    let mut values = Vec::new(alloc);
-    match width_is_declared(names, &mut values) {
-        Ok(right) => Ok(right && is_refused(names, &mut values, long.as_str())),
-        Err(fault) => Err(fault),
-    }
-}
-
-fn names_have_values(alloc: Global) -> Result<bool, Fail> {
-    let mut names = interner(alloc)?;
-    are_declared(alloc, &mut names)
-}
-
+// The first bucket has 4096 bytes, so a limit of 0 refuses the long name.
 #[test]
 fn names_with_values(rt: HostRuntime) -> Result<(), Fail> {
-    ends_so(&rt, names_have_values(rt.alloc()), "width and a long name")
+    let long = "x".repeat(rt.alloc(), 5000)?;
+    let mut names: SpurRodeo = Rodeo::new(rt.alloc())?;
+    let mut values = Vec::new(rt.alloc());
+    let width = declare(&mut names, &mut values, "width", 3);
+    is_so(&rt, is_first(width), "width");
+    names.set_memory_limits(MemoryLimits::new(0));
+    let refused = declare(&mut names, &mut values, long.as_str(), 4);
+    is_so(&rt, is_refused_by_the_limit(refused), "a long name");
+    assert!(rt; values.as_slice() == [3].as_slice());
+    Ok(())
 }

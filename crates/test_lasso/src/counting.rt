@@ -1,20 +1,17 @@
 //! Source texts and their tokens, words that are counted, and sets of texts.
 ghost use Rattle.std.specs.Prelude.{◌≡◌};
 
-use crate::steps::{ends_so, has_seen, is_by_the_limit, is_so, limit_to_zero, shared};
-use lasso::{
-    FixedState, Key, LassoErrorKind, LassoResult, Pass, Rodeo, Spur, SpurRodeo, SpurThreadedRodeo,
-};
+use crate::steps::{ends_so, fresh, is_so};
+use lasso::{FixedState, Key, LassoResult, Pass, Rodeo, Spur, SpurRodeo, SpurThreadedRodeo};
 use lasso_guide::any::have_one_key;
 use lasso_guide::closures::counts;
-use lasso_guide::lexer::{KEYWORDS, Lexer, Token};
+use lasso_guide::lexer::{Lexer, Token};
 use lasso_guide::text_set::TextSet;
 use lasso_guide::word_counts::{WordCount, count_words};
 use std::alloc::Global;
 use std::sync::Wait;
 use std::test::Fail;
 use std::thread::Threads;
-use test_common::keys::BelowTwo;
 
 static PIECES: [&str; 12] = [
     "while", "x1", "<", "20", "{", "x1", "=", "x1", "+", "straße", ";", "}",
@@ -76,80 +73,6 @@ fn pieces_of_a_loop(rt: HostRuntime) -> Result<(), Fail> {
     )
 }
 
-// A word, and whether it is a keyword.
-type Word = (&'static str, bool);
-
-static WORDS: [Word; 4] = [("let", true), ("lets", false), ("if_", false), ("if", true)];
-
-fn is_word(lexer: &Lexer, token: &Token<'_>, word: Word) -> bool {
-    match token {
-        Token::Name(key) => is_named(lexer, *key, word.0) && lexer.is_keyword(*key) == word.1,
-        _ => false,
-    }
-}
-
-fn are_words(lexer: &Lexer, tokens: &[Token<'_>]) -> bool {
-    let mut at: usize = 0;
-    for token in tokens {
-        if at >= WORDS.len() || !is_word(lexer, token, WORDS[at]) {
-            return false;
-        }
-        at += 1;
-    }
-    at == WORDS.len()
-}
-
-fn words_are_told(lexer: &mut Lexer, alloc: Global) -> Result<bool, Fail> {
-    match cut(lexer, alloc, "let lets if_ if") {
-        Ok(tokens) => Ok(are_words(lexer, &tokens)),
-        Err(error) => Err(Fail::from(error)),
-    }
-}
-
-fn tells_words(alloc: Global) -> Result<bool, Fail> {
-    let mut lexer = new_lexer(alloc)?;
-    words_are_told(&mut lexer, alloc)
-}
-
-#[test]
-fn keywords_and_names(rt: HostRuntime) -> Result<(), Fail> {
-    ends_so(&rt, tells_words(rt.alloc()), "the words")
-}
-
-// Whether the key of this number is the keyword's, or no key is where there is no keyword.
-fn has_keyword(lexer: &Lexer, number: usize, word: Option<&str>) -> bool {
-    match Spur::try_from_usize(number) {
-        Some(key) => lexer.is_keyword(key) == word.is_some() && lexer.name_of(key) == word,
-        None => false,
-    }
-}
-
-fn has_keywords(lexer: &Lexer) -> bool {
-    for number in 0..KEYWORDS.len() {
-        if !has_keyword(lexer, number, Some(KEYWORDS[number])) {
-            return false;
-        }
-    }
-    has_keyword(lexer, KEYWORDS.len(), None)
-}
-
-fn begins_with_keywords(alloc: Global) -> Result<bool, Fail> {
-    let lexer = new_lexer(alloc)?;
-    Ok(has_keywords(&lexer))
-}
-
-#[test]
-fn keys_below_the_number_of_keywords(rt: HostRuntime) -> Result<(), Fail> {
-    ends_so(&rt, begins_with_keywords(rt.alloc()), "the keys")
-}
-
-#[test]
-fn texts_without_tokens(rt: HostRuntime) -> Result<(), Fail> {
-    ends_so(&rt, cuts(rt.alloc(), "", &[]), "an empty text")?;
-    ends_so(&rt, cuts(rt.alloc(), " ", &[]), "a space")?;
-    ends_so(&rt, cuts(rt.alloc(), "\n\t ", &[]), "white space")
-}
-
 // Words that four threads count.
 
 // Counts the words by the pass.
@@ -206,7 +129,7 @@ fn words_are_counted<R: AllocGlobal + Threads + Wait + Sync>(
     rt: &R,
     words: &[&str],
 ) -> Result<bool, Fail> {
-    let rodeo = shared(rt.alloc())?;
+    let rodeo = fresh(rt.alloc())?;
     match counted(rt, &rodeo, words) {
         Ok(counted) => Ok(are_right(rt, &rodeo, &counted)),
         Err(error) => Err(Fail::from(error)),
@@ -235,7 +158,7 @@ fn has_counts<R: AllocGlobal + Threads + Wait + Sync>(
 }
 
 fn few_are_counted<R: AllocGlobal + Threads + Wait + Sync>(rt: &R) -> Result<bool, Fail> {
-    let rodeo = shared(rt.alloc())?;
+    let rodeo = fresh(rt.alloc())?;
     let none = has_counts(rt, &rodeo, &[], &[]);
     let twice = has_counts(rt, &rodeo, &["again", "again"], &[2]);
     Ok(none? && twice?)
@@ -244,32 +167,6 @@ fn few_are_counted<R: AllocGlobal + Threads + Wait + Sync>(rt: &R) -> Result<boo
 #[test]
 fn counts_of_few_words(rt: HostRuntime) -> Result<(), Fail> {
     ends_so(&rt, few_are_counted(&rt), "no word and two")
-}
-
-// Counts a short word and the long one under a limit of 0. The first bucket has room for the short one.
-fn long_is_refused<R: AllocGlobal + Threads + Wait + Sync>(
-    rt: &R,
-    rodeo: &SpurThreadedRodeo,
-    pass: &mut Pass<Spur>,
-    long: &str,
-) -> bool
-    requires { pass.old.of ≡ rodeo.now }
-{
-    limit_to_zero(rt, rodeo, pass);
-    let refused = count(rt, rodeo, pass, &["short", long]).err();
-    is_by_the_limit(refused) && has_seen(rodeo, pass, 1)
-}
-
-fn limit_refuses<R: AllocGlobal + Threads + Wait + Sync>(rt: &R, long: &str) -> Result<bool, Fail> {
-    let rodeo = shared(rt.alloc())?;
-    let mut pass = rodeo.pass();
-    Ok(long_is_refused(rt, &rodeo, &mut pass, long))
-}
-
-#[test]
-fn a_word_over_the_limit(rt: HostRuntime) -> Result<(), Fail> {
-    let long = "x".repeat(rt.alloc(), 5000)?;
-    ends_so(&rt, limit_refuses(&rt, long.as_str()), "the long word")
 }
 
 // A set of texts has each text once, at the position at which it came.
@@ -289,28 +186,6 @@ fn a_set_has_the_positions_of_its_texts(rt: HostRuntime) -> Result<(), Fail> {
     assert!(rt; set.position("green") == Some(2));
     assert!(rt; set.position("") == Some(1));
     assert!(rt; set.position("blue").is_none());
-    Ok(())
-}
-
-fn is_without_key(outcome: LassoResult<usize>) -> bool {
-    match outcome {
-        Ok(_) => false,
-        Err(refusal) => refusal.kind() == LassoErrorKind::KeySpaceExhaustion,
-    }
-}
-
-#[test]
-fn a_refused_text_changes_no_set(rt: HostRuntime) -> Result<(), Fail> {
-    let mut set: TextSet<BelowTwo, FixedState> = TextSet::new(
-        rt.alloc(),
-        FixedState::new(),
-        usize::MAX,
-    )?;
-    assert!(rt; set.insert("p")? == 0);
-    assert!(rt; set.insert("q")? == 1);
-    assert!(rt; is_without_key(set.insert("r")));
-    assert!(rt; set.position("r").is_none());
-    assert!(rt; set.insert("q")? == 1);
     Ok(())
 }
 

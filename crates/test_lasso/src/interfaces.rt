@@ -5,8 +5,9 @@ use crate::laws::{
     resolver_of_boxed_rodeo_knows, resolver_of_rodeo_knows, rodeo_interns_as_one,
 };
 use crate::objects::{ends_with, has_alone};
-use crate::owning::of_hello;
-use crate::steps::{Case, Step, all_right, first_wrong, gives_hello, is_so, reads_hello, steps_of};
+use crate::steps::{
+    Case, Step, all_right, first_wrong, gives_hello, is_so, of_hello, reads_hello, steps_of,
+};
 use lasso::interface::{IntoReader, IntoReaderAndResolver, IntoResolver};
 use lasso::{
     Capacity, Key, LassoResult, MemoryLimits, Rodeo, Spur, SpurRodeo, SpurRodeoReader,
@@ -69,6 +70,8 @@ enum Holder {
     Boxed,
 }
 
+static HOLDERS: [Holder; 3] = [Holder::Itself, Holder::Lent, Holder::Boxed];
+
 fn runs_by<R: Wait>(
     rt: &R,
     holder: Holder,
@@ -101,64 +104,32 @@ fn runs<R: AllocGlobal + Abort + Wait>(rt: &R, holder: Holder, case: Case) -> Re
     Ok(())
 }
 
-#[test]
-fn one_text_through_an_interner(rt: HostRuntime) -> Result<(), Fail> {
-    runs(&rt, Holder::Itself, Case::OneText)
+// Makes the calls of the case through each holder.
+fn runs_each<R: AllocGlobal + Abort + Wait>(rt: &R, case: Case) -> Result<(), Fail> {
+    for holder in HOLDERS.iter() {
+        runs(rt, *holder, case)?;
+    }
+    Ok(())
 }
 
 #[test]
-fn one_text_through_a_lent_interner(rt: HostRuntime) -> Result<(), Fail> {
-    runs(&rt, Holder::Lent, Case::OneText)
+fn one_text(rt: HostRuntime) -> Result<(), Fail> {
+    runs_each(&rt, Case::OneText)
 }
 
 #[test]
-fn one_text_through_an_interner_in_a_box(rt: HostRuntime) -> Result<(), Fail> {
-    runs(&rt, Holder::Boxed, Case::OneText)
+fn static_texts(rt: HostRuntime) -> Result<(), Fail> {
+    runs_each(&rt, Case::StaticTexts)
 }
 
 #[test]
-fn static_texts_through_an_interner(rt: HostRuntime) -> Result<(), Fail> {
-    runs(&rt, Holder::Itself, Case::StaticTexts)
+fn static_texts_take_no_bytes(rt: HostRuntime) -> Result<(), Fail> {
+    runs_each(&rt, Case::NoBytes)
 }
 
 #[test]
-fn static_texts_through_a_lent_interner(rt: HostRuntime) -> Result<(), Fail> {
-    runs(&rt, Holder::Lent, Case::StaticTexts)
-}
-
-#[test]
-fn static_texts_through_an_interner_in_a_box(rt: HostRuntime) -> Result<(), Fail> {
-    runs(&rt, Holder::Boxed, Case::StaticTexts)
-}
-
-#[test]
-fn static_texts_take_no_bytes_of_an_interner(rt: HostRuntime) -> Result<(), Fail> {
-    runs(&rt, Holder::Itself, Case::NoBytes)
-}
-
-#[test]
-fn static_texts_take_no_bytes_of_a_lent_interner(rt: HostRuntime) -> Result<(), Fail> {
-    runs(&rt, Holder::Lent, Case::NoBytes)
-}
-
-#[test]
-fn static_texts_take_no_bytes_of_an_interner_in_a_box(rt: HostRuntime) -> Result<(), Fail> {
-    runs(&rt, Holder::Boxed, Case::NoBytes)
-}
-
-#[test]
-fn long_texts_through_an_interner(rt: HostRuntime) -> Result<(), Fail> {
-    runs(&rt, Holder::Itself, Case::LongTexts)
-}
-
-#[test]
-fn long_texts_through_a_lent_interner(rt: HostRuntime) -> Result<(), Fail> {
-    runs(&rt, Holder::Lent, Case::LongTexts)
-}
-
-#[test]
-fn long_texts_through_an_interner_in_a_box(rt: HostRuntime) -> Result<(), Fail> {
-    runs(&rt, Holder::Boxed, Case::LongTexts)
+fn long_texts(rt: HostRuntime) -> Result<(), Fail> {
+    runs_each(&rt, Case::LongTexts)
 }
 
 /// Whether what each way of freezing gives has `Hello, world!` alone.
@@ -300,24 +271,16 @@ fn a_boxed_interner_freezes_to_a_reader(rt: HostRuntime) -> Result<(), Fail> {
 }
 
 #[test]
-fn a_boxed_interner_freezes_to_a_resolver(rt: HostRuntime) -> Result<(), Fail> {
-    freezes_to_resolver(&rt, Freezing::Boxed)
-}
-
-#[test]
-fn a_box_freezes_as_what_it_holds(rt: HostRuntime) -> Result<(), Fail> {
-    freezes_to_reader(&rt, Freezing::AsHeld)?;
-    freezes_to_resolver(&rt, Freezing::AsHeld)
-}
-
-#[test]
-fn a_box_in_a_box_freezes_to_a_reader(rt: HostRuntime) -> Result<(), Fail> {
-    freezes_to_reader(&rt, Freezing::Twice)
-}
-
-#[test]
-fn a_box_in_a_box_freezes_to_a_resolver(rt: HostRuntime) -> Result<(), Fail> {
+fn a_box_freezes_to_a_resolver(rt: HostRuntime) -> Result<(), Fail> {
+    freezes_to_resolver(&rt, Freezing::Boxed)?;
+    freezes_to_resolver(&rt, Freezing::AsHeld)?;
     freezes_to_resolver(&rt, Freezing::Twice)
+}
+
+#[test]
+fn a_box_freezes_to_a_reader(rt: HostRuntime) -> Result<(), Fail> {
+    freezes_to_reader(&rt, Freezing::AsHeld)?;
+    freezes_to_reader(&rt, Freezing::Twice)
 }
 
 // An interner with `A` alone.

@@ -22,11 +22,7 @@ mod owning;
 #[cfg(test)]
 mod refused;
 #[cfg(test)]
-mod shared;
-#[cfg(test)]
 mod shared_interfaces;
-#[cfg(test)]
-mod shared_lists;
 #[cfg(test)]
 mod shared_threads;
 #[cfg(test)]

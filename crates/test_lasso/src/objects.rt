@@ -3,8 +3,9 @@ use crate::interfaces::made_for;
 use crate::laws::{
     boxed_object_interns_as_one, boxed_rodeo_object_interns_as_one, object_interns_as_one,
 };
-use crate::owning::of_hello;
-use crate::steps::{Answer, Case, LIMIT, is_answer, is_number, is_so, is_text, number_of};
+use crate::steps::{
+    Answer, CASES, Case, LIMIT, is_answer, is_number, is_so, is_text, number_of, of_hello,
+};
 use lasso::interface::{SpurInterner, SpurReader, SpurResolver};
 use lasso::{Key, LassoResult, Spur, SpurRodeo, SpurRodeoReader, SpurRodeoResolver};
 use std::process::Abort;
@@ -110,23 +111,11 @@ fn runs<R: AllocGlobal + Abort>(rt: &R, case: Case) -> Result<(), Fail> {
 }
 
 #[test]
-fn one_text_through_an_interner(rt: HostRuntime) -> Result<(), Fail> {
-    runs(&rt, Case::OneText)
-}
-
-#[test]
-fn static_texts_through_an_interner(rt: HostRuntime) -> Result<(), Fail> {
-    runs(&rt, Case::StaticTexts)
-}
-
-#[test]
-fn static_texts_take_no_bytes(rt: HostRuntime) -> Result<(), Fail> {
-    runs(&rt, Case::NoBytes)
-}
-
-#[test]
-fn long_texts_through_an_interner(rt: HostRuntime) -> Result<(), Fail> {
-    runs(&rt, Case::LongTexts)
+fn calls_of_an_object(rt: HostRuntime) -> Result<(), Fail> {
+    for case in CASES.iter() {
+        runs(&rt, *case)?;
+    }
+    Ok(())
 }
 
 // Makes the calls on what the box holds. Then a law holds of the box, with a present text.
@@ -141,13 +130,11 @@ fn runs_box<R: AllocGlobal + Abort>(rt: &R, case: Case) -> Result<(), Fail> {
 }
 
 #[test]
-fn one_text_through_a_box(rt: HostRuntime) -> Result<(), Fail> {
-    runs_box(&rt, Case::OneText)
-}
-
-#[test]
-fn long_texts_through_a_box(rt: HostRuntime) -> Result<(), Fail> {
-    runs_box(&rt, Case::LongTexts)
+fn calls_of_an_object_in_a_box(rt: HostRuntime) -> Result<(), Fail> {
+    for case in CASES.iter() {
+        runs_box(&rt, *case)?;
+    }
+    Ok(())
 }
 
 #[test]
@@ -156,16 +143,6 @@ fn a_boxed_rodeo_interns_as_one(rt: HostRuntime) -> Result<(), Fail> {
     let is_one = boxed_rodeo_object_interns_as_one(rodeo, "Goodbye!")?;
     is_so(&rt, is_one, "the law of interning");
     Ok(())
-}
-
-#[test]
-fn static_texts_through_a_box(rt: HostRuntime) -> Result<(), Fail> {
-    runs_box(&rt, Case::StaticTexts)
-}
-
-#[test]
-fn static_texts_take_no_bytes_through_a_box(rt: HostRuntime) -> Result<(), Fail> {
-    runs_box(&rt, Case::NoBytes)
 }
 
 // Whether `Hello, world!` is there, and `Goodbye!` is not.

@@ -2,9 +2,7 @@
 //! saved.
 ghost use Rattle.std.specs.Prelude.{◌≡◌};
 
-use crate::steps::{
-    ends_so, has_seen, is_by_the_limit, is_so, limit_to_zero, shared, stands_by_pass,
-};
+use crate::steps::{ends_so, fresh, has_seen, is_so, stands_by_pass};
 use lasso::{
     FixedState, JsonError, Key, LassoErrorKind, LassoResult, Pass, Rodeo, Spur, SpurRodeo,
     SpurThreadedRodeo, ThreadedRodeo,
@@ -32,7 +30,7 @@ fn two_of_three<R: Wait>(
 }
 
 fn names_are_interned<R: AllocGlobal + Wait>(rt: &R) -> Result<bool, Fail> {
-    let rodeo = shared(rt.alloc())?;
+    let rodeo = fresh(rt.alloc())?;
     let mut pass = rodeo.pass();
     Ok(two_of_three(rt, &rodeo, &mut pass)?)
 }
@@ -85,7 +83,7 @@ fn two_names<R: Wait>(rt: &R, rodeo: &SpurThreadedRodeo, pass: &mut Pass<Spur>) 
 }
 
 fn names_are_declared<R: AllocGlobal + Wait>(rt: &R) -> Result<bool, Fail> {
-    let rodeo = shared(rt.alloc())?;
+    let rodeo = fresh(rt.alloc())?;
     let mut pass = rodeo.pass();
     Ok(two_names(rt, &rodeo, &mut pass)?)
 }
@@ -126,7 +124,7 @@ fn names_of_both<R: Threads + Wait + Sync>(
 }
 
 fn names_have_keys<R: AllocGlobal + Threads + Wait + Sync>(rt: &R) -> Result<bool, Fail> {
-    let rodeo = shared(rt.alloc())?;
+    let rodeo = fresh(rt.alloc())?;
     let mut pass = rodeo.pass();
     Ok(names_of_both(rt, &rodeo, &mut pass)?)
 }
@@ -134,46 +132,6 @@ fn names_have_keys<R: AllocGlobal + Threads + Wait + Sync>(rt: &R) -> Result<boo
 #[test]
 fn names_of_two_threads(rt: HostRuntime) -> Result<(), Fail> {
     ends_so(&rt, names_have_keys(&rt), "two names")
-}
-
-// Interns a short name and the long one under a limit of 0. The first bucket has room for the short one.
-fn long_is_refused<R: Threads + Wait + Sync>(
-    rt: &R,
-    rodeo: &SpurThreadedRodeo,
-    pass: &mut Pass<Spur>,
-    long: &str,
-) -> bool
-    requires { pass.old.of ≡ rodeo.now }
-{
-    limit_to_zero(rt, rodeo, pass);
-    let refused = pair(rt, rodeo, pass, "short", long).err();
-    is_by_the_limit(refused) && has_seen(rodeo, pass, 1)
-}
-
-fn limit_refuses<R: AllocGlobal + Threads + Wait + Sync>(rt: &R, long: &str) -> Result<bool, Fail> {
-    let rodeo = shared(rt.alloc())?;
-    let mut pass = rodeo.pass();
-    Ok(long_is_refused(rt, &rodeo, &mut pass, long))
-}
-
-#[test]
-fn a_name_over_the_limit(rt: HostRuntime) -> Result<(), Fail> {
-    let long = "x".repeat(rt.alloc(), 5000)?;
-    ends_so(&rt, limit_refuses(&rt, long.as_str()), "the long name")
-}
-
-// Interners of the tests.
-
-/// An interner of these texts.
-pub fn of_texts(alloc: Global, texts: &[&str]) -> LassoResult<SpurRodeo> {
-    Rodeo::from_iter(alloc, texts.iter().copied())
-}
-
-/// An interner with `Hello, world!` alone, made by `default`.
-pub fn of_hello(alloc: Global) -> LassoResult<SpurRodeo> {
-    let mut rodeo = Rodeo::default(alloc)?;
-    rodeo.try_get_or_intern("Hello, world!")?;
-    Ok(rodeo)
 }
 
 // An interner of the key type.

@@ -3,8 +3,9 @@
 //! and refuse and copy no more than these, is tested here.
 use crate::interfaces::{Freezing, freezes, shows_reader, shows_resolver};
 use crate::laws::{reader_knows, resolver_knows};
-use crate::shared::{fresh, hello};
-use crate::steps::{Case, NO_KEY_LEFT, Step, all_right, first_wrong, is_so, steps_of};
+use crate::steps::{
+    Case, NO_KEY_LEFT, Step, all_right, first_wrong, fresh, hello, is_so, steps_of,
+};
 use lasso::interface::{IntoReader, IntoResolver};
 use lasso::{
     Capacity, FixedState, LassoResult, MemoryLimits, MicroSpur, Spur, SpurRodeoReader,
@@ -70,6 +71,13 @@ enum Holder {
     Boxed,
 }
 
+static HOLDERS: [Holder; 4] = [
+    Holder::Itself,
+    Holder::Reference,
+    Holder::Lent,
+    Holder::Boxed,
+];
+
 fn runs_by<R: Wait>(
     rt: &R,
     holder: Holder,
@@ -111,76 +119,32 @@ fn runs<R: AllocGlobal + Abort + Wait>(rt: &R, holder: Holder, case: Case) -> Re
     Ok(())
 }
 
-#[test]
-fn one_text_through_an_interner(rt: HostRuntime) -> Result<(), Fail> {
-    runs(&rt, Holder::Itself, Case::OneText)
+// Makes the calls of the case through each holder.
+fn runs_each<R: AllocGlobal + Abort + Wait>(rt: &R, case: Case) -> Result<(), Fail> {
+    for holder in HOLDERS.iter() {
+        runs(rt, *holder, case)?;
+    }
+    Ok(())
 }
 
 #[test]
-fn one_text_through_a_reference(rt: HostRuntime) -> Result<(), Fail> {
-    runs(&rt, Holder::Reference, Case::OneText)
+fn one_text(rt: HostRuntime) -> Result<(), Fail> {
+    runs_each(&rt, Case::OneText)
 }
 
 #[test]
-fn one_text_through_a_lent_interner(rt: HostRuntime) -> Result<(), Fail> {
-    runs(&rt, Holder::Lent, Case::OneText)
+fn static_texts(rt: HostRuntime) -> Result<(), Fail> {
+    runs_each(&rt, Case::StaticTexts)
 }
 
 #[test]
-fn one_text_through_an_interner_in_a_box(rt: HostRuntime) -> Result<(), Fail> {
-    runs(&rt, Holder::Boxed, Case::OneText)
+fn static_texts_take_no_bytes(rt: HostRuntime) -> Result<(), Fail> {
+    runs_each(&rt, Case::NoBytes)
 }
 
 #[test]
-fn static_texts_through_an_interner(rt: HostRuntime) -> Result<(), Fail> {
-    runs(&rt, Holder::Itself, Case::StaticTexts)
-}
-
-#[test]
-fn static_texts_through_a_reference(rt: HostRuntime) -> Result<(), Fail> {
-    runs(&rt, Holder::Reference, Case::StaticTexts)
-}
-
-#[test]
-fn static_texts_through_a_lent_interner(rt: HostRuntime) -> Result<(), Fail> {
-    runs(&rt, Holder::Lent, Case::StaticTexts)
-}
-
-#[test]
-fn static_texts_through_an_interner_in_a_box(rt: HostRuntime) -> Result<(), Fail> {
-    runs(&rt, Holder::Boxed, Case::StaticTexts)
-}
-
-#[test]
-fn static_texts_take_no_bytes_of_a_shared_interner(rt: HostRuntime) -> Result<(), Fail> {
-    runs(&rt, Holder::Itself, Case::NoBytes)?;
-    runs(&rt, Holder::Reference, Case::NoBytes)
-}
-
-#[test]
-fn static_texts_take_no_bytes_of_a_held_shared_interner(rt: HostRuntime) -> Result<(), Fail> {
-    runs(&rt, Holder::Lent, Case::NoBytes)?;
-    runs(&rt, Holder::Boxed, Case::NoBytes)
-}
-
-#[test]
-fn long_texts_through_an_interner(rt: HostRuntime) -> Result<(), Fail> {
-    runs(&rt, Holder::Itself, Case::LongTexts)
-}
-
-#[test]
-fn long_texts_through_a_reference(rt: HostRuntime) -> Result<(), Fail> {
-    runs(&rt, Holder::Reference, Case::LongTexts)
-}
-
-#[test]
-fn long_texts_through_a_lent_interner(rt: HostRuntime) -> Result<(), Fail> {
-    runs(&rt, Holder::Lent, Case::LongTexts)
-}
-
-#[test]
-fn long_texts_through_an_interner_in_a_box(rt: HostRuntime) -> Result<(), Fail> {
-    runs(&rt, Holder::Boxed, Case::LongTexts)
+fn long_texts(rt: HostRuntime) -> Result<(), Fail> {
+    runs_each(&rt, Case::LongTexts)
 }
 
 type SharedMicro = ThreadedRodeo<MicroSpur, FixedState>;
@@ -297,15 +261,7 @@ fn freezes_by<R: AllocGlobal + Abort + Wait>(rt: &R, freezing: Freezing) -> Resu
 
 #[test]
 fn boxed_shared_interners_freeze(rt: HostRuntime) -> Result<(), Fail> {
-    freezes_by(&rt, Freezing::Boxed)
-}
-
-#[test]
-fn a_box_freezes_as_what_it_holds(rt: HostRuntime) -> Result<(), Fail> {
-    freezes_by(&rt, Freezing::AsHeld)
-}
-
-#[test]
-fn a_box_in_a_box_freezes(rt: HostRuntime) -> Result<(), Fail> {
+    freezes_by(&rt, Freezing::Boxed)?;
+    freezes_by(&rt, Freezing::AsHeld)?;
     freezes_by(&rt, Freezing::Twice)
 }

@@ -1,14 +1,14 @@
 //! Two threads that use one shared interner through its interfaces.
-use crate::shared::{fresh, hello};
 use crate::shared_interfaces::by_reference;
 use crate::steps::Step::{Finds, Interns, Keeps};
-use crate::steps::{Step, Way, finds, is_so};
-use lasso::{LassoResult, MemoryLimits, Spur, SpurThreadedRodeo};
+use crate::steps::{Step, Way, finds, fresh, hello, is_so};
+use lasso::{LassoResult, Spur, SpurThreadedRodeo};
 use std::alloc::Global;
 use std::sync::Wait;
 use std::sync::atomic::{AtomicBool, Ordering};
 use std::test::Fail;
 use std::thread::{Threads, join};
+use test_steps::makers::reads_what_it_sets;
 
 // The calls of `Interner`.
 static WAYS: [Way; 4] = [Way::TryCopied, Way::Copied, Way::TryStatic, Way::Static];
@@ -67,22 +67,8 @@ fn two_threads_intern_many_through_references(rt: HostRuntime) -> Result<(), Fai
     Ok(())
 }
 
-// How many limits are set at most, in case the other thread never ends.
+// How many limits are set, and calls made, at most, in case the other thread never ends.
 const MOST: usize = 1_000_000;
-
-// Sets one limit after another until the other thread is done. Returns whether each is read as it was set.
-fn reads_what_it_sets<R: Wait>(rt: &R, shared: &SpurThreadedRodeo, done: &AtomicBool) -> bool {
-    let mut all = true;
-    for turn in 0..MOST {
-        if done.load(Ordering::SeqCst) {
-            break;
-        }
-        let limit = turn.wrapping_add(5000);
-        shared.set_memory_limits(rt, MemoryLimits::new(limit));
-        all &= shared.max_memory_usage(rt) == limit;
-    }
-    all
-}
 
 // Whether the text has this number by both look-ups, or is absent.
 fn has_number<R: Wait>(
@@ -154,7 +140,7 @@ fn set_and_intern<R: Threads + Wait + Sync>(
     let done = AtomicBool::new(false);
     join(
         rt,
-        || reads_what_it_sets(rt, shared, &done),
+        || reads_what_it_sets(rt, shared, &done, 5000, MOST),
         || have_one_key(rt, shared, texts, &done),
     )
 }

@@ -5,7 +5,7 @@ ghost use Rattle.std.specs.Prelude.{◌≡◌};
 use crate::laws::{finds_what_resolves, interns_as_one, looks_up_alike};
 use lasso::interface::{Interner, Reader, Resolver};
 use lasso::{
-    Key, LassoError, LassoErrorKind, LassoResult, MemoryLimits, Pass, Spur, SpurThreadedRodeo,
+    Key, LassoErrorKind, LassoResult, Pass, Rodeo, Spur, SpurRodeo, SpurThreadedRodeo,
     ThreadedRodeo,
 };
 use std::alloc::Global;
@@ -139,6 +139,14 @@ pub enum Case {
     LongTexts,
 }
 
+/// Each of them.
+pub static CASES: [Case; 4] = [
+    Case::OneText,
+    Case::StaticTexts,
+    Case::NoBytes,
+    Case::LongTexts,
+];
+
 /// The calls of the test.
 pub fn steps_of(case: Case) -> &'static [Step] {
     match case {
@@ -266,17 +274,23 @@ pub(super) fn ends_so(rt: &impl Abort, ended: Result<bool, Fail>, what: &str) ->
     }
 }
 
-// An interner that threads share.
-pub(super) fn shared(alloc: Global) -> LassoResult<SpurThreadedRodeo> {
+/// An interner with `Hello, world!` alone, made by `default`.
+pub fn of_hello(alloc: Global) -> LassoResult<SpurRodeo> {
+    let mut rodeo = Rodeo::default(alloc)?;
+    rodeo.try_get_or_intern("Hello, world!")?;
+    Ok(rodeo)
+}
+
+/// An interner that threads share, without a text.
+pub fn fresh(alloc: Global) -> LassoResult<SpurThreadedRodeo> {
     ThreadedRodeo::default(alloc)
 }
 
-// Whether the call was refused by the memory limit.
-pub(super) fn is_by_the_limit(refused: Option<LassoError>) -> bool {
-    match refused {
-        Some(error) => error.kind().is_memory_limit(),
-        None => false,
-    }
+/// An interner that threads share, with `Hello, world!` alone.
+pub fn hello(rt: &impl Wait, alloc: Global) -> LassoResult<SpurThreadedRodeo> {
+    let shared = fresh(alloc)?;
+    shared.try_get_or_intern(rt, "Hello, world!")?;
+    Ok(shared)
 }
 
 // Whether the pass has seen this number of texts.
@@ -298,14 +312,6 @@ pub(super) fn stands_by_pass(
     ensures { pass.new.of ≡ pass.old.of }
 {
     rodeo.try_resolve_as(pass, key) == Some(text)
-}
-
-// Sets a limit of 0 by the pass.
-pub(super) fn limit_to_zero<R: Wait>(rt: &R, rodeo: &SpurThreadedRodeo, pass: &mut Pass<Spur>)
-    requires { pass.old.of ≡ rodeo.now }
-    ensures { pass.new.of ≡ pass.old.of }
-{
-    rodeo.set_memory_limits_as(rt, pass, MemoryLimits::new(0));
 }
 
 // The assertion of the tests, and comparisons of what calls return. None has a contract, so a test of many

@@ -2,7 +2,7 @@
 //! those of the calls, by the laws of `lasso_shared::laws`.
 ghost use Rattle.std.specs.Prelude.{◌≡◌, ◌≢◌, ◌↔◌, Some, IsTrue, IfOk, option_map};
 
-use crate::checks::{is_so, runs};
+use crate::checks::is_so;
 use lasso_log::log::Pass;
 use lasso_parts::keys::{Key, Spur};
 use lasso_parts::util::{FixedState, LassoResult};
@@ -15,9 +15,6 @@ use std::process::Abort;
 use std::sync::Wait;
 use std::test::*;
 use test_steps::calls::{Shared, made, pass_of};
-use test_steps::makers::Maker;
-use test_steps::steps::Step::ByOne;
-use test_steps::steps::{Call, Step};
 
 // Interns the text by one pass, and resolves its key by another, which has met the first.
 fn resolved_by_another<'a, R: Wait>(
@@ -193,19 +190,4 @@ fn two_passes_rely_on_each_other(rt: HostRuntime) -> Result<(), Fail> {
     let shared = made(rt.alloc())?;
     rely_on_each_other(&rt, &shared)?;
     Ok(())
-}
-
-// The pass interns five texts, three of them distinct.
-#[test]
-fn the_position_after_the_last_text_is_empty(rt: HostRuntime) -> Result<(), Fail> {
-    static STEPS: [Step; 7] = [
-        ByOne(Call::Keeps("p", Ok(0))),
-        ByOne(Call::Keeps("q", Ok(1))),
-        ByOne(Call::Keeps("p", Ok(0))),
-        ByOne(Call::Keeps("", Ok(2))),
-        ByOne(Call::Keeps("q", Ok(1))),
-        ByOne(Call::Reads(2, Some(""))),
-        ByOne(Call::Reads(3, None)),
-    ];
-    runs(&rt, Maker::Default, &STEPS)
 }

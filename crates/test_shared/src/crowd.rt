@@ -1,7 +1,7 @@
-//! Threads that intern texts of their own and texts that all of them intern, and threads that call two interners
-//! alternately.
+//! Threads that intern texts of their own and texts that all of them intern, also by passes with hints, and threads that
+//! call two interners alternately.
 use crate::checks::{is_so, runs_in, runs_in_two};
-use Step::{Counts, Fills, IsLimited, Shows, Uses, UsesAtMost};
+use Step::{ByNew, ByOne, Counts, Fills, IsLimited, Shows, Uses, UsesAtMost};
 use lasso_parts::keys::Key;
 use lasso_parts::util::LassoResult;
 use std::process::Abort;
@@ -9,9 +9,10 @@ use std::sync::Wait;
 use std::test::*;
 use std::thread::{Threads, join, map_indices};
 use test_steps::calls::{Caller, DefaultCaller, Shared, len, limited, made};
-use test_steps::cases::PLAIN;
+use test_steps::cases::{HINTED, PLAIN};
 use test_steps::passes::are_right_beside;
-use test_steps::steps::{Step, Way, resolves};
+use test_steps::steps::{Call, Step, Way, resolves};
+use test_steps::texts::List::Numbers;
 use test_steps::texts::counted;
 
 #[test]
@@ -229,4 +230,21 @@ fn two_interners(rt: HostRuntime) -> Result<(), Fail> {
     let one = limited(rt.alloc(), 5000, 5000)?;
     let other = made(rt.alloc())?;
     fill_both(&rt, &one, &other)
+}
+
+// Passes that keep hints.
+
+// Two threads intern both lists, each beginning with another one.
+#[test]
+fn hints_of_two_threads_that_meet(rt: HostRuntime) -> Result<(), Fail> {
+    static HERE: [Step; 2] = [
+        ByOne(Call::Resolves(Numbers(0, 100))),
+        ByOne(Call::Resolves(Numbers(100, 200))),
+    ];
+    static THERE: [Step; 2] = [
+        ByOne(Call::Resolves(Numbers(100, 200))),
+        ByOne(Call::Resolves(Numbers(0, 100))),
+    ];
+    static LAST: [Step; 2] = [ByNew(Call::Counts(200)), Counts(200)];
+    runs_in_two(&rt, &[], (&HERE, &THERE), &LAST, HINTED)
 }

@@ -1,7 +1,7 @@
 //! Texts that are not ASCII through each call, without a pass and with one, for key types of each size and
 //! two hashers; and key types that lack one number but have the next.
 use crate::checks::{is_so, runs_each};
-use crate::looks::{Look, Origin, freezes_as, shows_as};
+use crate::looks::{Look, Origin, freezes_as, shows_as, shows_in};
 use Look::{Compares, Does, Shows, UsesBytesOf, Writes};
 use Step::{
     AllocatesOver, ByNew, ByOne, Counts, EachInterns, EqualsItself, Finds, Interns, IsLimited,
@@ -9,6 +9,7 @@ use Step::{
 };
 use lasso_parts::keys::{Key, LargeSpur, MicroSpur, MiniSpur, Spur};
 use lasso_parts::util::FixedState;
+use lasso_shared::threaded::ThreadedRodeo;
 use std::hash::BuildHasher;
 use std::process::Abort;
 use std::sync::Wait;
@@ -16,7 +17,7 @@ use std::test::*;
 use test_common::hashers::SameState;
 use test_common::keys::{WithoutTwo, WithoutZero};
 use test_steps::cases::paired;
-use test_steps::makers::Maker;
+use test_steps::makers::{Maker, make};
 use test_steps::steps::{COPYING, Call, FULL, KEEPING, NO_KEY, Step, WAYS, Way};
 use test_steps::texts::List::Texts;
 
@@ -88,48 +89,22 @@ static TAKEN: [Look; 11] = [
 // A call interns the text, which is frozen then.
 static MADE_BY: [Look; 1] = [Does(&[Interns(Way::Given, "@", Ok(0))])];
 
-// The only bucket has one byte. Each call that copies is refused by the limit and leaves all as it was, and one
-// that keeps the text takes it without a byte, which is free then.
-static REFUSED: [Look; 3] = [
-    Does(&[
-        Interns(Way::TryCopied, "@", FULL),
-        Finds("@", None),
-        ByNew(Call::Finds("@", None)),
-        ByNew(Call::Counts(0)),
-        Counts(0),
-        Reads(0, None),
-        IsLimited(1),
-        Uses(1),
-        ByNew(Call::Sums(1, 1)),
-        Interns(Way::Copied, "@", FULL),
-        Finds("@", None),
-        ByNew(Call::Finds("@", None)),
-        ByNew(Call::Counts(0)),
-        Counts(0),
-        Reads(0, None),
-        IsLimited(1),
-        Uses(1),
-        ByNew(Call::Sums(1, 1)),
-        Interns(Way::CopiedByPass, "@", FULL),
-        Finds("@", None),
-        ByNew(Call::Finds("@", None)),
-        ByNew(Call::Counts(0)),
-        Counts(0),
-        Reads(0, None),
-        IsLimited(1),
-        Uses(1),
-        ByNew(Call::Sums(1, 1)),
-        Interns(Way::Item, "@", FULL),
-        Finds("@", None),
-        ByNew(Call::Finds("@", None)),
-        ByNew(Call::Counts(0)),
-        Counts(0),
-        Reads(0, None),
-        IsLimited(1),
-        Uses(1),
-        ByNew(Call::Sums(1, 1)),
-        Interns(Way::Given, "@", Ok(0)),
-    ]),
+// The only bucket has one byte. Each call that copies is refused by the limit and leaves all as it was.
+static REFUSED: [Look; 1] = [Does(&[
+    Interns(Way::Given, "@", FULL),
+    Finds("@", None),
+    ByNew(Call::Finds("@", None)),
+    ByNew(Call::Counts(0)),
+    Counts(0),
+    Reads(0, None),
+    IsLimited(1),
+    Uses(1),
+    ByNew(Call::Sums(1, 1)),
+])];
+
+// One that keeps the text takes it without a byte, which is free then.
+static KEPT: [Look; 3] = [
+    Does(&[Interns(Way::Given, "@", Ok(0))]),
     Shows(Texts(&["@"])),
     Does(&[
         Finds("%", None),
@@ -161,6 +136,19 @@ static READ: [Look; 3] = [
     Does(&[Finds("%", None), IsLimited(usize::MAX)]),
 ];
 
+// Each call that copies the text has to be refused, and then one that keeps it to take it.
+fn refuses<K: Key, S: BuildHasher + Default + Drop, R: AllocGlobal + Wait + Abort>(
+    rt: &R,
+    keeping: Way,
+    pair: (&'static str, &'static str),
+) -> Result<(), Fail> {
+    let full: ThreadedRodeo<K, S> = make(rt, Maker::Full(1))?;
+    for way in COPYING.iter() {
+        shows_in(rt, &full, REFUSED.as_slice(), paired(*way, pair))?;
+    }
+    shows_in(rt, &full, KEPT.as_slice(), paired(keeping, pair))
+}
+
 // Each call has to take the text, copies have to be refused by the limit, and fillings and JSON to give interners of
 // the text alone.
 fn takes<K: Key, S: BuildHasher + Default + Drop, R: AllocGlobal + Wait + Abort>(
@@ -174,8 +162,7 @@ fn takes<K: Key, S: BuildHasher + Default + Drop, R: AllocGlobal + Wait + Abort>
         freezes_as::<K, S, R>(rt, roomy, made, frozen, paired(*way, pair))?;
     }
     for way in KEEPING.iter() {
-        let full = Origin::Made(Maker::Full(1));
-        shows_as::<K, S, R>(rt, full, REFUSED.as_slice(), paired(*way, pair))?;
+        refuses::<K, S, R>(rt, *way, pair)?;
     }
     let case = paired(Way::TryCopied, pair);
     shows_as::<K, S, R>(rt, Origin::Items(Texts(&["@", "@"])), MADE.as_slice(), case)?;

@@ -5,11 +5,12 @@ use Step::{Counts, Extends, Finds, IsLimited, Lists, Reads, Resolves, Uses};
 use lasso_parts::keys::Spur;
 use lasso_parts::util::{Capacity, FixedState, LassoErrorKind, LassoResult, MemoryLimits};
 use lasso_shared::threaded::ThreadedRodeo;
-use std::alloc::{AllocError, Global};
+use std::alloc::Global;
 use std::slice::Iter;
 use std::sync::Wait;
 use std::test::*;
 use test_common::keys::BelowTwo;
+use test_common::texts::{is_next, numbered};
 use test_steps::calls::{Shared, len, limit, usage};
 use test_steps::cases::PLAIN;
 use test_steps::makers::{Maker, of_items, refuses_items};
@@ -154,18 +155,10 @@ fn a_new_interner_takes_the_bytes_of_its_items_alone(rt: HostRuntime) -> Result<
 // refused item.
 
 // How many items there are, each of five bytes.
-const ITEMS: u32 = 5_005;
+const ITEMS: usize = 5_005;
 
 // Which item the limit refuses, counted from 1.
 const REFUSED: [usize; 3] = [1, 40, 5_000];
-
-fn numbered(alloc: Global) -> Result<Vec<String>, AllocError> {
-    let mut texts = Vec::new(alloc);
-    for number in 0..ITEMS {
-        texts.push(format!(in alloc; "{number:05}")?)?;
-    }
-    Ok(texts)
-}
 
 // An interner whose only bucket has this number of bytes.
 fn with_bytes(alloc: Global, bytes: usize) -> LassoResult<Shared> {
@@ -186,14 +179,6 @@ fn is_refused_by_the_limit(outcome: LassoResult<()>) -> bool {
     match outcome {
         Ok(()) => false,
         Err(refusal) => refusal.kind() == LassoErrorKind::MemoryLimitReached,
-    }
-}
-
-// Whether the next item is the one at this index.
-fn is_next(items: &mut Iter<'_, String>, texts: &[String], index: usize) -> bool {
-    match (items.next(), texts.get(index)) {
-        (Some(next), Some(wanted)) => next.as_str() == wanted.as_str(),
-        _ => false,
     }
 }
 
@@ -221,7 +206,7 @@ fn stops_at<R: AllocGlobal + Wait>(
 
 #[test]
 fn extend_leaves_lent_items_after_the_refused_one(rt: HostRuntime) -> Result<(), Fail> {
-    let texts = numbered(rt.alloc())?;
+    let texts = numbered(rt.alloc(), ITEMS)?;
     for refused in REFUSED {
         let stops = stops_at(&rt, &texts, refused, false)?;
         is_so_at(&rt, stops, refused);
@@ -231,7 +216,7 @@ fn extend_leaves_lent_items_after_the_refused_one(rt: HostRuntime) -> Result<(),
 
 #[test]
 fn extend_as_leaves_its_items_after_the_refused_one(rt: HostRuntime) -> Result<(), Fail> {
-    let texts = numbered(rt.alloc())?;
+    let texts = numbered(rt.alloc(), ITEMS)?;
     for refused in REFUSED {
         let stops = stops_at(&rt, &texts, refused, true)?;
         is_so_at(&rt, stops, refused);
@@ -252,7 +237,7 @@ fn lacks_a_key<R: Wait>(rt: &R, alloc: Global, items: &mut Iter<'_, String>) -> 
 
 #[test]
 fn from_iter_leaves_lent_items_after_the_refused_one(rt: HostRuntime) -> Result<(), Fail> {
-    let texts = numbered(rt.alloc())?;
+    let texts = numbered(rt.alloc(), ITEMS)?;
     let mut items = texts.iter();
     let refused = lacks_a_key(&rt, rt.alloc(), &mut items);
     is_so(&rt, refused, "the third item");

@@ -12,16 +12,16 @@ use lasso_parts::util::{FixedState, LassoResult};
 use lasso_shared::threaded::ThreadedRodeo;
 use serde_json::Value;
 use std::alloc::Global;
+use std::hash::BuildHasher;
 use std::process::Abort;
 use std::sync::Wait;
 use std::test::*;
 use std::thread::{Threads, join};
 use test_common::hashers::{FirstState, SameState};
 use test_common::keys::{WithoutTwo, WithoutZero};
-use test_steps::calls::Shared;
 use test_steps::cases::{HINTED, PLAIN};
 use test_steps::steps::{Call, Step, Way};
-use test_steps::texts::List::{Numbers, Texts};
+use test_steps::texts::List::Texts;
 use test_steps::texts::{KeyNumbers, List};
 
 /// The error of reading a JSON value, if any.
@@ -206,37 +206,14 @@ static FOUND: [Look; 3] = [
     Shows(TEXTS),
 ];
 
-// Whether two threads find exactly `TEXTS` in the interner, which are in several shards.
-fn both_find_in_several_shards<R: AllocGlobal + Threads + Wait + Sync>(
+// Whether two threads find exactly `TEXTS` in the interner.
+fn both_find<S: BuildHasher + Default + Send + Sync + Drop, R: AllocGlobal + Threads + Wait + Sync>(
     rt: &R,
-    shared: &ThreadedRodeo<Spur, FixedState>,
-) -> LassoResult<bool> {
-    let (here, there) = join(
-        rt,
-        || first_wrong(rt, shared, FOUND.as_slice(), PLAIN),
-        || first_wrong(rt, shared, FOUND.as_slice(), PLAIN),
-    );
-    Ok((here?, there?) == (FOUND.len(), FOUND.len()))
-}
-
-// Whether two threads find exactly `TEXTS` in the interner, which are in one shard.
-fn both_find_in_one_shard<R: AllocGlobal + Threads + Wait + Sync>(
-    rt: &R,
-    shared: &ThreadedRodeo<Spur, SameState>,
-) -> LassoResult<bool> {
-    let (here, there) = join(
-        rt,
-        || first_wrong(rt, shared, FOUND.as_slice(), PLAIN),
-        || first_wrong(rt, shared, FOUND.as_slice(), PLAIN),
-    );
-    Ok((here?, there?) == (FOUND.len(), FOUND.len()))
-}
-
-// Whether two threads find exactly `TEXTS` in the interner, whose shards the first bytes choose.
-fn both_find_by_first_bytes<R: AllocGlobal + Threads + Wait + Sync>(
-    rt: &R,
-    shared: &ThreadedRodeo<Spur, FirstState>,
-) -> LassoResult<bool> {
+    shared: &ThreadedRodeo<Spur, S>,
+) -> LassoResult<bool>
+where
+    S::Hasher: Send,
+{
     let (here, there) = join(
         rt,
         || first_wrong(rt, shared, FOUND.as_slice(), PLAIN),
@@ -251,20 +228,12 @@ fn found_in_shards<R: Threads + Wait + Sync + AllocGlobal + Abort>(
     rt: &R,
     origin: Origin,
 ) -> Result<(), Fail> {
-    let several = make_from(rt, origin, PLAIN)?;
-    is_so(
-        rt,
-        both_find_in_several_shards(rt, &several)?,
-        "several shards",
-    );
-    let one = make_from(rt, origin, PLAIN)?;
-    is_so(rt, both_find_in_one_shard(rt, &one)?, "one shard");
-    let first = make_from(rt, origin, PLAIN)?;
-    is_so(
-        rt,
-        both_find_by_first_bytes(rt, &first)?,
-        "shards by first bytes",
-    );
+    let several: ThreadedRodeo<Spur, FixedState> = make_from(rt, origin, PLAIN)?;
+    is_so(rt, both_find(rt, &several)?, "several shards");
+    let one: ThreadedRodeo<Spur, SameState> = make_from(rt, origin, PLAIN)?;
+    is_so(rt, both_find(rt, &one)?, "one shard");
+    let first: ThreadedRodeo<Spur, FirstState> = make_from(rt, origin, PLAIN)?;
+    is_so(rt, both_find(rt, &first)?, "shards by first bytes");
     Ok(())
 }
 

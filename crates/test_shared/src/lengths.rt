@@ -1,16 +1,19 @@
 //! What each call returns for a text of each length, and what it leaves unchanged; and `allocated_bytes` after each of
 //! many texts.
-use crate::checks::{runs, runs_as, runs_each, runs_in_one};
+use crate::checks::{runs, runs_as, runs_each, runs_in, runs_in_one};
 use Step::{
     Allocates, AllocatesOver, ByNew, ByOne, Copies, Counts, EachInterns, EqualsItself, Finds,
     Interns, IsLimited, Keeps, Limits, New, Reads, Uses,
 };
-use lasso_parts::keys::{MicroSpur, Spur};
+use lasso_parts::keys::{Key, MicroSpur, Spur};
+use lasso_shared::threaded::ThreadedRodeo;
+use std::process::Abort;
+use std::sync::Wait;
 use std::test::*;
-use test_common::hashers::{FirstState, LowState, SameState};
+use test_common::hashers::{LowState, SameState};
 use test_common::keys::BelowTwo;
 use test_steps::cases::{PLAIN, SIZE};
-use test_steps::makers::Maker;
+use test_steps::makers::{Maker, make};
 use test_steps::steps::{Call, FULL, KEEPING, NO_KEY, Step, WAYS, Way};
 use test_steps::texts::LENGTHS;
 use test_steps::texts::List::Numbers;
@@ -57,50 +60,51 @@ fn a_text_of_each_length_is_found_by_a_pass(rt: HostRuntime) -> Result<(), Fail>
 }
 
 // The only bucket has one byte, which no call but the last takes.
+static OVER_ONE_BYTE: [Step; 38] = [
+    Finds("", None),
+    ByNew(Call::Finds("", None)),
+    AllocatesOver(0),
+    EqualsItself,
+    Counts(0),
+    Uses(1),
+    IsLimited(1),
+    Interns(Way::Given, "", Ok(0)),
+    ByOne(Call::Finds("", Some(0))),
+    ByOne(Call::Finds("a", None)),
+    Finds("", Some(0)),
+    Finds("a", None),
+    Counts(1),
+    Uses(1),
+    IsLimited(1),
+    EachInterns("", Ok(0)),
+    ByNew(Call::Finds("", Some(0))),
+    ByNew(Call::Finds("a", None)),
+    ByOne(Call::Finds("", Some(0))),
+    ByOne(Call::Finds("a", None)),
+    Finds("", Some(0)),
+    Finds("a", None),
+    Reads(0, Some("")),
+    Reads(1, None),
+    Counts(1),
+    Finds("a", None),
+    ByNew(Call::Finds("a", None)),
+    AllocatesOver(0),
+    EqualsItself,
+    Counts(1),
+    Uses(1),
+    IsLimited(1),
+    // the byte and the limit are left
+    Interns(Way::TryCopied, "z", Ok(1)),
+    Interns(Way::TryCopied, "y", FULL),
+    Counts(2),
+    Uses(1),
+    IsLimited(1),
+    Finds("", Some(0)),
+];
+
 #[test]
 fn the_empty_text_is_found(rt: HostRuntime) -> Result<(), Fail> {
-    static STEPS: [Step; 38] = [
-        Finds("", None),
-        ByNew(Call::Finds("", None)),
-        AllocatesOver(0),
-        EqualsItself,
-        Counts(0),
-        Uses(1),
-        IsLimited(1),
-        Interns(Way::Given, "", Ok(0)),
-        ByOne(Call::Finds("", Some(0))),
-        ByOne(Call::Finds("a", None)),
-        Finds("", Some(0)),
-        Finds("a", None),
-        Counts(1),
-        Uses(1),
-        IsLimited(1),
-        EachInterns("", Ok(0)),
-        ByNew(Call::Finds("", Some(0))),
-        ByNew(Call::Finds("a", None)),
-        ByOne(Call::Finds("", Some(0))),
-        ByOne(Call::Finds("a", None)),
-        Finds("", Some(0)),
-        Finds("a", None),
-        Reads(0, Some("")),
-        Reads(1, None),
-        Counts(1),
-        Finds("a", None),
-        ByNew(Call::Finds("a", None)),
-        AllocatesOver(0),
-        EqualsItself,
-        Counts(1),
-        Uses(1),
-        IsLimited(1),
-        // the byte and the limit are left
-        Interns(Way::TryCopied, "z", Ok(1)),
-        Interns(Way::TryCopied, "y", FULL),
-        Counts(2),
-        Uses(1),
-        IsLimited(1),
-        Finds("", Some(0)),
-    ];
-    runs_each::<Spur, _>(&rt, Maker::Full(1), &STEPS, &[1], &WAYS)
+    runs_each::<Spur, _>(&rt, Maker::Full(1), &OVER_ONE_BYTE, &[1], &WAYS)
 }
 
 // The only bucket has the bytes of the text, and they are the limit.
@@ -168,53 +172,20 @@ fn a_refused_text_leaves_nothing(rt: HostRuntime) -> Result<(), Fail> {
 // The key type has two keys.
 #[test]
 fn each_call_tells_that_no_key_is_left(rt: HostRuntime) -> Result<(), Fail> {
-    static STEPS: [Step; 44] = [
+    static STEPS: [Step; 11] = [
         Interns(Way::Copied, "a-", Ok(0)),
         Interns(Way::Static, "b-", Ok(1)),
-        Interns(Way::TryCopied, "c-", NO_KEY),
-        Interns(Way::TryCopied, "a-", Ok(0)),
-        Interns(Way::TryCopied, "b-", Ok(1)),
+        Interns(Way::Given, "c-", NO_KEY),
+        Interns(Way::Given, "a-", Ok(0)),
+        Interns(Way::Given, "b-", Ok(1)),
         Finds("c-", None),
-        Counts(2),
-        IsLimited(usize::MAX),
-        Interns(Way::Copied, "c-", NO_KEY),
-        Interns(Way::Copied, "a-", Ok(0)),
-        Interns(Way::Copied, "b-", Ok(1)),
-        Finds("c-", None),
-        Counts(2),
-        IsLimited(usize::MAX),
-        Interns(Way::TryStatic, "c-", NO_KEY),
-        Interns(Way::TryStatic, "a-", Ok(0)),
-        Interns(Way::TryStatic, "b-", Ok(1)),
-        Finds("c-", None),
-        Counts(2),
-        IsLimited(usize::MAX),
-        Interns(Way::Static, "c-", NO_KEY),
-        Interns(Way::Static, "a-", Ok(0)),
-        Interns(Way::Static, "b-", Ok(1)),
-        Finds("c-", None),
-        Counts(2),
-        IsLimited(usize::MAX),
-        Interns(Way::Item, "c-", NO_KEY),
-        Interns(Way::Item, "a-", Ok(0)),
-        Interns(Way::Item, "b-", Ok(1)),
-        Finds("c-", None),
-        Counts(2),
-        IsLimited(usize::MAX),
-        Interns(Way::CopiedByPass, "c-", NO_KEY),
-        Interns(Way::CopiedByPass, "a-", Ok(0)),
-        Interns(Way::CopiedByPass, "b-", Ok(1)),
-        Finds("c-", None),
-        Counts(2),
-        IsLimited(usize::MAX),
-        Interns(Way::StaticByPass, "c-", NO_KEY),
-        Interns(Way::StaticByPass, "a-", Ok(0)),
-        Interns(Way::StaticByPass, "b-", Ok(1)),
+        EachInterns("c-", NO_KEY),
+        EachInterns("a-", Ok(0)),
         Finds("c-", None),
         Counts(2),
         IsLimited(usize::MAX),
     ];
-    runs_each::<BelowTwo, _>(&rt, Maker::Default, &STEPS, &LENGTHS, &COPY)
+    runs_each::<BelowTwo, _>(&rt, Maker::Default, &STEPS, &LENGTHS, &WAYS)
 }
 
 // `allocated_bytes` of an interner that threads share, after each of many texts. It always uses the global
@@ -228,77 +199,77 @@ fn each_call_tells_that_no_key_is_left(rt: HostRuntime) -> Result<(), Fail> {
 // No room for texts, and ten bytes in the first bucket, which is the only one as static texts take no bytes.
 static ROOMLESS: Maker = Maker::Sized(0, 10, usize::MAX);
 
-// All texts are in one index.
+// A number of texts, and how many cells and slots there are then, if the texts are in one index.
+type Growth = (usize, usize, usize);
+
+static OF_STATIC: [Growth; 14] = [
+    (0, 0, 0),
+    (1, 32, 8),
+    (6, 32, 8),
+    (7, 32, 16),
+    (12, 32, 16),
+    (13, 32, 32),
+    (17, 32, 32),
+    (18, 64, 32),
+    (24, 64, 32),
+    (25, 64, 64),
+    (47, 64, 64),
+    (48, 64, 64),
+    (49, 64, 128),
+    (50, 128, 128),
+];
+
+static OF_COPIES: [Growth; 7] = [
+    (0, 0, 0),
+    (48, 64, 64),
+    (96, 128, 128),
+    (97, 128, 256),
+    (192, 256, 256),
+    (193, 256, 512),
+    (300, 512, 512),
+];
+
+// How many bytes are allocated, if a slot has this number of bytes and the first bucket this one.
+fn bytes_of(growth: Growth, slot: usize, bucket: usize) -> usize {
+    let (_texts, cells, slots) = growth;
+    let in_cells = cells.saturating_mul(32);
+    slots
+        .saturating_mul(slot)
+        .saturating_add(in_cells)
+        .saturating_add(bucket)
+}
+
+// Interns up to each number of texts, as copies or as static texts. Fails unless `allocated_bytes` is as the row says.
+fn grows<K: Key, R: AllocGlobal + Wait + Abort>(
+    rt: &R,
+    shared: &ThreadedRodeo<K, SameState>,
+    is_copied: bool,
+    rows: &[Growth],
+    bytes: (usize, usize),
+) -> Result<(), Fail> {
+    for row in rows.iter() {
+        let allocates = Allocates(bytes_of(*row, bytes.0, bytes.1));
+        let list = Numbers(0, row.0);
+        let interns = if is_copied { Copies(list) } else { Keeps(list) };
+        runs_in(rt, shared, &[interns, allocates], PLAIN)?;
+    }
+    Ok(())
+}
+
+// No text is copied, so the first bucket of ten bytes is the only one.
 #[test]
 fn bytes_of_list_and_index(rt: HostRuntime) -> Result<(), Fail> {
-    static FOUR: [Step; 31] = [
-        Allocates(10),
-        Keeps(Numbers(0, 1)),
-        Allocates(10 + 32 * 32 + 8 * 5),
-        Keeps(Numbers(0, 6)),
-        Allocates(10 + 32 * 32 + 8 * 5),
-        Keeps(Numbers(0, 7)),
-        Allocates(10 + 32 * 32 + 16 * 5),
-        Keeps(Numbers(0, 12)),
-        Allocates(10 + 32 * 32 + 16 * 5),
-        Keeps(Numbers(0, 13)),
-        Allocates(10 + 32 * 32 + 32 * 5),
-        Keeps(Numbers(0, 17)),
-        Allocates(10 + 32 * 32 + 32 * 5),
-        Keeps(Numbers(0, 18)),
-        Allocates(10 + 64 * 32 + 32 * 5),
-        Keeps(Numbers(0, 24)),
-        Allocates(10 + 64 * 32 + 32 * 5),
-        Keeps(Numbers(0, 25)),
-        Allocates(10 + 64 * 32 + 64 * 5),
-        Keeps(Numbers(0, 26)),
-        Allocates(10 + 64 * 32 + 64 * 5),
-        Keeps(Numbers(0, 47)),
-        Allocates(10 + 64 * 32 + 64 * 5),
-        Keeps(Numbers(0, 48)),
-        Allocates(10 + 64 * 32 + 64 * 5),
-        Keeps(Numbers(0, 49)),
-        Allocates(10 + 64 * 32 + 128 * 5),
-        Keeps(Numbers(0, 50)),
-        Allocates(10 + 128 * 32 + 128 * 5),
-        Keeps(Numbers(0, 50)),
-        Allocates(10 + 128 * 32 + 128 * 5),
-    ];
-    static ONE: [Step; 31] = [
-        Allocates(10),
-        Keeps(Numbers(0, 1)),
-        Allocates(10 + 32 * 32 + 8 * 2),
-        Keeps(Numbers(0, 6)),
-        Allocates(10 + 32 * 32 + 8 * 2),
-        Keeps(Numbers(0, 7)),
-        Allocates(10 + 32 * 32 + 16 * 2),
-        Keeps(Numbers(0, 12)),
-        Allocates(10 + 32 * 32 + 16 * 2),
-        Keeps(Numbers(0, 13)),
-        Allocates(10 + 32 * 32 + 32 * 2),
-        Keeps(Numbers(0, 17)),
-        Allocates(10 + 32 * 32 + 32 * 2),
-        Keeps(Numbers(0, 18)),
-        Allocates(10 + 64 * 32 + 32 * 2),
-        Keeps(Numbers(0, 24)),
-        Allocates(10 + 64 * 32 + 32 * 2),
-        Keeps(Numbers(0, 25)),
-        Allocates(10 + 64 * 32 + 64 * 2),
-        Keeps(Numbers(0, 26)),
-        Allocates(10 + 64 * 32 + 64 * 2),
-        Keeps(Numbers(0, 47)),
-        Allocates(10 + 64 * 32 + 64 * 2),
-        Keeps(Numbers(0, 48)),
-        Allocates(10 + 64 * 32 + 64 * 2),
-        Keeps(Numbers(0, 49)),
-        Allocates(10 + 64 * 32 + 128 * 2),
-        Keeps(Numbers(0, 50)),
-        Allocates(10 + 128 * 32 + 128 * 2),
-        Keeps(Numbers(0, 50)),
-        Allocates(10 + 128 * 32 + 128 * 2),
-    ];
-    runs_as::<Spur, SameState, _>(&rt, ROOMLESS, &FOUR, PLAIN)?;
-    runs_as::<MicroSpur, SameState, _>(&rt, ROOMLESS, &ONE, PLAIN)
+    let four: ThreadedRodeo<Spur, SameState> = make(&rt, ROOMLESS)?;
+    grows(&rt, &four, false, &OF_STATIC, (5, 10))?;
+    let one: ThreadedRodeo<MicroSpur, SameState> = make(&rt, ROOMLESS)?;
+    grows(&rt, &one, false, &OF_STATIC, (2, 10))
+}
+
+// The copies of 300 texts of five bytes fit in the one bucket of 2000 bytes.
+#[test]
+fn bytes_of_more_texts(rt: HostRuntime) -> Result<(), Fail> {
+    let shared: ThreadedRodeo<Spur, SameState> = make(&rt, Maker::Sized(0, 2000, usize::MAX))?;
+    grows(&rt, &shared, true, &OF_COPIES, (5, 2000))
 }
 
 // Room for texts is made in cells, of which a chunk has 32, 32, 64, 128 and so on. From 1024 texts on each of the
@@ -327,61 +298,22 @@ fn bytes_of_room_for_texts(rt: HostRuntime) -> Result<(), Fail> {
     runs(&rt, Maker::Default, &DEFAULT)
 }
 
-// Texts with different first bytes are in two shards, each with an index of 8 slots.
-#[test]
-fn bytes_of_each_index(rt: HostRuntime) -> Result<(), Fail> {
-    static STEPS: [Step; 6] = [
-        Interns(Way::TryStatic, "0", Ok(0)),
-        Allocates(1074),
-        Interns(Way::TryStatic, "a", Ok(1)),
-        Allocates(1114),
-        Interns(Way::TryStatic, "0", Ok(0)),
-        Allocates(1114),
-    ];
-    runs_as::<Spur, FirstState, _>(&rt, ROOMLESS, &STEPS, PLAIN)
-}
-
 // The first text makes 32 cells of 32 bytes, which are enough for all texts. The first bucket has ten bytes.
 // Each text makes an index of 8 slots of 5 bytes: four for the key, and one for the fingerprint. Each has its own shard: the
 // lowest four bits of its first byte are 0 for `p`, else 1 to 15.
 #[test]
 fn bytes_of_the_index_of_each_shard(rt: HostRuntime) -> Result<(), Fail> {
-    static STEPS: [Step; 33] = [
-        Allocates(10),
-        Interns(Way::TryStatic, "p", Ok(0)),
-        Allocates(1074),
-        Interns(Way::TryStatic, "a", Ok(1)),
-        Allocates(1114),
-        Interns(Way::TryStatic, "b", Ok(2)),
-        Allocates(1154),
-        Interns(Way::TryStatic, "c", Ok(3)),
-        Allocates(1194),
-        Interns(Way::TryStatic, "d", Ok(4)),
-        Allocates(1234),
-        Interns(Way::TryStatic, "e", Ok(5)),
-        Allocates(1274),
-        Interns(Way::TryStatic, "f", Ok(6)),
-        Allocates(1314),
-        Interns(Way::TryStatic, "g", Ok(7)),
-        Allocates(1354),
-        Interns(Way::TryStatic, "h", Ok(8)),
-        Allocates(1394),
-        Interns(Way::TryStatic, "i", Ok(9)),
-        Allocates(1434),
-        Interns(Way::TryStatic, "j", Ok(10)),
-        Allocates(1474),
-        Interns(Way::TryStatic, "k", Ok(11)),
-        Allocates(1514),
-        Interns(Way::TryStatic, "l", Ok(12)),
-        Allocates(1554),
-        Interns(Way::TryStatic, "m", Ok(13)),
-        Allocates(1594),
-        Interns(Way::TryStatic, "n", Ok(14)),
-        Allocates(1634),
-        Interns(Way::TryStatic, "o", Ok(15)),
-        Allocates(1674),
+    static LETTERS: [&str; 16] = [
+        "p", "a", "b", "c", "d", "e", "f", "g", "h", "i", "j", "k", "l", "m", "n", "o",
     ];
-    runs_as::<Spur, LowState, _>(&rt, ROOMLESS, &STEPS, PLAIN)
+    let shared: ThreadedRodeo<Spur, LowState> = make(&rt, ROOMLESS)?;
+    runs_in(&rt, &shared, &[Allocates(10)], PLAIN)?;
+    for (number, letter) in LETTERS.iter().enumerate() {
+        let interns = Interns(Way::TryStatic, *letter, Ok(number));
+        let allocates = Allocates(1074 + 40 * (number % 16));
+        runs_in(&rt, &shared, &[interns, allocates], PLAIN)?;
+    }
+    Ok(())
 }
 
 // The first text fits in the first bucket, of ten bytes. The next text takes a bucket of twice its size.
@@ -396,26 +328,4 @@ fn bytes_of_buckets(rt: HostRuntime) -> Result<(), Fail> {
         Reads(1, Some("two")),
     ];
     runs_as::<Spur, SameState, _>(&rt, ROOMLESS, &STEPS, PLAIN)
-}
-
-// The copies of 300 texts of five bytes fit in the one bucket of 2000 bytes. A slot has four bytes for the
-// key, and one for the fingerprint.
-#[test]
-fn bytes_of_more_texts(rt: HostRuntime) -> Result<(), Fail> {
-    static STEPS: [Step; 13] = [
-        Allocates(2000),
-        Copies(Numbers(0, 48)),
-        Allocates(2000 + 64 * 32 + 64 * 5),
-        Copies(Numbers(0, 96)),
-        Allocates(2000 + 128 * 32 + 128 * 5),
-        Copies(Numbers(0, 97)),
-        Allocates(2000 + 128 * 32 + 256 * 5),
-        Copies(Numbers(0, 192)),
-        Allocates(2000 + 256 * 32 + 256 * 5),
-        Copies(Numbers(0, 193)),
-        Allocates(2000 + 256 * 32 + 512 * 5),
-        Copies(Numbers(0, 300)),
-        Allocates(2000 + 512 * 32 + 512 * 5),
-    ];
-    runs_as::<Spur, SameState, _>(&rt, Maker::Sized(0, 2000, usize::MAX), &STEPS, PLAIN)
 }

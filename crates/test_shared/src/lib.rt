@@ -19,7 +19,6 @@ mod every_call;
 mod filling;
 #[cfg(test)]
 mod freezing;
-pub mod guarded_counts;
 #[cfg(test)]
 mod json;
 #[cfg(test)]
@@ -36,10 +35,6 @@ mod looks;
 mod makers;
 #[cfg(test)]
 mod many;
-#[cfg(test)]
-mod passes;
-#[cfg(test)]
-mod serving;
 #[cfg(test)]
 mod setters;
 #[cfg(test)]

@@ -2,13 +2,49 @@
 ghost use Rattle.std.specs.Prelude.{◌≡◌, ◌≤◌};
 
 use crate::checks::is_so;
-use crate::guarded_counts::{Count, count_in, count_up};
 use lasso_lock::latch::{Fits, Latch};
 use lasso_lock::locks::{TaggedMutex, TaggedRwLock};
 use std::process::Abort;
 use std::sync::Wait;
 use std::test::*;
 use std::thread::{Threads, join, yield_now};
+
+// A number up to the lock's tag.
+#[derive(Drop)]
+struct Count {
+    number: u64,
+}
+
+impl Fits for Count {
+    type Tag = u64;
+
+    ghost use Rattle.std.specs.Prelude.{◌≤◌};
+
+    ghost fits = { λ most count. count.number ≤ most };
+}
+
+// Counts up by one, that many times, and no further than 5000.
+fn count_up<R: Wait>(rt: &R, lock: &TaggedMutex<Count>, times: u32)
+    requires { lock.now ≡ 5000 }
+{
+    for _ in 0..times {
+        let (guard, mut count) = lock.lock(rt);
+        if count.number < 5000 {
+            count.number += 1;
+        }
+        guard.unlock(rt, count);
+    }
+}
+
+// The number in the lock.
+fn count_in<R: Wait>(rt: &R, lock: &TaggedMutex<Count>) -> u64
+    requires { lock.now ≡ 5000 }
+{
+    let (guard, count) = lock.lock(rt);
+    let number = count.number;
+    guard.unlock(rt, count);
+    number
+}
 
 #[test]
 fn a_taken_value_is_given_back(rt: HostRuntime) {

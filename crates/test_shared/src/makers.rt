@@ -1,22 +1,17 @@
 //! What each maker makes: the usage, the limit and the number of cells; and interners made from static keywords.
-use crate::checks::{is_so, is_so_at, runs, runs_in};
-use crate::freezing::{FROZEN, is_frozen};
-use crate::looks::{Look, shows_in};
-use Look::Compares;
+use crate::checks::{is_so, is_so_at, runs_in};
 use Step::{Counts, Finds, Holds, Interns, IsLimited, Keeps, Reads, Uses};
 use lasso_parts::keys::{Key, MicroSpur, Spur};
-use lasso_parts::util::{Capacity, FixedState, LassoErrorKind, LassoResult, MemoryLimits};
+use lasso_parts::util::{Capacity, FixedState, LassoResult, MemoryLimits};
 use lasso_shared::threaded::ThreadedRodeo;
 use std::alloc::Global;
 use std::process::Abort;
 use std::sync::Wait;
 use std::test::*;
-use test_common::keys::BelowTwo;
-use test_steps::calls::{Shared, copied, limit, made, usage};
+use test_steps::calls::{Shared, limit, made, usage};
 use test_steps::cases::PLAIN;
-use test_steps::makers::Maker;
 use test_steps::steps::{Step, Way};
-use test_steps::texts::List::{Numbers, Texts};
+use test_steps::texts::List::Numbers;
 
 // A call that makes an interner.
 #[derive(Clone, Copy)]
@@ -171,17 +166,6 @@ fn capacity_is_room_for_texts(rt: HostRuntime) -> Result<(), Fail> {
     runs_in(&rt, &shared, &LEAST_ROOM, PLAIN)
 }
 
-// The first bucket has 10 bytes, and the limit is 5.
-#[test]
-fn no_limit_refuses_a_static_text(rt: HostRuntime) -> Result<(), Fail> {
-    static STEPS: [Step; 3] = [
-        Interns(Way::StaticByPass, "0123456789ab", Ok(0)),
-        Uses(10),
-        Holds(64),
-    ];
-    runs(&rt, Maker::Sized(50, 10, 5), &STEPS)
-}
-
 fn is_refused(alloc: Global, capacity: Capacity) -> bool {
     match with(alloc, capacity) {
         Ok(_made) => false,
@@ -224,91 +208,4 @@ fn keywords_have_the_lowest_keys(rt: HostRuntime) -> Result<(), Fail> {
     ];
     let shared = opened(rt.alloc())?;
     runs_in(&rt, &shared, &STEPS, PLAIN)
-}
-
-fn opened_with_none(alloc: Global) -> LassoResult<Shared> {
-    ThreadedRodeo::from_static(alloc, &[])
-}
-
-#[test]
-fn no_keywords_make_an_empty_interner(rt: HostRuntime) -> Result<(), Fail> {
-    static STEPS: [Step; 4] = [
-        Counts(0),
-        Uses(4096),
-        IsLimited(usize::MAX),
-        Interns(Way::TryCopied, "width", Ok(0)),
-    ];
-    let shared = opened_with_none(rt.alloc())?;
-    runs_in(&rt, &shared, &STEPS, PLAIN)
-}
-
-// The key type has keys for two of the three keywords.
-fn opened_with_two_keys(alloc: Global) -> LassoResult<ThreadedRodeo<BelowTwo, FixedState>> {
-    ThreadedRodeo::from_static(alloc, &KEYWORDS)
-}
-
-// Whether the keywords are refused because no key is left.
-fn are_refused(alloc: Global) -> LassoResult<bool> {
-    match opened_with_two_keys(alloc) {
-        Ok(_made) => Ok(false),
-        Err(error) if error.kind() == LassoErrorKind::KeySpaceExhaustion => Ok(true),
-        Err(error) => Err(error),
-    }
-}
-
-#[test]
-fn keywords_without_keys_are_refused(rt: HostRuntime) -> Result<(), Fail> {
-    is_so(&rt, are_refused(rt.alloc())?, "the refusal");
-    Ok(())
-}
-
-// An interner that threads share, made from static keywords, with a later text.
-
-// The keywords and a later text, in the order of their keys.
-static TEXTS: [&str; 4] = [
-    "if",
-    "else",
-    "a keyword of more bytes than an entry has",
-    "width",
-];
-
-// An interner made from the keywords, with the later text.
-fn grown<R: Wait>(rt: &R, alloc: Global) -> LassoResult<Shared> {
-    let shared = ThreadedRodeo::from_static(alloc, &KEYWORDS)?;
-    copied(rt, &shared, "width")?;
-    Ok(shared)
-}
-
-#[test]
-fn a_later_text_is_compared_with_the_keywords(rt: HostRuntime) -> Result<(), Fail> {
-    static LOOKS: [Look; 2] = [
-        Compares(
-            Texts(&[
-                "if",
-                "else",
-                "a keyword of more bytes than an entry has",
-                "width",
-            ]),
-            true,
-        ),
-        Compares(
-            Texts(&["if", "else", "a keyword of more bytes than an entry has"]),
-            false,
-        ),
-    ];
-    let shared = grown(&rt, rt.alloc())?;
-    shows_in(&rt, &shared, &LOOKS, PLAIN)
-}
-
-#[test]
-fn a_later_text_is_frozen_with_the_keywords(rt: HostRuntime) -> Result<(), Fail> {
-    for form in FROZEN.iter() {
-        let shared = grown(&rt, rt.alloc())?;
-        is_so(
-            &rt,
-            is_frozen(&rt, shared, *form, &TEXTS, "while")?,
-            "a frozen form",
-        );
-    }
-    Ok(())
 }

@@ -11,7 +11,7 @@ use std::sync::Wait;
 use std::sync::atomic::{AtomicBool, Ordering};
 use std::test::*;
 use std::thread::{Threads, join};
-use test_common::texts::lettered;
+use test_common::texts::{lettered, numbered};
 use test_steps::calls::{
     Caller, DefaultCaller, Reader, Shared, answered, copied, kept, len, limited, usage, with_bytes,
 };
@@ -21,7 +21,6 @@ use test_steps::passes::first_wrong_of;
 use test_steps::steps::{Call, Step, Way};
 use test_steps::texts::KeyNumbers::{Any, From};
 use test_steps::texts::List::{Numbers, Texts};
-use test_steps::texts::numbered;
 
 // The bytes of the only bucket, which has room for all texts. Each limit is greater.
 const BYTES: usize = 100_000;

@@ -7,11 +7,11 @@ mod hints;
 mod writers;
 
 use crate::checks::{is_so, runs_in};
-use Step::{Counts, Finds, Keeps, Lists};
+use Step::{Counts, Finds, Keeps};
 use lasso_log::log::Opened;
 use lasso_parts::index::hash_text;
 use lasso_parts::keys::{Key, MicroSpur, Spur};
-use lasso_parts::util::{FixedState, LassoErrorKind, LassoResult};
+use lasso_parts::util::{FixedState, LassoError, LassoErrorKind, LassoResult};
 use lasso_shared::shards::Shards;
 use lasso_shared::shards::tag::number_of;
 use lasso_shared::threaded::ThreadedRodeo;
@@ -38,33 +38,6 @@ const OPENED: Opened = Opened {
 
 // How many times a test looks for a flag before it gives up. It yields after each.
 const TURNS: u32 = 10_000_000;
-
-static TEXTS: [&str; 300] = [
-    "000", "001", "002", "003", "004", "005", "006", "007", "008", "009", "010", "011", "012",
-    "013", "014", "015", "016", "017", "018", "019", "020", "021", "022", "023", "024", "025",
-    "026", "027", "028", "029", "030", "031", "032", "033", "034", "035", "036", "037", "038",
-    "039", "040", "041", "042", "043", "044", "045", "046", "047", "048", "049", "050", "051",
-    "052", "053", "054", "055", "056", "057", "058", "059", "060", "061", "062", "063", "064",
-    "065", "066", "067", "068", "069", "070", "071", "072", "073", "074", "075", "076", "077",
-    "078", "079", "080", "081", "082", "083", "084", "085", "086", "087", "088", "089", "090",
-    "091", "092", "093", "094", "095", "096", "097", "098", "099", "100", "101", "102", "103",
-    "104", "105", "106", "107", "108", "109", "110", "111", "112", "113", "114", "115", "116",
-    "117", "118", "119", "120", "121", "122", "123", "124", "125", "126", "127", "128", "129",
-    "130", "131", "132", "133", "134", "135", "136", "137", "138", "139", "140", "141", "142",
-    "143", "144", "145", "146", "147", "148", "149", "150", "151", "152", "153", "154", "155",
-    "156", "157", "158", "159", "160", "161", "162", "163", "164", "165", "166", "167", "168",
-    "169", "170", "171", "172", "173", "174", "175", "176", "177", "178", "179", "180", "181",
-    "182", "183", "184", "185", "186", "187", "188", "189", "190", "191", "192", "193", "194",
-    "195", "196", "197", "198", "199", "200", "201", "202", "203", "204", "205", "206", "207",
-    "208", "209", "210", "211", "212", "213", "214", "215", "216", "217", "218", "219", "220",
-    "221", "222", "223", "224", "225", "226", "227", "228", "229", "230", "231", "232", "233",
-    "234", "235", "236", "237", "238", "239", "240", "241", "242", "243", "244", "245", "246",
-    "247", "248", "249", "250", "251", "252", "253", "254", "255", "256", "257", "258", "259",
-    "260", "261", "262", "263", "264", "265", "266", "267", "268", "269", "270", "271", "272",
-    "273", "274", "275", "276", "277", "278", "279", "280", "281", "282", "283", "284", "285",
-    "286", "287", "288", "289", "290", "291", "292", "293", "294", "295", "296", "297", "298",
-    "299",
-];
 
 // Waits for the flag, but not for ever. Returns whether it was set.
 fn is_seen(flag: &AtomicU64) -> bool {
@@ -248,27 +221,6 @@ fn constant_hash(rt: HostRuntime) -> Result<(), Fail> {
     Ok(())
 }
 
-// The texts begin with 0 or 1, and have a hash and a shard for each.
-#[test]
-fn texts_of_one_shard_and_of_others(rt: HostRuntime) -> Result<(), Fail> {
-    static STEPS: [Step; 9] = [
-        Keeps(Numbers(9850, 10_150)),
-        Lists(Numbers(9850, 10_150)),
-        Finds("a", None),
-        Counts(300),
-        Keeps(Numbers(9850, 10_150)),
-        Finds("09850", Some(0)),
-        Finds("10149", Some(299)),
-        Finds("a", None),
-        Counts(300),
-    ];
-    let shared: ThreadedRodeo<Spur, FirstState> = hashed(rt.alloc())?;
-    runs_in(&rt, &shared, &STEPS, PLAIN)?;
-    let items = items_of(rt.alloc(), Numbers(9850, 10_150))?;
-    is_so(&rt, are_found(&rt, &shared, &items), "the texts");
-    Ok(())
-}
-
 // How many cells the spine keeps for texts to come.
 fn kept_cells<K: Key, R: Wait>(rt: &R, shards: &Shards<K, FixedState>) -> u64 {
     let (guard, held) = shards.spine.lock(rt);
@@ -315,21 +267,52 @@ fn answers<K: Key, R: Wait>(
     number(rt, shards, text) == wanted && kept_cells(rt, shards) == 0
 }
 
-// Uses all 255 keys up. Fails unless no refused text keeps a cell.
-fn gives_slots_back<R: Wait + Abort>(rt: &R, shards: &Shards<MicroSpur, FixedState>) {
-    let no_key = Err(LassoErrorKind::KeySpaceExhaustion);
-    is_so(rt, takes_all(rt, shards, &TEXTS[..255]), "255 texts");
+// Interns a copied text by a new pass. Returns whether no cell is then kept, and it is refused so.
+fn is_refused<K: Key, R: Wait>(
+    rt: &R,
+    shards: &Shards<K, FixedState>,
+    text: &str,
+    wanted: LassoErrorKind,
+) -> bool {
+    let mut pass = shards.log.pass();
+    let refusal = shards.intern_copied(rt, &mut pass, text).err();
+    is_by(refusal, wanted) && kept_cells(rt, shards) == 0
+}
+
+// Whether this is why the text was refused.
+fn is_by(refusal: Option<LassoError>, wanted: LassoErrorKind) -> bool {
+    match refusal {
+        Some(error) => error.kind() == wanted,
+        None => false,
+    }
+}
+
+// Uses all 255 keys up by static texts. Fails unless no refused text keeps a cell.
+fn gives_slots_back<R: Wait + Abort>(
+    rt: &R,
+    shards: &Shards<MicroSpur, FixedState>,
+    texts: &[&'static str],
+) {
+    let (no_key, full) = (
+        LassoErrorKind::KeySpaceExhaustion,
+        LassoErrorKind::MemoryLimitReached,
+    );
+    is_so(rt, takes_all(rt, shards, texts), "255 texts");
     is_so(rt, kept_cells(rt, shards) == 0, "the cells");
     // no key is left for another text, nor for the empty one
-    is_so(rt, answers(rt, shards, "255", no_key), "another text");
-    is_so(rt, answers(rt, shards, "", no_key), "the empty text");
+    is_so(rt, answers(rt, shards, "255", Err(no_key)), "another text");
+    is_so(rt, answers(rt, shards, "", Err(no_key)), "the empty text");
+    // the first copy takes three of the four bytes, though it has no key
+    is_so(rt, is_refused(rt, shards, "256", no_key), "a copy");
+    is_so(rt, is_refused(rt, shards, "257", full), "the limit");
     // present texts keep theirs
-    is_so(rt, number(rt, shards, "000") == Ok(0), "a present text");
+    is_so(rt, number(rt, shards, "00000") == Ok(0), "a present text");
 }
 
 #[test]
 fn a_refused_text_gives_its_slot_back(rt: HostRuntime) -> Result<(), Fail> {
-    let shards = opened(rt.alloc(), FixedState::new())?;
-    gives_slots_back(&rt, &shards);
+    let of_four_bytes = Opened { size: 4, limit: 4 };
+    let shards = Shards::open(rt.alloc(), FixedState::new(), of_four_bytes)?;
+    gives_slots_back(&rt, &shards, &items_of(rt.alloc(), Numbers(0, 255))?);
     Ok(())
 }

@@ -27,10 +27,6 @@ use std::test::*;
 pub(super) enum Step {
     // the text is copied into a bucket that has room for it, or else into a new one
     Stores(&'static str),
-    // the same, and once more if it was refused: that was out of memory, and left usage and list as they were
-    StoresAgain(&'static str),
-    // the limit refuses the text
-    Refuses(&'static str),
     // the text is copied into a bucket that the spine knows, or no such bucket has room for it
     Fits(&'static str, bool),
     // the same with no spine
@@ -51,8 +47,7 @@ pub(super) enum Step {
 }
 
 use Step::{
-    Finds, Fits, FitsAnywhere, HasBucket, HasBuckets, HasCounted, Refuses, SetsLimit, Stores,
-    StoresAgain, Uses, Walks,
+    Finds, Fits, FitsAnywhere, HasBucket, HasBuckets, HasCounted, SetsLimit, Stores, Uses, Walks,
 };
 
 // A log with its spine, the list of its buckets, and a pass.
@@ -92,10 +87,10 @@ fn is_there(list: &BucketList<Spur>, bytes: u64) -> bool {
 }
 
 impl Opened {
-    // Copies the text into a bucket with room or into a new one. Returns why it was refused, if it was.
-    fn store<R: AllocGlobal + Wait>(&mut self, rt: &R, text: &str) -> Option<LassoErrorKind> {
+    // Copies the text into a bucket with room or into a new one. Returns whether it was not refused.
+    fn stores<R: AllocGlobal + Wait>(&mut self, rt: &R, text: &str) -> bool {
         if text.is_empty() {
-            return Some(LassoErrorKind::KeySpaceExhaustion);
+            return false;
         }
         let answer = stores(
             rt,
@@ -106,25 +101,11 @@ impl Opened {
             &mut self.pass,
             text,
         );
-        answer.err().map(|error| error.kind())
+        answer.is_ok()
     }
 
     fn usage<R: Wait>(&mut self, rt: &R) -> u64 {
         usage_of(rt, &self.log, &self.spine, &mut self.pass)
-    }
-
-    // Copies the text, and once more if it was refused. Returns whether a refusal was out of memory, and left
-    // usage and list as they were.
-    fn stores_again<R: AllocGlobal + Wait>(&mut self, rt: &R, text: &str) -> bool {
-        let usage = self.usage(rt);
-        let buckets = self.list.len();
-        let Some(kind) = self.store(rt, text) else {
-            return true;
-        };
-        kind == LassoErrorKind::FailedAllocation
-            && self.usage(rt) == usage
-            && self.list.len() == buckets
-            && self.store(rt, text).is_none()
     }
 
     // Whether a bucket that the spine knows takes the text, where `wanted` says whether it has to.
@@ -152,9 +133,7 @@ impl Opened {
     // Takes a step that copies a text. Returns whether that went as it has to.
     fn takes<R: AllocGlobal + Wait>(&mut self, rt: &R, step: Step) -> bool {
         match step {
-            Stores(text) => self.store(rt, text).is_none(),
-            StoresAgain(text) => self.stores_again(rt, text),
-            Refuses(text) => self.store(rt, text) == Some(LassoErrorKind::MemoryLimitReached),
+            Stores(text) => self.stores(rt, text),
             Fits(text, wanted) => self.fits(rt, text, wanted),
             FitsAnywhere(text, wanted) => self.fits_anywhere(rt, text, wanted),
             _ => self.shows(rt, step),

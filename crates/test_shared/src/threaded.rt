@@ -9,9 +9,7 @@ use std::sync::Wait;
 use std::test::*;
 use std::thread::Threads;
 use test_common::keys::BelowTwo;
-use test_steps::calls::{
-    Caller, DefaultCaller, Shared, answered, contains, found, len, limited, made, text_at, usage,
-};
+use test_steps::calls::{Shared, answered, contains, found, len, limited, made, text_at, usage};
 use test_steps::cases::PLAIN;
 use test_steps::makers::Maker;
 use test_steps::steps::{Call, NO_KEY, Step, Way, interned};
@@ -57,54 +55,6 @@ fn append_both<R: AllocGlobal + Threads + Wait + Sync + Abort>(
 fn two_threads_append(rt: HostRuntime) -> Result<(), Fail> {
     let shared = made(rt.alloc())?;
     append_both(&rt, &shared)
-}
-
-// Interns the text. Returns its number, or why it was refused.
-fn number<R: Wait>(
-    rt: &R,
-    caller: &mut DefaultCaller<'_>,
-    text: &'static str,
-) -> Result<usize, LassoErrorKind> {
-    match caller.kept(rt, text) {
-        Ok(key) => Ok(key.into_usize()),
-        Err(error) => Err(error.kind()),
-    }
-}
-
-// Interns the text, again if its first call runs out of memory and left the list as it was. Returns whether
-// the text got this number.
-fn takes_next<R: Wait>(
-    rt: &R,
-    caller: &mut DefaultCaller<'_>,
-    text: &'static str,
-    position: usize,
-) -> bool {
-    let found = number(rt, caller, text);
-    if found != Err(LassoErrorKind::FailedAllocation) {
-        return found == Ok(position);
-    }
-    caller.seen() == position && number(rt, caller, text) == Ok(position)
-}
-
-// Interns the texts, and again each whose first call runs out of memory. Returns whether such a call left the
-// list as it was, and whether each text got the next number.
-fn takes_all<R: Wait>(rt: &R, shared: &Shared, texts: &[&'static str]) -> bool {
-    let mut caller = Caller::new(shared);
-    for position in 0..texts.len() {
-        if !takes_next(rt, &mut caller, texts[position], position) {
-            return false;
-        }
-    }
-    true
-}
-
-#[test]
-fn a_text_that_was_refused_once_is_taken_later(rt: HostRuntime) -> Result<(), Fail> {
-    let shared = made(rt.alloc())?;
-    let items = items_of(rt.alloc(), Numbers(0, 100))?;
-    is_so(&rt, takes_all(&rt, &shared, &items), "the numbers");
-    is_so(&rt, in_order(&rt, &shared, &items)?, "the order");
-    Ok(())
 }
 
 #[test]

@@ -1,20 +1,16 @@
 //! What an arena stores, what it refuses, and the bytes that its regions then take.
 ghost use Rattle.std.specs.Prelude.{◌<◌};
-ghost use Rattle.lasso_parts.specs.Arena.{IsStored};
 
 use crate::interners::{crosses, is_so};
-use lasso_parts::arena::{Arena, Span};
+use lasso_parts::arena::Arena;
 use lasso_parts::bucket::Bucket;
 use lasso_parts::bucket::region::{Region, RegionRight};
-use lasso_parts::entries::long::{LongText, is_vast};
-use lasso_parts::entries::short::ShortText;
-use lasso_parts::entries::{Entry, text_of};
+use lasso_parts::entries::Entry;
 use lasso_parts::util::LassoErrorKind;
 use std::alloc::{Allocator, Global};
 use std::mem::size_of;
 use std::process::Abort;
 use std::test::Fail;
-use test_common::texts::OF_EACH_LENGTH;
 
 #[derive(Clone, Copy, Debug)]
 enum Call {
@@ -30,43 +26,12 @@ enum Call {
 
 use Call::{Clears, Refuses, SetsLimit, Shows, Stores};
 
-// Whether a text that is short is read from its entry.
-fn is_read_inside(regions: &[Region], text: &str) -> bool {
-    match ShortText::of(text) {
-        Some(short) => text_of(regions, &[], &Entry::inside(short)) == text,
-        None => true,
-    }
-}
-
-// Whether a stored text that has fewer than 2^32 bytes is read from its entry.
-fn is_read_outside(regions: &[Region], span: Span, text: &str) -> bool
-    requires { IsStored regions.now span }
-{
-    if is_vast(span.len) {
-        return true;
-    }
-    let entry = Entry::outside(LongText::copied(regions, span));
-    text_of(regions, &[], &entry) == text
-}
-
-// Whether a stored text is read from a list beside the entries.
-fn is_read_listed(regions: &[Region], span: Span, text: &str) -> bool
-    requires { IsStored regions.now span }
-{
-    let vast = [LongText::copied(regions, span)];
-    text_of(regions, &vast, &Entry::listed(0)) == text
-}
-
 // Whether the text is stored, and can be read.
 fn is_stored(arena: &mut Arena<Global>, text: &str) -> bool {
-    let Ok(span) = arena.store_str(text) else {
-        return false;
-    };
-    let regions = arena.regions();
-    arena.text(span) == text
-        && is_read_inside(regions, text)
-        && is_read_outside(regions, span, text)
-        && is_read_listed(regions, span, text)
+    match arena.store_str(text) {
+        Ok(span) => arena.text(span) == text,
+        Err(_) => false,
+    }
 }
 
 // Whether the limit refuses the text.
@@ -254,38 +219,7 @@ fn no_memory_has_the_greatest_number_of_bytes(rt: HostRuntime) {
     is_so(&rt, is_too_large(rt.alloc(), usize::MAX), "no such region");
 }
 
-// Stores the text in room alone. Returns whether it begins at this byte and can be read.
-fn is_put(arena: &mut Arena<Global>, text: &str, start: usize) -> bool {
-    match arena.store_in_room(text) {
-        Some(span) => span.start == start && arena.text(span) == text,
-        None => false,
-    }
-}
-
-// Whether the text is stored in room alone.
-fn has_room(arena: &mut Arena<Global>, text: &str) -> bool {
-    arena.store_in_room(text).is_some()
-}
-
-// Stores texts of the ten bytes of a region of 12, and then asks for three bytes and for two.
-fn fill_room(rt: &impl Abort, arena: &mut Arena<Global>) {
-    is_so(rt, !has_room(arena, ""), "the empty text");
-    for (text, start) in [("a", 0), ("bc", 1), ("def", 3), ("ghij", 6)] {
-        assert!(rt; is_put(arena, text, start), "at {text}");
-    }
-    is_so(rt, !has_room(arena, "klm"), "three bytes");
-    is_so(rt, has_room(arena, "kl"), "two bytes");
-    is_so(rt, arena.memory_usage() == 12, "the usage");
-}
-
-#[test]
-fn a_text_is_stored_in_room_alone(rt: HostRuntime) -> Result<(), Fail> {
-    let mut arena = Arena::new(rt.alloc(), 12, 100)?;
-    fill_room(&rt, &mut arena);
-    Ok(())
-}
-
-// A bucket that is filled and cleared, and sizes that no region can have.
+// Sizes that no region can have.
 
 // Whether `bytes` bytes are left, and the bucket says that it is full if none is.
 fn has_free(bucket: &Bucket<Global>, bytes: usize) -> bool {
@@ -302,8 +236,6 @@ fn fills_and_is_cleared(rt: HostRuntime) -> Result<(), Fail> {
     is_so(&rt, bucket.text(2, 2) == "cd", "the next bytes are read");
     bucket.clear();
     is_so(&rt, has_free(&bucket, 4), "all bytes are left");
-    is_so(&rt, bucket.push_slice(b"xyz") == 0, "bytes after the clear");
-    is_so(&rt, bucket.text(1, 2) == "yz", "they are read");
     Ok(())
 }
 
@@ -337,47 +269,6 @@ fn crosses_with<A: Allocator + Send + Sync>() {
 #[test]
 fn crosses_with_its_allocator() {
     crosses_with::<Global>();
-}
-
-// Short texts of each length.
-
-// Short texts have fewer than 15 bytes.
-const SHORT: usize = 15;
-
-// Whether the text is short, and its short text has it.
-fn is_itself(text: &str) -> bool {
-    match ShortText::of(text) {
-        Some(short) => short.as_str() == text,
-        None => false,
-    }
-}
-
-#[test]
-fn a_short_text_is_itself(rt: HostRuntime) {
-    for text in &OF_EACH_LENGTH[..SHORT] {
-        assert!(rt; is_itself(text), "{text}");
-    }
-    assert!(rt; ShortText::of(OF_EACH_LENGTH[SHORT]).is_none());
-}
-
-// Whether an empty entry reads as the empty text, and as the text when that was put in.
-fn is_put_inside(text: &str) -> bool {
-    if text.len() >= SHORT {
-        return false;
-    }
-    let mut entry = Entry::inside(ShortText::empty());
-    if !text_of(&[], &[], &entry).is_empty() {
-        return false;
-    }
-    entry.put(text);
-    text_of(&[], &[], &entry) == text
-}
-
-#[test]
-fn a_short_text_is_put_in_an_entry(rt: HostRuntime) {
-    for text in &OF_EACH_LENGTH[..SHORT] {
-        assert!(rt; is_put_inside(text), "{text}");
-    }
 }
 
 // The size of an entry, and that it crosses threads.

@@ -2,11 +2,10 @@
 //! constant hasher.
 ghost use Rattle.lasso_parts.specs.Index.{IsFiledAnywhere};
 
-use crate::interners::{CountedTexts, is_so};
-use lasso_parts::index::key_slots::KeySlots;
+use crate::interners::CountedTexts;
 use lasso_parts::index::{Index, hash_text};
 use lasso_parts::keys::{Key, Spur};
-use lasso_parts::util::{FixedState, LassoErrorKind, LassoResult};
+use lasso_parts::util::LassoResult;
 use std::alloc::Global;
 use std::cell::Cell;
 use std::hash::BuildHasher;
@@ -63,21 +62,6 @@ impl<'a, S: BuildHasher + Drop> Entered<'a, S> {
         Ok(())
     }
 
-    // Enters the text at this position, in the slot where a search for the text ends.
-    fn enter_located(&mut self, position: usize) -> LassoResult<()> {
-        if let Some(text) = self.texts.get(position) {
-            if let Some(key) = Spur::try_from_usize(position) {
-                let hash = hash_text(&self.hasher, text);
-                self.index.reserve_one(&self.texts, &self.hasher)?;
-                let located = self.index.locate(&self.texts, &self.hasher, hash, text);
-                if let Err(vacancy) = located {
-                    self.index.insert_at(vacancy, hash, key);
-                }
-            }
-        }
-        Ok(())
-    }
-
     fn find(&self, text: &str) -> Option<usize> {
         self.index.find(&self.texts, &self.hasher, text)
     }
@@ -87,16 +71,6 @@ impl<'a, S: BuildHasher + Drop> Entered<'a, S> {
         read.set(0);
         let texts = CountedTexts::new(self.texts, read);
         self.index.find(&texts, &self.hasher, text)
-    }
-
-    fn find_hashed(&self, text: &str) -> Option<usize> {
-        let hash = hash_text(&self.hasher, text);
-        self.index
-            .find_hashed(&self.texts, &self.hasher, hash, text)
-    }
-
-    fn clear(&mut self) {
-        self.index.clear();
     }
 }
 
@@ -142,31 +116,10 @@ impl<'a, S: BuildHasher + Drop> Entered<'a, S> {
         Ok(are_new)
     }
 
-    // Enters each text in the slot where a search for it ends. Returns whether each is found then.
-    fn enter_located_all(&mut self) -> LassoResult<bool> {
-        let mut are_found = true;
-        for position in 0..self.texts.len() {
-            self.enter_located(position)?;
-            if !self.has_own(position, false) {
-                are_found = false;
-            }
-        }
-        Ok(are_found)
-    }
-
     // Takes the step. Returns whether it went as it has to.
     fn takes(&mut self, step: Step) -> LassoResult<bool> {
         match step {
-            Step::Enters(position) => {
-                self.enter(position)?;
-                Ok(true)
-            }
             Step::EntersNew => self.enter_new(),
-            Step::EntersLocated => self.enter_located_all(),
-            Step::Clears => {
-                self.clear();
-                Ok(true)
-            }
             _ => Ok(self.shows(step)),
         }
     }
@@ -176,7 +129,6 @@ impl<'a, S: BuildHasher + Drop> Entered<'a, S> {
         match step {
             Step::HasAll => self.has_all(),
             Step::Has(text, wanted) => self.find(text) == wanted,
-            Step::HasHashed(text, wanted) => self.find_hashed(text) == wanted,
             Step::Reads(text, wanted, count) => self.reads(text, wanted, count),
             _ => false,
         }
@@ -186,19 +138,12 @@ impl<'a, S: BuildHasher + Drop> Entered<'a, S> {
 // What a test does with an index, and what it then has to find.
 #[derive(Clone, Copy)]
 enum Step {
-    // enters the text at this position
-    Enters(usize),
     // enters each text, which is not found before
     EntersNew,
-    // enters each text in the slot where a search for it ends, and finds it
-    EntersLocated,
-    Clears,
     // each text is found at its position
     HasAll,
     // the text is found at the position, or not if that is `None`
     Has(&'static str, Option<usize>),
-    // the same by its hash
-    HasHashed(&'static str, Option<usize>),
     // the same, and how many texts the search reads
     Reads(&'static str, Option<usize>, u64),
 }
@@ -212,14 +157,6 @@ fn run_steps<S: BuildHasher + Drop>(
     steps: &[Step],
 ) -> Result<(), Fail> {
     let mut words = Entered::new(Index::new(alloc), hasher, texts);
-    walk_steps(rt, &mut words, steps)
-}
-
-fn walk_steps<S: BuildHasher + Drop>(
-    rt: &impl Abort,
-    words: &mut Entered<'_, S>,
-    steps: &[Step],
-) -> Result<(), Fail> {
     for (number, step) in steps.iter().enumerate() {
         assert!(rt; words.takes(*step)?, "step {number}");
     }
@@ -230,35 +167,6 @@ fn walk_steps<S: BuildHasher + Drop>(
 fn constant_hash(rt: HostRuntime) -> Result<(), Fail> {
     let steps = [Step::EntersNew, Step::HasAll, Step::Has("bbba", None)];
     run_steps(&rt, rt.alloc(), SameState::new(), WORDS.as_slice(), &steps)
-}
-
-// Texts that differ in one byte. Their lengths are compared in different ways.
-static NEAR: [&str; 19] = [
-    "abc",
-    "abd",
-    "abcd",
-    "abce",
-    "bbcd",
-    "abcdefg",
-    "abcdefh",
-    "abcxefg",
-    "abcdefgh",
-    "abcdefgi",
-    "abcdefghijkl",
-    "abcdefghijkm",
-    "bbcdefghijkl",
-    "abcdefghijklmnop",
-    "abcdefghijklmnoq",
-    "abcdefghxjklmnop",
-    "abcdefghijklmnopq",
-    "abcdefghijklmnopr",
-    "bbcdefghijklmnopq",
-];
-
-#[test]
-fn near_texts_are_told_apart(rt: HostRuntime) -> Result<(), Fail> {
-    let steps = [Step::EntersNew, Step::HasAll];
-    run_steps(&rt, rt.alloc(), SameState::new(), NEAR.as_slice(), &steps)
 }
 
 // How many texts are hashed when the text at the position is entered. The cell counts them.
@@ -287,72 +195,6 @@ fn hashed_again(rt: HostRuntime) -> Result<(), Fail> {
     Ok(())
 }
 
-// Whether there is no memory for an index of the greatest number of texts.
-fn is_too_large(alloc: Global) -> bool {
-    let huge: LassoResult<Index<Spur, Global>> = Index::with_capacity(alloc, usize::MAX);
-    match huge {
-        Ok(_index) => false,
-        Err(error) => error.kind() == LassoErrorKind::FailedAllocation,
-    }
-}
-
-#[test]
-fn each_call(rt: HostRuntime) -> Result<(), Fail> {
-    let steps = [
-        Step::Enters(3),
-        Step::Has("aa", Some(3)),
-        Step::HasHashed("aa", Some(3)),
-        Step::Has("ab", None),
-        Step::Clears,
-        Step::Has("aa", None),
-        Step::Enters(4),
-        Step::Has("ab", Some(4)),
-        Step::Has("aa", None),
-    ];
-    is_so(&rt, is_too_large(rt.alloc()), "no such index");
-    let index = Index::with_capacity(rt.alloc(), 7)?;
-    let mut words = Entered::new(index, FixedState::new(), WORDS.as_slice());
-    walk_steps(&rt, &mut words, &steps)
-}
-
-// Whether there are 130 slots, and of these only 64 and 129 have a key, or none if nothing `is_put`.
-fn are_taken(slots: &KeySlots<Spur, Global>, is_put: bool) -> bool {
-    for j in 0..slots.len() {
-        if slots.get(j).is_some() != (is_put && (j == 64 || j == 129)) {
-            return false;
-        }
-    }
-    slots.len() == 130
-}
-
-// Puts the key into the slot. Returns whether there are 130 slots, before and after.
-fn puts(slots: &mut KeySlots<Spur, Global>, slot: usize, fingerprint: u8, key: Spur) -> bool {
-    if slots.len() != 130 || slot >= 130 || fingerprint == 0 {
-        return false;
-    }
-    slots.put(slot, fingerprint, key);
-    slots.len() == 130
-}
-
-// Puts the key into two of the slots, and clears them.
-fn put_and_clear(rt: &impl Abort, slots: &mut KeySlots<Spur, Global>, key: Spur) {
-    is_so(rt, are_taken(slots, false), "all slots are free");
-    is_so(rt, puts(slots, 64, 1, key), "slot 64");
-    is_so(rt, puts(slots, 129, 128, key), "slot 129");
-    is_so(rt, are_taken(slots, true), "two slots are taken");
-    slots.clear();
-    is_so(rt, slots.len() == 130, "the clear keeps all slots");
-}
-
-#[test]
-fn slots_with_fingerprints(rt: HostRuntime) -> Result<(), Fail> {
-    let key = Spur::try_from_usize(7).ok_or("no key")?;
-    let mut slots = KeySlots::empty(rt.alloc(), 130)?;
-    put_and_clear(&rt, &mut slots, key);
-    put_and_clear(&rt, &mut slots, key);
-    Ok(())
-}
-
 static LENGTHS: [&str; 4] = ["x", "xx", "xxx", "yy"];
 
 #[test]
@@ -371,14 +213,4 @@ fn other_fingerprints_are_passed_over(rt: HostRuntime) -> Result<(), Fail> {
         LENGTHS.as_slice(),
         &steps,
     )
-}
-
-#[test]
-fn entered_where_the_search_ended(rt: HostRuntime) -> Result<(), Fail> {
-    let steps = [
-        Step::EntersLocated,
-        Step::EntersLocated,
-        Step::Has("bbba", None),
-    ];
-    run_steps(&rt, rt.alloc(), FixedState::new(), WORDS.as_slice(), &steps)
 }

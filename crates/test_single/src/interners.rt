@@ -51,10 +51,6 @@ pub fn resolving(rodeo: Small) -> SpurResolver {
     rodeo.into_resolver()
 }
 
-pub fn are_equal(rodeo: &Small, other: &Small) -> bool {
-    rodeo == other
-}
-
 // Whether interning the text returns this.
 pub fn interns<K: Key, S: BuildHasher, A: Allocator + Clone>(
     rodeo: &mut Rodeo<K, S, A>,
@@ -90,11 +86,6 @@ pub fn has_count<K: Key, S: BuildHasher, A: Allocator>(
     count: usize,
 ) -> bool {
     rodeo.len() == count && rodeo.is_empty() == (count == 0)
-}
-
-// Whether the text is not there, by each call that looks for it.
-pub fn lacks<K: Key, S: BuildHasher, A: Allocator>(rodeo: &Rodeo<K, S, A>, text: &str) -> bool {
-    !rodeo.contains(text) && rodeo.get(text).is_none()
 }
 
 // Whether the text is there with the key of this number.

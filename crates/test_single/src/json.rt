@@ -64,21 +64,6 @@ fn arrays_are_no_objects(rt: HostRuntime) -> Result<(), Fail> {
     Ok(())
 }
 
-// Whether the value is no key of any width.
-fn is_no_key(value: &Value) -> bool {
-    Spur::key_from_json(value) == Err(JsonError::NotAKey)
-        && MiniSpur::key_from_json(value) == Err(JsonError::NotAKey)
-        && MicroSpur::key_from_json(value) == Err(JsonError::NotAKey)
-        && LargeSpur::key_from_json(value) == Err(JsonError::NotAKey)
-}
-
-#[test]
-fn a_text_of_a_million_bytes_is_no_key(rt: HostRuntime) -> Result<(), Fail> {
-    let long = Value::String("1".repeat(rt.alloc(), 1_000_000)?);
-    is_so(&rt, is_no_key(&long), "the text");
-    Ok(())
-}
-
 // The number that key 0 of this type is written as.
 fn first_written<K: JsonKey>(alloc: Global) -> Result<u64, Fail> {
     let key = K::try_from_usize(0).ok_or("no key")?;

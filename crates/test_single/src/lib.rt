@@ -7,8 +7,6 @@ mod arena;
 #[cfg(test)]
 mod commands;
 #[cfg(test)]
-mod frozen;
-#[cfg(test)]
 mod hashing;
 #[cfg(test)]
 mod index;

@@ -1,22 +1,26 @@
-//! Makers of interners, copies, and interners filled from items, by calls that a script of `tool_replay` can't make.
-//! After a refusal an iterator that is lent stands right after the refused item.
+//! Makers of interners, and interners filled from items, by calls that a script of `tool_replay` can't make.
+//! After a refusal an iterator that is lent stands right after the refused item. Readers and resolvers in two threads.
 mod batches;
-mod lists;
 
 use crate::interners::{
-    KEYS, LIMIT, MEMORY, Small, are_equal, has_count, interner, interns, is_refused, is_so,
-    is_so_at, is_text, lacks, takes,
+    KEYS, LIMIT, MEMORY, Small, SpurReader, SpurResolver, both, frozen, has_count, has_key,
+    interner, interns, is_refused, is_so, is_so_at, is_text, key_at, of_texts, resolving, takes,
 };
-use lasso_parts::keys::{MicroSpur, Spur};
+use lasso_parts::keys::{Key, Spur};
 use lasso_parts::util::{Capacity, FixedState, LassoResult, MemoryLimits};
-use lasso_single::keyword_lists::{are_distinct, have_keys};
+use lasso_single::reader::RodeoReader;
+use lasso_single::resolver::RodeoResolver;
 use lasso_single::rodeo::Rodeo;
-use std::alloc::{AllocError, Global};
+use std::alloc::{Allocator, Global};
+use std::hash::BuildHasher;
 use std::iter::repeat_n;
 use std::process::Abort;
 use std::slice::Iter;
 use std::test::Fail;
+use std::thread;
+use std::thread::Threads;
 use test_common::keys::{BelowTwo, Gap};
+use test_common::texts::{is_next, numbered};
 
 // Whether an interner of this capacity is out of memory.
 fn is_too_large(alloc: Global, capacity: Capacity) -> bool {
@@ -54,96 +58,34 @@ fn makers_of_default_size(rt: HostRuntime) -> Result<(), Fail> {
     Ok(())
 }
 
-// Whether this number of texts fits in the new interner before its list grows.
-fn has_room(made: LassoResult<Small>, strings: usize) -> Result<bool, Fail> {
-    Ok(made?.capacity() >= strings)
-}
-
-// Makes an interner by the maker of this number, with room for 1000 texts.
-fn of_a_thousand(alloc: Global, maker: usize) -> LassoResult<Small> {
-    let room = Capacity::new(1000, 4096);
-    let limits = MemoryLimits::new(4096);
+// Makes an interner by the maker of this number. The first four have room for 1000 texts, the others for fifty, which
+// is the default.
+fn made_by(alloc: Global, maker: usize) -> LassoResult<Small> {
+    let (room, limits) = (Capacity::new(1000, 4096), MemoryLimits::new(4096));
     let hasher = FixedState::new();
     match maker {
         0 => Rodeo::with_capacity(alloc, room),
         1 => Rodeo::with_capacity_and_memory_limits(alloc, room, limits),
         2 => Rodeo::with_capacity_and_hasher(alloc, room, hasher),
-        _ => Rodeo::with_capacity_memory_limits_and_hasher(alloc, room, limits, hasher),
+        3 => Rodeo::with_capacity_memory_limits_and_hasher(alloc, room, limits, hasher),
+        4 => Rodeo::default(alloc),
+        5 => Rodeo::new(alloc),
+        6 => Rodeo::with_memory_limits(alloc, limits),
+        _ => Rodeo::with_hasher(alloc, hasher),
     }
+}
+
+// Whether this number of texts fits in the new interner before its list grows.
+fn has_room(made: LassoResult<Small>, strings: usize) -> Result<bool, Fail> {
+    Ok(made?.capacity() >= strings)
 }
 
 #[test]
 fn makers_have_room_for_a_number_of_texts(rt: HostRuntime) -> Result<(), Fail> {
-    for maker in 0..4usize {
-        let made = of_a_thousand(rt.alloc(), maker);
-        is_so_at(&rt, has_room(made, 1000)?, maker);
+    for maker in 0..8usize {
+        let strings = if maker < 4 { 1000 } else { 50 };
+        is_so_at(&rt, has_room(made_by(rt.alloc(), maker), strings)?, maker);
     }
-    Ok(())
-}
-
-// Makes an interner by the maker of this number, with room for fifty texts, which is the default.
-fn of_fifty(alloc: Global, maker: usize) -> LassoResult<Small> {
-    match maker {
-        0 => Rodeo::default(alloc),
-        1 => Rodeo::new(alloc),
-        2 => Rodeo::with_memory_limits(alloc, MemoryLimits::new(4096)),
-        _ => Rodeo::with_hasher(alloc, FixedState::new()),
-    }
-}
-
-#[test]
-fn makers_have_room_for_fifty_texts_by_default(rt: HostRuntime) -> Result<(), Fail> {
-    for maker in 0..4usize {
-        let made = of_fifty(rt.alloc(), maker);
-        is_so_at(&rt, has_room(made, 50)?, maker);
-    }
-    Ok(())
-}
-
-// A copy that runs out of memory.
-
-fn of_100_numbers(alloc: Global) -> Result<Small, Fail> {
-    let mut source = Rodeo::new(alloc)?;
-    for number in 0..100usize {
-        let text = number.to_string(alloc)?;
-        source.try_get_or_intern(text.as_str())?;
-    }
-    Ok(source)
-}
-
-fn of_there(alloc: Global) -> Result<Small, Fail> {
-    let mut target = Rodeo::with_capacity(alloc, Capacity::new(1, 64))?;
-    target.try_get_or_intern("there")?;
-    Ok(target)
-}
-
-// Checks a target whose copy was refused, and copies again.
-fn copies_again(rt: &impl Abort, target: &mut Small, source: &Small) -> Result<(), Fail> {
-    is_so(rt, has_count(target, 0), "no text after a refused copy");
-    is_so(rt, lacks(target, "there"), "the old text");
-    is_so(rt, interns(target, "next", Ok(0)), "the next text");
-    target.clone_from(source)?;
-    Ok(())
-}
-
-fn copies(rt: &impl Abort, target: &mut Small, source: &Small) -> Result<(), Fail> {
-    match target.clone_from(source) {
-        Ok(()) => Ok(()),
-        Err(refusal) => {
-            is_so(rt, refusal.kind() == MEMORY, "why a copy was refused");
-            copies_again(rt, target, source)
-        }
-    }
-}
-
-// A copy of 100 texts allocates room in the index and in the list, and then buckets. If an allocation fails
-// (`rt try --test --fail-alloc N`), the target is empty, its next text gets key 0, and a new copy succeeds.
-#[test]
-fn a_copy_without_memory_leaves_nothing(rt: HostRuntime) -> Result<(), Fail> {
-    let source = of_100_numbers(rt.alloc())?;
-    let mut target = of_there(rt.alloc())?;
-    copies(&rt, &mut target, &source)?;
-    is_so(&rt, are_equal(&target, &source), "the copy");
     Ok(())
 }
 
@@ -175,69 +117,13 @@ fn a_hint_past_all_memory(rt: HostRuntime) -> Result<(), Fail> {
     Ok(())
 }
 
-// The limit refuses "cde", which is taken from the items, and the next item is still there.
-fn is_filled_to_the_limit(rodeo: &mut Small) -> bool {
-    let mut items = ["ab", "cde", "f", "g"].into_iter();
-    is_refused(rodeo.extend(items.by_ref()), LIMIT) && is_text(items.next(), "f")
-}
-
-#[test]
-fn items_behind_a_refused_one_are_not_taken(rt: HostRuntime) -> Result<(), Fail> {
-    let mut rodeo = interner::<Spur>(rt.alloc(), 4, 4)?;
-    is_so(&rt, is_filled_to_the_limit(&mut rodeo), "the next item");
-    is_so(&rt, has_count(&rodeo, 1), "one text");
-    Ok(())
-}
-
-// Checks of keywords that an interner is made from.
-
-const KEYWORDS: [&str; 4] = [
-    "if",
-    "else",
-    "while",
-    "a keyword of more bytes than an entry has",
-];
-
-// Lists of keywords, and whether no keyword comes twice.
-static LISTS: [(&[&str], bool); 6] = [
-    (&[], true),
-    (&["", "a", "aa"], true),
-    (&KEYWORDS, true),
-    (&["", ""], false),
-    (&["a", "b", "c", "a"], false),
-    (&["a", "b", "b"], false),
-];
-
-#[test]
-fn keywords_that_come_twice(rt: HostRuntime) {
-    for (row, (keywords, wanted)) in LISTS.iter().enumerate() {
-        is_so_at(&rt, are_distinct(*keywords) == *wanted, row);
-    }
-}
-
-#[test]
-fn keys_of_so_many_positions(rt: HostRuntime) {
-    is_so(&rt, have_keys::<Gap<2>>(2), "as many as come before a gap");
-    is_so(&rt, !have_keys::<Gap<2>>(3), "one more");
-    is_so(&rt, have_keys::<MicroSpur>(255), "as many as there are");
-    is_so(&rt, !have_keys::<MicroSpur>(256), "one more than there are");
-}
-
 // Filling a `Rodeo` from an iterator that is lent: after a refusal it stands right after the refused item.
 
 // How many items there are, each of five bytes.
-const ITEMS: u32 = 5_005;
+const ITEMS: usize = 5_005;
 
 // Which item the limit refuses, counted from 1.
 const REFUSED: [usize; 3] = [1, 40, 5_000];
-
-fn numbered(alloc: Global) -> Result<Vec<String>, AllocError> {
-    let mut texts = Vec::new(alloc);
-    for number in 0..ITEMS {
-        texts.push(format!(in alloc; "{number:05}")?)?;
-    }
-    Ok(texts)
-}
 
 fn extends(rodeo: &mut Small, items: &mut Iter<'_, String>) -> LassoResult<()> {
     rodeo.extend(items)
@@ -245,14 +131,6 @@ fn extends(rodeo: &mut Small, items: &mut Iter<'_, String>) -> LassoResult<()> {
 
 fn extends_from(rodeo: &mut Small, items: &mut Iter<'_, String>) -> LassoResult<()> {
     rodeo.extend_from(items)
-}
-
-// Whether the next item is the one at this index.
-fn is_next(items: &mut Iter<'_, String>, texts: &[String], index: usize) -> bool {
-    match (items.next(), texts.get(index)) {
-        (Some(next), Some(wanted)) => next.as_str() == wanted.as_str(),
-        _ => false,
-    }
 }
 
 // Whether an interner with room for the items before the refused one has just these, and the items go on after it.
@@ -276,7 +154,7 @@ fn stops_at(
 
 #[test]
 fn extend_leaves_lent_items_after_the_refused_one(rt: HostRuntime) -> Result<(), Fail> {
-    let texts = numbered(rt.alloc())?;
+    let texts = numbered(rt.alloc(), ITEMS)?;
     for refused in REFUSED {
         let stops = stops_at(rt.alloc(), &texts, refused, false)?;
         is_so_at(&rt, stops, refused);
@@ -286,7 +164,7 @@ fn extend_leaves_lent_items_after_the_refused_one(rt: HostRuntime) -> Result<(),
 
 #[test]
 fn extend_from_leaves_its_items_after_the_refused_one(rt: HostRuntime) -> Result<(), Fail> {
-    let texts = numbered(rt.alloc())?;
+    let texts = numbered(rt.alloc(), ITEMS)?;
     for refused in REFUSED {
         let stops = stops_at(rt.alloc(), &texts, refused, true)?;
         is_so_at(&rt, stops, refused);
@@ -303,10 +181,111 @@ fn two_of(alloc: Global, items: &mut Iter<'_, String>) -> LassoResult<Two> {
 // There are two keys, so the third item is refused.
 #[test]
 fn from_iter_leaves_lent_items_after_the_refused_one(rt: HostRuntime) -> Result<(), Fail> {
-    let texts = numbered(rt.alloc())?;
+    let texts = numbered(rt.alloc(), ITEMS)?;
     let mut items = texts.iter();
     let refused = is_refused(two_of(rt.alloc(), &mut items), KEYS);
     is_so(&rt, refused, "the third item");
     is_so(&rt, is_next(&mut items, &texts, 3), "the fourth");
     Ok(())
+}
+
+// Readers in two threads.
+
+fn has_at(reader: &SpurReader, position: usize, text: &str) -> bool {
+    match reader.get(text) {
+        Some(key) => key.into_usize() == position,
+        None => false,
+    }
+}
+
+// Whether "A" is there with key 0, and no other key stands for a text.
+fn has_a_alone(reader: &SpurReader, near: Spur, far: Spur) -> bool {
+    has_at(reader, 0, "A")
+        && reader.get("F").is_none()
+        && is_text(reader.try_resolve(near), "A")
+        && reader.try_resolve(far).is_none()
+}
+
+fn is_shared<T: Send + Sync>(_value: &T) {}
+
+// A reader and its iterators are `Send` and `Sync` if the keys, the hasher and the allocator are.
+fn crosses<K: Key + Send + Sync, S: BuildHasher + Send + Sync, A: Allocator + Send + Sync>(
+    reader: &RodeoReader<K, S, A>,
+) {
+    is_shared(reader);
+    is_shared(&reader.iter());
+    is_shared(&reader.strings());
+}
+
+fn in_two_threads(rt: &impl Threads, reader: &SpurReader, near: Spur, far: Spur) -> (bool, bool) {
+    thread::join(
+        rt,
+        || has_a_alone(reader, near, far),
+        || has_a_alone(reader, near, far),
+    )
+}
+
+fn share<R: Threads + Abort>(rt: &R, reader: &SpurReader) -> Result<(), Fail> {
+    let (near, far) = (key_at(0)?, key_at(10)?);
+    is_so(
+        rt,
+        both(in_two_threads(rt, reader, near, far)),
+        "two threads",
+    );
+    is_so(rt, has_a_alone(reader, near, far), "one thread");
+    Ok(())
+}
+
+#[test]
+fn two_threads_share_a_reader(rt: HostRuntime) -> Result<(), Fail> {
+    let reader = frozen(of_texts(rt.alloc(), &["A"])?);
+    crosses(&reader);
+    share(&rt, &reader)
+}
+
+// Resolvers in two threads.
+
+// Whether the key `near` stands for "A", and the key `far` for no text.
+fn resolves_a_alone(resolver: &SpurResolver, near: Spur, far: Spur) -> bool {
+    is_text(resolver.try_resolve(near), "A") && resolver.try_resolve(far).is_none()
+}
+
+// A resolver is `Send` and `Sync` if the keys and the allocator are.
+fn resolver_crosses<K: Key + Send + Sync, A: Allocator + Send + Sync>(
+    resolver: &RodeoResolver<K, A>,
+) {
+    is_shared(resolver);
+}
+
+fn resolver_in_two_threads(
+    rt: &impl Threads,
+    resolver: &SpurResolver,
+    near: Spur,
+    far: Spur,
+) -> (bool, bool) {
+    thread::join(
+        rt,
+        || resolves_a_alone(resolver, near, far),
+        || resolves_a_alone(resolver, near, far),
+    )
+}
+
+fn share_resolver<R: Threads + Abort>(rt: &R, resolver: &SpurResolver) -> Result<(), Fail> {
+    let (near, far) = (key_at(0)?, key_at(10)?);
+    is_so(
+        rt,
+        both(resolver_in_two_threads(rt, resolver, near, far)),
+        "two threads",
+    );
+    is_so(rt, resolves_a_alone(resolver, near, far), "one thread");
+    Ok(())
+}
+
+#[test]
+fn two_threads_share_a_resolver(rt: HostRuntime) -> Result<(), Fail> {
+    let rodeo = of_texts(rt.alloc(), &["A"])?;
+    is_so(&rt, has_key(&rodeo, "A", 0), "the key of the text");
+    let resolver = resolving(rodeo);
+    resolver_crosses(&resolver);
+    share_resolver(&rt, &resolver)
 }

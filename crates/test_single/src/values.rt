@@ -83,21 +83,6 @@ fn defaults_are_number_0(rt: HostRuntime) {
     );
 }
 
-// Whether the number has a key, whose position is it.
-fn has_position(number: u32) -> bool {
-    match Spur::try_from_usize(number as usize) {
-        Some(key) => key.into_position() == number,
-        None => false,
-    }
-}
-
-#[test]
-fn positions_in_32_bits(rt: HostRuntime) {
-    is_so(&rt, Spur::default().into_position() == 0, "the default");
-    is_so(&rt, has_position(2), "2");
-    is_so(&rt, has_position(4_294_967_294), "the last");
-}
-
 // Prints a key of each type.
 fn printed(alloc: Global) -> Result<String, Fail> {
     let last = MicroSpur::try_from_usize(254).ok_or("no key")?;
@@ -111,16 +96,6 @@ fn printed(alloc: Global) -> Result<String, Fail> {
 fn debug_shows_the_kept_number(rt: HostRuntime) -> Result<(), Fail> {
     let printed = printed(rt.alloc())?;
     assert!(rt; printed.as_str() == "Spur(1) MiniSpur(1) MicroSpur(255) LargeSpur(1)");
-    Ok(())
-}
-
-#[test]
-fn keys_are_ordered_as_positions(rt: HostRuntime) -> Result<(), Fail> {
-    let low = Spur::try_from_usize(7).ok_or("no key")?;
-    let high = Spur::try_from_usize(4294967294).ok_or("no key")?;
-    low.show_value();
-    let is_apart = low.cmp(&high) == Ordering::Less && low != high;
-    is_so(&rt, is_apart, "7 is less than the last");
     Ok(())
 }
 
@@ -272,17 +247,7 @@ fn capacities_and_limits(rt: HostRuntime) {
     for (capacity, strings, bytes) in rows {
         assert!(rt; has_room(capacity, strings, bytes), "{capacity:?}");
     }
-    compare(&rt);
     limit(&rt);
-}
-
-// Compares capacities.
-fn compare(rt: &impl Abort) {
-    let low = Capacity::new(1, 9);
-    let more_texts = low.cmp(&Capacity::new(2, 1));
-    is_so(rt, more_texts == Ordering::Less, "more texts");
-    let fewer_bytes = low.cmp(&Capacity::new(1, 1));
-    is_so(rt, fewer_bytes == Ordering::Greater, "fewer bytes");
 }
 
 // Whether the limit is `bytes` bytes.
@@ -290,7 +255,7 @@ fn has_limit(limits: MemoryLimits, bytes: usize) -> bool {
     limits.max_memory_usage() == bytes
 }
 
-// Looks at limits, and compares them.
+// Looks at limits.
 fn limit(rt: &impl Abort) {
     let low = MemoryLimits::new(12);
     is_so(
@@ -304,6 +269,4 @@ fn limit(rt: &impl Abort) {
         has_limit(MemoryLimits::for_memory_usage(13), 13),
         "for_memory_usage",
     );
-    let higher = low.cmp(&MemoryLimits::new(13));
-    is_so(rt, higher == Ordering::Less, "a higher limit");
 }

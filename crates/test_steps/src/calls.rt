@@ -201,19 +201,6 @@ pub fn kept_as<K: Key, S: BuildHasher + Drop, R: Wait>(
     shared.try_get_or_intern_static_as(rt, pass, text)
 }
 
-/// Interns a copied text by the pass.
-pub fn copied_as<K: Key, S: BuildHasher + Drop, R: Wait>(
-    rt: &R,
-    shared: &ThreadedRodeo<K, S>,
-    pass: &mut Pass<K>,
-    text: &str,
-) -> LassoResult<K>
-    requires { pass.old.of ≡ shared.now }
-    ensures { pass.new.of ≡ pass.old.of }
-{
-    shared.try_get_or_intern_as(rt, pass, text)
-}
-
 /// An interner with a pass of it, which its calls are made by, and with another pass.
 #[derive(Drop)]
 pub struct Caller<'a, K: Key, S: BuildHasher + Drop> {

@@ -73,15 +73,6 @@ pub fn numeral_of(alloc: Global, number: usize, length: usize) -> LassoResult<&'
     leaked(format!(in alloc; "{number:05}{rest}")?)
 }
 
-/// The first `count` texts of five digits, from `00000` on.
-pub fn numbered(alloc: Global, count: usize) -> Result<Vec<String>, AllocError> {
-    let mut texts = Vec::new(alloc);
-    for number in 0..count {
-        texts.push(format!(in alloc; "{number:05}")?)?;
-    }
-    Ok(texts)
-}
-
 /// A list of texts.
 #[derive(Clone, Copy)]
 pub enum List {

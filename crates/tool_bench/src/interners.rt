@@ -380,8 +380,13 @@ fn found_sum<R: Wait>(
     if rodeo.get_all_as(rt, pass, texts, keys).is_err() {
         return None;
     }
+    position_sum(keys.as_slice())
+}
+
+// The sum of the positions of the keys, or `None` where one is missing.
+fn position_sum(keys: &[Option<Spur>]) -> Option<usize> {
     let mut sum = 0usize;
-    for key in keys.iter() {
+    for key in keys {
         sum = sum.wrapping_add((*key)?.into_usize());
     }
     Some(sum)

@@ -1,12 +1,11 @@
 //! Replays commands on the frozen forms of a script's interner, walks over texts, and compares an interner and its
 //! frozen forms with those of another list.
-use crate::lines::{Call, Question};
+use crate::lines::{Call, Look, Move, Question, RodeoCommand};
 use crate::replay::{Interner, of_texts, split_at_freeze};
 use crate::replies::{
     write_debug, write_flag, write_flags, write_found, write_left, write_no_call, write_number,
     write_pair, write_pairs, write_refusal, write_resolved, write_saved, write_text,
 };
-use crate::rodeo_lines::{Look, Move, RodeoCommand};
 use lasso::{Iter, Key, LassoResult, RodeoReader, RodeoResolver, Strings};
 use std::alloc::Global;
 use std::hash::BuildHasher;

@@ -10,7 +10,6 @@ mod lines;
 mod parts;
 mod replay;
 mod replies;
-mod rodeo_lines;
 mod scripts;
 
 use lines::InputError;

@@ -1,11 +1,10 @@
 //! Replays a script on a `Rodeo`, and after `freeze` on its frozen forms, or on a `ThreadedRodeo` by one thread.
 use crate::frozen::{compare_rodeo, replay_reader, walk_pairs, walk_strings};
-use crate::lines::{Call, Question};
+use crate::lines::{Call, Change, Look, Question, RodeoCommand, Way};
 use crate::replies::{
     write_debug, write_flag, write_found, write_interned, write_json_error, write_no_call,
     write_number, write_outcome, write_pairs, write_resolved, write_saved, write_text,
 };
-use crate::rodeo_lines::{Change, Look, RodeoCommand, Way};
 use lasso::{FixedState, Key, LassoResult, MemoryLimits, Rodeo, ThreadedRodeo};
 use lasso_single::keyword_lists::are_distinct;
 use serde_json::Value;

@@ -1,8 +1,9 @@
 //! Scripts: a header, and a command in each line after it.
-use crate::lines::{Call, Reason, parse_call, parse_limit, parse_number};
+use crate::lines::{
+    Call, Reason, RodeoCommand, parse_call, parse_command, parse_limit, parse_number,
+};
 use crate::parts::{KeyType, Replayed, parse_key_type};
 use crate::replay::{replay_rodeo, replay_shared_call};
-use crate::rodeo_lines::{RodeoCommand, parse_command};
 use lasso::{Capacity, FixedState, Key, LassoResult, MemoryLimits, Rodeo, ThreadedRodeo};
 use std::alloc::{AllocError, Global};
 use std::hash::BuildHasher;

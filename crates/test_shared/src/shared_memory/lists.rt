@@ -1,16 +1,15 @@
-//! Lists of buckets: walks, with the spine and without it; buckets of exact, doubled and remnant size; and charges that
-//! the limit refuses. Worked chunks and offsets of positions, and cells that one and two threads fill.
+//! Lists of buckets: walks, with the spine and without it, and buckets of doubled and remnant size. Cells that one and
+//! two threads fill.
 ghost use Rattle.std.specs.Prelude.{◌≡◌, ◌<◌};
 ghost use Rattle.lasso_log.specs.SharedBuckets.{names_with_book};
 ghost use Rattle.lasso_log.specs.Views.{InternerId, PassView, SpineView};
 
 use crate::checks::is_so;
 use crate::shared_memory::Step::{
-    Finds, Fits, FitsAnywhere, HasBucket, HasBuckets, HasCounted, Refuses, SetsLimit, Stores,
-    StoresAgain, Uses, Walks,
+    Finds, Fits, FitsAnywhere, HasBucket, HasBuckets, HasCounted, SetsLimit, Stores, Uses, Walks,
 };
 use crate::shared_memory::{Step, bucket_at, fits_anywhere, opens, run_steps, stores};
-use lasso_log::chunks::{Chunks, chunk_and_offset};
+use lasso_log::chunks::Chunks;
 use lasso_log::log::bucket_list::BucketList;
 use lasso_log::log::{Log, Spine};
 use lasso_parts::keys::Spur;
@@ -97,10 +96,9 @@ fn bytes_are_taken_in_a_later_bucket(rt: HostRuntime) -> Result<(), Fail> {
 fn taken<R: Wait>(rt: &R, log: &Log<Spur>, list: &BucketList<Spur>) -> u64
     requires { list.now ≡ names_with_book log.now }
 {
-    let mut pass = log.pass();
     let mut sum: u64 = 0;
     for position in 0..list.len() {
-        sum = sum.saturating_add(bucket_at(rt, log, list, &mut pass, position as u64).1);
+        sum = sum.saturating_add(bucket_at(rt, log, list, &mut log.pass(), position as u64).1);
     }
     sum
 }
@@ -126,10 +124,9 @@ fn stores_twenty<R: Wait>(
 fn walks_twenty<R: Wait>(rt: &R, log: &Log<Spur>, list: &BucketList<Spur>) -> u64
     requires { list.now ≡ names_with_book log.now }
 {
-    let mut pass = log.pass();
     let mut copied: u64 = 0;
     for _ in 0..20u32 {
-        if fits_anywhere(rt, log, list, &mut pass, "xyz") {
+        if fits_anywhere(rt, log, list, &mut log.pass(), "xyz") {
             copied = copied.saturating_add(3);
         }
     }
@@ -163,21 +160,6 @@ fn a_thread_walks_while_another_adds_buckets(rt: HostRuntime) -> Result<(), Fail
     walk_beside_adding(&rt, rt.alloc(), &log, &list, &mut spine)
 }
 
-// Buckets of exact, doubled and remnant size, and charges that the limit refuses.
-
-#[test]
-fn a_long_text_gets_a_bucket_of_its_size(rt: HostRuntime) -> Result<(), Fail> {
-    static STEPS: [Step; 6] = [
-        Uses(4),
-        Stores("123456789"),
-        Uses(13),
-        HasBuckets(2),
-        HasBucket(0, 4, 0),
-        HasBucket(1, 9, 9),
-    ];
-    run_steps(&rt, 4, u64::MAX, &STEPS)
-}
-
 #[test]
 fn buckets_are_doubled_and_then_what_the_limit_leaves(rt: HostRuntime) -> Result<(), Fail> {
     static STEPS: [Step; 12] = [
@@ -198,58 +180,9 @@ fn buckets_are_doubled_and_then_what_the_limit_leaves(rt: HostRuntime) -> Result
     run_steps(&rt, 4, 12, &STEPS)
 }
 
-#[test]
-fn a_charge_that_the_limit_refuses_leaves_no_event(rt: HostRuntime) -> Result<(), Fail> {
-    static STEPS: [Step; 6] = [
-        Refuses("123456789"),
-        Uses(4),
-        HasBuckets(1),
-        HasBucket(0, 4, 0),
-        // what fits is taken as before
-        Stores("abcd"),
-        HasBucket(0, 4, 4),
-    ];
-    run_steps(&rt, 4, 12, &STEPS)
-}
-
-#[test]
-fn a_charge_that_was_refused_once_is_made_later(rt: HostRuntime) -> Result<(), Fail> {
-    static STEPS: [Step; 5] = [
-        StoresAgain("defghijk"),
-        StoresAgain("0123456789abcdef"),
-        Uses(28),
-        HasBucket(1, 8, 8),
-        HasBucket(2, 16, 16),
-    ];
-    run_steps(&rt, 4, u64::MAX, &STEPS)
-}
-
-// Worked chunks and offsets of positions, and cells that one and two threads fill.
+// Cells that one and two threads fill.
 
 static TEXTS: [&str; 4] = ["", "a", "Bär", "long enough to tell from the others"];
-
-// Whether the position is in this chunk, at this offset.
-fn is_at(position: u64, chunk: usize, offset: usize) -> bool {
-    chunk_and_offset(position) == (chunk, offset)
-}
-
-#[test]
-fn positions_lie_in_chunks_that_double(rt: HostRuntime) {
-    static WORKED: [(u64, usize, usize); 9] = [
-        (0, 0, 0),
-        (31, 0, 31),
-        (32, 1, 0),
-        (63, 1, 31),
-        (64, 2, 0),
-        (127, 2, 63),
-        (128, 3, 0),
-        (1_000_000, 15, 475_712),
-        (u64::MAX, 59, 0x7fff_ffff_ffff_ffff),
-    ];
-    for (position, chunk, offset) in WORKED.iter() {
-        assert!(rt; is_at(*position, *chunk, *offset), "at {position}");
-    }
-}
 
 // Makes the chunk of a position, and returns whether there is one then.
 fn makes(alloc: Global, chunks: &Chunks<&'static str>, position: u64) -> Result<bool, AllocError> {
@@ -293,59 +226,6 @@ fn a_filled_cell_lends_its_text(rt: HostRuntime) -> Result<(), Fail> {
         (700, "a"),
     ];
     fill_each(&rt, rt.alloc(), &chunks, &CELLS)
-}
-
-// Fills a cell and asks for the chunk of another position. Returns whether that was made, or else refused,
-// as wanted, and the cell holds its text then.
-fn keeps<R: Wait>(
-    rt: &R,
-    alloc: Global,
-    chunks: &Chunks<&'static str>,
-    filled: u64,
-    asked: u64,
-    is_made: bool,
-) -> bool {
-    let (chunk, item) = chunks.fill(rt, filled, "kept");
-    let answer = chunks.make_chunk(alloc, asked).is_ok();
-    answer == is_made && *chunks.value(filled, &chunk, &item) == "kept"
-}
-
-// Makes the chunk of cells 32 to 95 once.
-fn make_once<R: Wait + Abort>(
-    rt: &R,
-    alloc: Global,
-    chunks: &Chunks<&'static str>,
-) -> Result<(), Fail> {
-    is_so(rt, makes(alloc, chunks, 40)?, "the chunk is made");
-    is_so(rt, keeps(rt, alloc, chunks, 40, 41, true), "the cell stays");
-    is_so(rt, fills(rt, chunks, 41, "beside it"), "the next cell");
-    Ok(())
-}
-
-#[test]
-fn a_chunk_is_made_once(rt: HostRuntime) -> Result<(), Fail> {
-    let chunks = Chunks::new(rt.alloc(), "")?;
-    make_once(&rt, rt.alloc(), &chunks)
-}
-
-// Asks for chunks that are larger than all memory.
-fn ask_too_much<R: Wait + Abort>(
-    rt: &R,
-    alloc: Global,
-    chunks: &Chunks<&'static str>,
-) -> Result<(), Fail> {
-    is_so(rt, makes(alloc, chunks, 5)?, "the chunk is made");
-    let near = keeps(rt, alloc, chunks, 5, 1 << 62, false);
-    is_so(rt, near, "at 2^62");
-    let far = keeps(rt, alloc, chunks, 6, u64::MAX, false);
-    is_so(rt, far, "at the greatest position");
-    Ok(())
-}
-
-#[test]
-fn a_chunk_past_all_memory_is_refused(rt: HostRuntime) -> Result<(), Fail> {
-    let chunks = Chunks::new(rt.alloc(), "")?;
-    ask_too_much(&rt, rt.alloc(), &chunks)
 }
 
 // Fills every other one of 400 cells, and looks at what each holds then.

@@ -1,25 +1,27 @@
-//! Lists of texts and of keys that are looked up by one call, and texts that are taken one after another. The
-//! texts have 16,360 bytes each: a text of that length is far from position 64 on, since 64 times 16,384 bytes
-//! are 1,048,576. A batch of 32 that is interned or taken is looked ahead at if at least 8 texts of the one before
+//! Lists of texts and of keys that are looked up by one call: how often each text is hashed, where texts are looked
+//! ahead at, and thousands of texts and keys by each call.
+//!
+//! The first texts have 16,360 bytes each: a text of that length is far from position 64 on, since 64 times 16,384
+//! bytes are 1,048,576. A batch of 32 that is interned or taken is looked ahead at if at least 8 texts of the one before
 //! were present and far; one that `get_all` looks up, if the text before it was present, or if the index has
 //! 4,194,304 bytes.
 use crate::interners::{
-    LIMIT, Small, SpurReader, SpurResolver, copied, frozen, has_count, interner, is_answer,
-    is_kind, is_so, is_so_at, key_at, of_texts, refusal_of, resolving, told,
+    Small, SpurReader, SpurResolver, copied, frozen, has_count, is_so, is_so_at, key_at, of_texts,
+    resolving,
 };
-use crate::rodeo::lists::stand_for;
 use lasso_parts::keys::{Key, Spur};
 use lasso_parts::util::Capacity;
-use lasso_single::batch::{Batch, get_next, intern_next, look_ahead};
+use lasso_single::batch::{Batch, get_next, look_ahead};
 use lasso_single::reader::RodeoReader;
 use lasso_single::rodeo::Rodeo;
 use std::alloc::Global;
 use std::cell::Cell;
-use std::hash::BuildHasher;
 use std::process::Abort;
 use std::test::Fail;
-use test_common::hashers::{CountingState, SameState};
+use test_common::hashers::CountingState;
 use test_common::texts::leaked;
+
+type Counted<'a> = Rodeo<Spur, CountingState<'a>, Global>;
 
 // 37 bytes.
 static HEAD: &str = "of the texts of 16,360 bytes, number ";
@@ -62,29 +64,6 @@ fn picked<'a>(alloc: Global, texts: &[&'a str], indices: &[usize]) -> Result<Vec
     Ok(list)
 }
 
-// `count` indices of far texts, from 64 to 95 and again from 64 on, and then those of the tail.
-fn far(alloc: Global, count: usize, tail: &[usize]) -> Result<Vec<usize>, Fail> {
-    let mut indices = Vec::new(alloc);
-    for i in 0..count {
-        indices.push(64 + i % 32)?;
-    }
-    indices.extend_from_slice(tail)?;
-    Ok(indices)
-}
-
-// Interns the texts of these indices by one call, and returns whether the key of each is that of its index.
-fn interns_all<S: BuildHasher>(
-    rodeo: &mut Rodeo<Spur, S, Global>,
-    alloc: Global,
-    texts: &[&str],
-    indices: &[usize],
-) -> Result<bool, Fail> {
-    let list = picked(alloc, texts, indices)?;
-    let mut keys = Vec::new(alloc);
-    let refusal = refusal_of(rodeo.try_get_or_intern_all(list.as_slice(), &mut keys));
-    Ok(refusal.is_none() && stand_for(keys.as_slice(), indices))
-}
-
 fn is_found(found: Option<Spur>, index: usize, count: usize) -> bool {
     match found {
         Some(key) => key.into_usize() == index && index < count,
@@ -102,29 +81,22 @@ fn are_found(keys: &[Option<Spur>], indices: &[usize], count: usize) -> bool {
     keys.len() == indices.len()
 }
 
-// Looks for the texts of these indices by one call, and returns whether exactly those of an index below the
-// number of texts are found.
-fn finds_all<S: BuildHasher>(
-    rodeo: &Rodeo<Spur, S, Global>,
-    alloc: Global,
-    texts: &[&str],
-    indices: &[usize],
-) -> Result<bool, Fail> {
-    let list = picked(alloc, texts, indices)?;
-    let mut keys = Vec::new(alloc);
-    rodeo.get_all(list.as_slice(), &mut keys)?;
-    Ok(are_found(keys.as_slice(), indices, rodeo.len()))
+// A call that looks texts up, or interns them.
+#[derive(Clone, Copy)]
+enum Call {
+    // one call for all of them
+    GetAll,
+    // a call for each, which looks ahead
+    GetNext,
+    InternAll,
 }
 
-// Looks for the texts of these indices one after another, and returns the same.
-fn finds_next<S: BuildHasher>(
-    rodeo: &Rodeo<Spur, S, Global>,
-    alloc: Global,
-    texts: &[&str],
-    indices: &[usize],
-) -> Result<bool, Fail> {
-    let list = picked(alloc, texts, indices)?;
-    let mut keys = Vec::new(alloc);
+// Looks for the texts one after another.
+fn found_next(
+    rodeo: &Counted<'_>,
+    list: &[&str],
+    keys: &mut Vec<Option<Spur>>,
+) -> Result<(), Fail> {
     let mut batch = Batch::new();
     for i in 0..list.len() {
         if batch.is_due() {
@@ -132,78 +104,46 @@ fn finds_next<S: BuildHasher>(
         }
         keys.push(get_next(rodeo, list[i], &mut batch))?;
     }
-    Ok(are_found(keys.as_slice(), indices, rodeo.len()))
-}
-
-// Looks for them both ways.
-fn finds<S: BuildHasher>(
-    rodeo: &Rodeo<Spur, S, Global>,
-    alloc: Global,
-    texts: &[&str],
-    indices: &[usize],
-) -> Result<bool, Fail> {
-    Ok(finds_all(rodeo, alloc, texts, indices)? && finds_next(rodeo, alloc, texts, indices)?)
-}
-
-fn interns_and_finds<S: BuildHasher>(
-    rodeo: &mut Rodeo<Spur, S, Global>,
-    alloc: Global,
-    texts: &[&str],
-    indices: &[usize],
-) -> Result<bool, Fail> {
-    Ok(interns_all(rodeo, alloc, texts, indices)? && finds(rodeo, alloc, texts, indices)?)
-}
-
-static SIZES: [usize; 8] = [0, 1, 31, 32, 33, 63, 64, 96];
-
-// Absent texts after 32 far ones, and among present ones.
-static ABSENT: [usize; 5] = [99, 64, 98, 99, 65];
-
-// New texts after 32 far ones, in turn with present ones, and each of them twice.
-static TURNS: [usize; 12] = [96, 64, 96, 97, 65, 97, 98, 98, 66, 99, 95, 99];
-
-// Interns the texts of the first 96 indices, and then batches of them and of the others.
-fn batches<R: AllocGlobal + Abort, S: BuildHasher>(
-    rt: &R,
-    rodeo: &mut Rodeo<Spur, S, Global>,
-    texts: &[&str],
-) -> Result<(), Fail> {
-    for index in 0..96 {
-        is_so_at(rt, takes_text(rodeo, texts, index), index);
-    }
-    for size in 0..SIZES.len() {
-        let indices = far(rt.alloc(), SIZES[size], &[])?;
-        let holds = interns_and_finds(rodeo, rt.alloc(), texts, indices.as_slice())?;
-        is_so_at(rt, holds, size);
-    }
-    let absent = far(rt.alloc(), 32, &ABSENT)?;
-    is_so(
-        rt,
-        finds(rodeo, rt.alloc(), texts, absent.as_slice())?,
-        "absent texts",
-    );
-    is_so(rt, has_count(rodeo, 96), "the texts before the turns");
-    let turns = far(rt.alloc(), 32, &TURNS)?;
-    let holds = interns_and_finds(rodeo, rt.alloc(), texts, turns.as_slice())?;
-    is_so(rt, holds, "new texts in turn with others");
-    is_so(rt, has_count(rodeo, 100), "the texts after the turns");
     Ok(())
 }
 
-fn takes_text<S: BuildHasher>(
-    rodeo: &mut Rodeo<Spur, S, Global>,
+// Interns the texts by one call.
+fn interned_all(
+    rodeo: &mut Counted<'_>,
+    alloc: Global,
+    list: &[&str],
+    found: &mut Vec<Option<Spur>>,
+) -> Result<(), Fail> {
+    let mut keys = Vec::new(alloc);
+    rodeo.try_get_or_intern_all(list, &mut keys)?;
+    for key in keys.iter() {
+        found.push(Some(*key))?;
+    }
+    Ok(())
+}
+
+// Makes the call for the texts of these indices. Returns whether exactly those of an index below the number of texts
+// are found, each with the key of its index.
+fn finds_by(
+    rodeo: &mut Counted<'_>,
+    alloc: Global,
+    call: Call,
     texts: &[&str],
-    index: usize,
-) -> bool {
-    is_answer(
-        told(rodeo.try_get_or_intern(text_at(texts, index))),
-        Ok(index),
-    )
+    indices: &[usize],
+) -> Result<bool, Fail> {
+    let list = picked(alloc, texts, indices)?;
+    let mut keys = Vec::new(alloc);
+    match call {
+        Call::GetAll => rodeo.get_all(list.as_slice(), &mut keys)?,
+        Call::GetNext => found_next(rodeo, list.as_slice(), &mut keys)?,
+        Call::InternAll => interned_all(rodeo, alloc, list.as_slice(), &mut keys)?,
+    }
+    Ok(are_found(keys.as_slice(), indices, rodeo.len()))
 }
 
 // Looks for the texts of these indices by one call of a reader.
-fn reader_finds_all<S: BuildHasher>(
-    reader: &RodeoReader<Spur, S, Global>,
+fn reader_finds_all(
+    reader: &RodeoReader<Spur, CountingState<'_>, Global>,
     alloc: Global,
     texts: &[&str],
     indices: &[usize],
@@ -214,156 +154,20 @@ fn reader_finds_all<S: BuildHasher>(
     Ok(are_found(keys.as_slice(), indices, reader.len()))
 }
 
-// Looks for batches of the texts in a reader, with these after far ones.
-fn reads_batches<R: AllocGlobal + Abort, S: BuildHasher>(
-    rt: &R,
-    reader: &RodeoReader<Spur, S, Global>,
+// An interner with room for this many texts, which has the first 96 and counts the texts that it hashes.
+fn counted<'a>(
+    alloc: Global,
+    made: &'a Cell<u64>,
+    strings: usize,
     texts: &[&str],
-    tail: &[usize],
-) -> Result<(), Fail> {
-    for size in 0..SIZES.len() {
-        let indices = far(rt.alloc(), SIZES[size], tail)?;
-        let holds = reader_finds_all(reader, rt.alloc(), texts, indices.as_slice())?;
-        is_so_at(rt, holds, size);
-    }
-    Ok(())
-}
-
-// Interns the texts of the first 96 indices, and looks for batches of them and of absent texts in the reader.
-fn reads_absent<R: AllocGlobal + Abort, S: BuildHasher + Drop>(
-    rt: &R,
-    mut rodeo: Rodeo<Spur, S, Global>,
-    texts: &[&str],
-) -> Result<(), Fail> {
+) -> Result<Counted<'a>, Fail> {
+    let (room, state) = (Capacity::for_strings(strings), CountingState::new(made));
+    let mut rodeo: Counted<'a> = Rodeo::with_capacity_and_hasher(alloc, room, state)?;
     for index in 0..96 {
-        is_so_at(rt, takes_text(&mut rodeo, texts, index), index);
+        rodeo.try_get_or_intern(text_at(texts, index))?;
     }
-    reads_batches(rt, &rodeo.into_reader(), texts, &ABSENT)
+    Ok(rodeo)
 }
-
-// The batches come again after a clear.
-#[test]
-fn batches_of_texts(rt: HostRuntime) -> Result<(), Fail> {
-    let mut rodeo: Small = Rodeo::default(rt.alloc())?;
-    let texts = texts_of(rt.alloc())?;
-    batches(&rt, &mut rodeo, texts.as_slice())?;
-    rodeo.clear();
-    batches(&rt, &mut rodeo, texts.as_slice())?;
-    reads_batches(&rt, &frozen(rodeo), texts.as_slice(), &TURNS)
-}
-
-#[test]
-fn batches_of_a_reader_with_absent_texts(rt: HostRuntime) -> Result<(), Fail> {
-    let texts = texts_of(rt.alloc())?;
-    let rodeo: Small = Rodeo::default(rt.alloc())?;
-    reads_absent(&rt, rodeo, texts.as_slice())?;
-    let same: Same = Rodeo::with_hasher(rt.alloc(), SameState::default())?;
-    reads_absent(&rt, same, texts.as_slice())
-}
-
-type Same = Rodeo<Spur, SameState, Global>;
-
-// Each text is looked ahead at the first position, which is that of another text with the same ends.
-#[test]
-fn batches_of_texts_of_one_hash(rt: HostRuntime) -> Result<(), Fail> {
-    let mut rodeo: Same = Rodeo::with_hasher(rt.alloc(), SameState::default())?;
-    let texts = texts_of(rt.alloc())?;
-    batches(&rt, &mut rodeo, texts.as_slice())
-}
-
-// 98 texts fit under the limit of 98 times 16,360 bytes.
-fn ends_batch<R: AllocGlobal + Abort>(
-    rt: &R,
-    rodeo: &mut Small,
-    texts: &[&str],
-) -> Result<(), Fail> {
-    for index in 0..96 {
-        is_so_at(rt, takes_text(rodeo, texts, index), index);
-    }
-    let indices = far(rt.alloc(), 32, &[96, 64, 96, 97, 65, 98, 66])?;
-    let list = picked(rt.alloc(), texts, indices.as_slice())?;
-    let mut keys = Vec::new(rt.alloc());
-    let refusal = refusal_of(rodeo.try_get_or_intern_all(list.as_slice(), &mut keys));
-    is_so(rt, is_kind(refusal, LIMIT), "why the batch ended");
-    let kept = far(rt.alloc(), 32, &[96, 64, 96, 97, 65])?;
-    is_so(rt, stand_for(keys.as_slice(), kept.as_slice()), "the keys");
-    is_so(rt, has_count(rodeo, 98), "the texts");
-    Ok(())
-}
-
-#[test]
-fn a_refused_text_ends_the_batch(rt: HostRuntime) -> Result<(), Fail> {
-    let mut rodeo = interner::<Spur>(rt.alloc(), 1_603_280, 1_603_280)?;
-    let texts = texts_of(rt.alloc())?;
-    ends_batch(&rt, &mut rodeo, texts.as_slice())
-}
-
-fn is_next(rodeo: &mut Small, text: &str, batch: &mut Batch, position: usize) -> bool {
-    is_answer(told(intern_next(rodeo, text, batch)), Ok(position))
-}
-
-fn lacks_next(rodeo: &Small, text: &str, batch: &mut Batch) -> bool {
-    get_next(rodeo, text, batch).is_none()
-}
-
-// The texts of 32 indices from this one on.
-fn batch_from<'t, 'a>(texts: &'t [&'a str], from: usize) -> Result<&'t [&'a str], Fail> {
-    Ok(
-        texts
-            .get(from..from.saturating_add(32))
-            .ok_or("too few texts")?,
-    )
-}
-
-// Takes other texts than were looked ahead at.
-fn takes_others(
-    rt: &impl Abort,
-    rodeo: &mut Small,
-    texts: &[&str],
-    batch: &mut Batch,
-) -> Result<(), Fail> {
-    for index in 0..96 {
-        is_so_at(rt, takes_text(rodeo, texts, index), index);
-    }
-    is_so(rt, !batch.is_due(), "a first batch");
-    look_ahead(rodeo, batch_from(texts, 0)?, batch);
-    for index in 64..96 {
-        let text = text_at(texts, index);
-        is_so_at(rt, is_next(rodeo, text, batch, index), index);
-    }
-    is_so(rt, batch.is_due(), "a batch of far texts");
-    Ok(())
-}
-
-// Clears the interner between a look ahead and the texts.
-fn takes_cleared(
-    rt: &impl Abort,
-    rodeo: &mut Small,
-    texts: &[&str],
-    batch: &mut Batch,
-) -> Result<(), Fail> {
-    look_ahead(rodeo, batch_from(texts, 64)?, batch);
-    rodeo.clear();
-    let first = text_at(texts, 64);
-    is_so(rt, lacks_next(rodeo, first, batch), "a cleared text");
-    for index in 0..31 {
-        let text = text_at(texts, index + 65);
-        is_so_at(rt, is_next(rodeo, text, batch, index), index);
-    }
-    is_so(rt, !batch.is_due(), "a batch of new texts");
-    Ok(())
-}
-
-#[test]
-fn other_texts_than_those_looked_ahead_at(rt: HostRuntime) -> Result<(), Fail> {
-    let mut rodeo: Small = Rodeo::default(rt.alloc())?;
-    let texts = texts_of(rt.alloc())?;
-    let mut batch = Batch::new();
-    takes_others(&rt, &mut rodeo, texts.as_slice(), &mut batch)?;
-    takes_cleared(&rt, &mut rodeo, texts.as_slice(), &mut batch)
-}
-
-type Counted<'a> = Rodeo<Spur, CountingState<'a>, Global>;
 
 // The index of a present text and how often it comes, those of another, and how many texts are then hashed,
 // with an absent one last. That one is hashed twice if it is looked ahead at.
@@ -382,47 +186,7 @@ static ROWS: [Row; 9] = [
     (0, 288, 64, 480, 770),
 ];
 
-// The indices that the row names, and that of an absent text.
-fn indices_of(alloc: Global, row: &Row) -> Result<Vec<usize>, Fail> {
-    let mut indices = Vec::new(alloc);
-    for _ in 0..row.1 {
-        indices.push(row.0)?;
-    }
-    for _ in 0..row.3 {
-        indices.push(row.2)?;
-    }
-    indices.push(99)?;
-    Ok(indices)
-}
-
-fn hashes<R: AllocGlobal + Abort>(
-    rt: &R,
-    rodeo: &Counted<'_>,
-    texts: &[&str],
-    made: &Cell<u64>,
-) -> Result<(), Fail> {
-    for row in 0..ROWS.len() {
-        let indices = indices_of(rt.alloc(), &ROWS[row])?;
-        let before = made.get();
-        let found = finds_next(rodeo, rt.alloc(), texts, indices.as_slice())?;
-        is_so_at(rt, found, row);
-        is_so_at(rt, made.get().wrapping_sub(before) == ROWS[row].4, row);
-    }
-    Ok(())
-}
-
-#[test]
-fn where_looking_ahead_begins(rt: HostRuntime) -> Result<(), Fail> {
-    let made = Cell::new(0);
-    let mut rodeo: Counted<'_> = Rodeo::with_hasher(rt.alloc(), CountingState::new(&made))?;
-    let texts = texts_of(rt.alloc())?;
-    for index in 0..96 {
-        is_so_at(&rt, takes_text(&mut rodeo, texts.as_slice(), index), index);
-    }
-    hashes(&rt, &rodeo, texts.as_slice(), &made)
-}
-
-// The index of a text and how often it comes, and those of another; with the absent one last, each is hashed once.
+// The same, where each text is hashed once.
 static ONCE: [Row; 6] = [
     (0, 0, 0, 0, 1),
     (0, 31, 0, 0, 32),
@@ -432,56 +196,91 @@ static ONCE: [Row; 6] = [
     (98, 33, 97, 63, 97),
 ];
 
-fn hashes_once<R: AllocGlobal + Abort>(
+// Rows of texts to intern, where the absent one is another in each.
+static INTERNING: [Row; 4] = [
+    (0, 0, 63, 32, 33),
+    (0, 0, 64, 32, 34),
+    (63, 25, 64, 7, 33),
+    (63, 24, 64, 8, 34),
+];
+
+// The indices that the row names, and this one of an absent text.
+fn indices_of(alloc: Global, row: &Row, absent: usize) -> Result<Vec<usize>, Fail> {
+    let mut indices = Vec::new(alloc);
+    for _ in 0..row.1 {
+        indices.push(row.0)?;
+    }
+    for _ in 0..row.3 {
+        indices.push(row.2)?;
+    }
+    indices.push(absent)?;
+    Ok(indices)
+}
+
+// Makes the call for the texts of each row. Fails unless they are found, and as many are hashed as the row says.
+fn hashes<R: AllocGlobal + Abort>(
     rt: &R,
-    rodeo: &Counted<'_>,
-    texts: &[&str],
+    rodeo: &mut Counted<'_>,
     made: &Cell<u64>,
+    texts: &[&str],
+    call: Call,
+    rows: &[Row],
 ) -> Result<(), Fail> {
-    for row in 0..ONCE.len() {
-        let indices = indices_of(rt.alloc(), &ONCE[row])?;
+    for row in 0..rows.len() {
+        let absent = if matches!(call, Call::InternAll) {
+            96 + row % 4
+        } else {
+            99
+        };
+        let indices = indices_of(rt.alloc(), &rows[row], absent)?;
         let before = made.get();
-        let found = finds_all(rodeo, rt.alloc(), texts, indices.as_slice())?;
+        let found = finds_by(rodeo, rt.alloc(), call, texts, indices.as_slice())?;
         is_so_at(rt, found, row);
-        is_so_at(rt, made.get().wrapping_sub(before) == ONCE[row].4, row);
+        is_so_at(rt, made.get().wrapping_sub(before) == rows[row].4, row);
     }
     Ok(())
 }
 
-#[test]
-fn texts_of_a_list_are_hashed_once(rt: HostRuntime) -> Result<(), Fail> {
+// Makes the call on an interner with room for this many texts.
+fn hashes_with<R: AllocGlobal + Abort>(
+    rt: &R,
+    strings: usize,
+    call: Call,
+    rows: &[Row],
+) -> Result<(), Fail> {
     let made = Cell::new(0);
-    let mut rodeo: Counted<'_> = Rodeo::with_hasher(rt.alloc(), CountingState::new(&made))?;
     let texts = texts_of(rt.alloc())?;
-    for index in 0..96 {
-        is_so_at(&rt, takes_text(&mut rodeo, texts.as_slice(), index), index);
-    }
-    hashes_once(&rt, &rodeo, texts.as_slice(), &made)
+    let mut rodeo = counted(rt.alloc(), &made, strings, texts.as_slice())?;
+    hashes(rt, &mut rodeo, &made, texts.as_slice(), call, rows)
+}
+
+#[test]
+fn where_looking_ahead_begins(rt: HostRuntime) -> Result<(), Fail> {
+    hashes_with(&rt, 50, Call::GetNext, &ROWS)
+}
+
+// A growing index would hash its texts again.
+#[test]
+fn where_looking_ahead_begins_to_intern(rt: HostRuntime) -> Result<(), Fail> {
+    hashes_with(&rt, 1000, Call::InternAll, &INTERNING)
 }
 
 // 700,000 texts have 1,048,576 slots of 5 bytes.
 #[test]
-fn texts_of_a_list_are_hashed_once_over_a_large_index(rt: HostRuntime) -> Result<(), Fail> {
-    let made = Cell::new(0);
-    let room = Capacity::for_strings(700_000);
-    let state = CountingState::new(&made);
-    let mut rodeo: Counted<'_> = Rodeo::with_capacity_and_hasher(rt.alloc(), room, state)?;
-    let texts = texts_of(rt.alloc())?;
-    for index in 0..96 {
-        is_so_at(&rt, takes_text(&mut rodeo, texts.as_slice(), index), index);
-    }
-    hashes_once(&rt, &rodeo, texts.as_slice(), &made)
+fn texts_of_a_list_are_hashed_once(rt: HostRuntime) -> Result<(), Fail> {
+    hashes_with(&rt, 50, Call::GetAll, &ONCE)?;
+    hashes_with(&rt, 700_000, Call::GetAll, &ONCE)
 }
 
 // Looks the texts up in a reader, where each has to be hashed once.
 fn reader_hashes<R: AllocGlobal + Abort>(
     rt: &R,
     reader: &RodeoReader<Spur, CountingState<'_>, Global>,
-    texts: &[&str],
     made: &Cell<u64>,
+    texts: &[&str],
 ) -> Result<(), Fail> {
     for row in 0..ONCE.len() {
-        let indices = indices_of(rt.alloc(), &ONCE[row])?;
+        let indices = indices_of(rt.alloc(), &ONCE[row], 99)?;
         let before = made.get();
         let found = reader_finds_all(reader, rt.alloc(), texts, indices.as_slice())?;
         is_so_at(rt, found, row);
@@ -493,158 +292,176 @@ fn reader_hashes<R: AllocGlobal + Abort>(
 #[test]
 fn texts_of_a_list_are_hashed_once_in_a_reader(rt: HostRuntime) -> Result<(), Fail> {
     let made = Cell::new(0);
-    let mut rodeo: Counted<'_> = Rodeo::with_hasher(rt.alloc(), CountingState::new(&made))?;
     let texts = texts_of(rt.alloc())?;
-    for index in 0..96 {
-        is_so_at(&rt, takes_text(&mut rodeo, texts.as_slice(), index), index);
-    }
-    reader_hashes(&rt, &rodeo.into_reader(), texts.as_slice(), &made)
+    let rodeo = counted(rt.alloc(), &made, 50, texts.as_slice())?;
+    reader_hashes(&rt, &rodeo.into_reader(), &made, texts.as_slice())
 }
 
-// Rows of texts to intern, with other absent texts last, each of which is interned.
-static INTERNING: [Row; 4] = [
-    (0, 0, 63, 32, 33),
-    (0, 0, 64, 32, 34),
-    (63, 25, 64, 7, 33),
-    (63, 24, 64, 8, 34),
-];
+// Lists of thousands of texts and of keys, by each call that takes a list.
 
-fn hashes_interning<R: AllocGlobal + Abort>(
-    rt: &R,
-    rodeo: &mut Counted<'_>,
-    texts: &[&str],
-    made: &Cell<u64>,
-) -> Result<(), Fail> {
-    for row in 0..INTERNING.len() {
-        let mut indices = indices_of(rt.alloc(), &INTERNING[row])?;
-        let _ = indices.pop();
-        indices.push(row.saturating_add(96))?;
-        let before = made.get();
-        let interned = interns_all(rodeo, rt.alloc(), texts, indices.as_slice())?;
-        is_so_at(rt, interned, row);
-        is_so_at(rt, made.get().wrapping_sub(before) == INTERNING[row].4, row);
-    }
-    Ok(())
-}
+// How many texts a list has, and how many of them are distinct: the first ones, which come again in order.
+const COUNT: usize = 6000;
 
-#[test]
-fn where_looking_ahead_begins_to_intern(rt: HostRuntime) -> Result<(), Fail> {
-    let made = Cell::new(0);
-    // a growing index would hash its texts again
-    let room = Capacity::for_strings(1000);
-    let state = CountingState::new(&made);
-    let mut rodeo: Counted<'_> = Rodeo::with_capacity_and_hasher(rt.alloc(), room, state)?;
-    let texts = texts_of(rt.alloc())?;
-    for index in 0..96 {
-        is_so_at(&rt, takes_text(&mut rodeo, texts.as_slice(), index), index);
-    }
-    hashes_interning(&rt, &mut rodeo, texts.as_slice(), &made)
-}
+const DISTINCT: usize = 2500;
 
-// Whether a list of texts is the wanted one, or was refused where none is wanted.
-fn is_list(texts: Option<&[&str]>, wanted: Option<&[&str]>) -> bool {
-    match (texts, wanted) {
-        (Some(texts), Some(wanted)) => texts == wanted,
-        (None, None) => true,
-        _ => false,
-    }
-}
-
-// Whether a `Rodeo`, a reader and a resolver give the texts of the keys, if each key has one.
-fn resolves(
-    rodeo: &Small,
-    alloc: Global,
-    keys: &[Spur],
-    wanted: Option<&[&str]>,
-) -> Result<bool, Fail> {
+// The distinct texts.
+fn numbers(alloc: Global) -> Result<Vec<String>, Fail> {
     let mut texts = Vec::new(alloc);
-    if !rodeo.contains_keys(keys) {
-        return Ok(is_list(None, wanted));
+    for number in 0..DISTINCT {
+        texts.push(number.to_string(alloc)?)?;
     }
-    rodeo.resolve_all(keys, &mut texts)?;
-    Ok(is_list(Some(texts.as_slice()), wanted))
+    Ok(texts)
 }
 
-fn reads(
-    reader: &SpurReader,
-    alloc: Global,
-    keys: &[Spur],
-    wanted: Option<&[&str]>,
-) -> Result<bool, Fail> {
-    let mut texts = Vec::new(alloc);
-    if !reader.contains_keys(keys) {
-        return Ok(is_list(None, wanted));
+fn numbered_at(texts: &[String], place: usize) -> &str {
+    match texts.get(place % DISTINCT) {
+        Some(text) => text.as_str(),
+        None => "",
     }
-    reader.resolve_all(keys, &mut texts)?;
-    Ok(is_list(Some(texts.as_slice()), wanted))
 }
 
-fn tells(
-    resolver: &SpurResolver,
-    alloc: Global,
-    keys: &[Spur],
-    wanted: Option<&[&str]>,
-) -> Result<bool, Fail> {
-    let mut texts = Vec::new(alloc);
-    if !resolver.contains_keys(keys) {
-        return Ok(is_list(None, wanted));
+fn list_of<'a>(alloc: Global, texts: &'a [String]) -> Result<Vec<&'a str>, Fail> {
+    let mut list = Vec::new(alloc);
+    for place in 0..COUNT {
+        list.push(numbered_at(texts, place))?;
     }
-    resolver.resolve_all(keys, &mut texts)?;
-    Ok(is_list(Some(texts.as_slice()), wanted))
+    Ok(list)
 }
 
-// The positions of keys, and their texts in a list of "red" and "green".
-type Resolved = (&'static [usize], Option<&'static [&'static str]>);
-
-static RESOLVED: [Resolved; 4] = [
-    (&[], Some(&[])),
-    (&[1, 0, 1], Some(&["green", "red", "green"])),
-    (&[2], None),
-    (&[0, 1, 2, 0], None),
-];
-
-fn keys_of(alloc: Global, positions: &[usize]) -> Result<Vec<Spur>, Fail> {
+// The keys of the list.
+fn keys_of(alloc: Global) -> Result<Vec<Spur>, Fail> {
     let mut keys = Vec::new(alloc);
-    for position in positions {
-        keys.push(key_at(*position)?)?;
+    for place in 0..COUNT {
+        keys.push(key_at(place % DISTINCT)?)?;
     }
     Ok(keys)
 }
 
-fn resolve_lists<R: AllocGlobal + Abort>(
-    rt: &R,
-    rodeo: &Small,
-    reader: &SpurReader,
-    resolver: &SpurResolver,
-) -> Result<(), Fail> {
-    for row in 0..RESOLVED.len() {
-        let keys = keys_of(rt.alloc(), RESOLVED[row].0)?;
-        let keys = keys.as_slice();
-        let wanted = RESOLVED[row].1;
-        is_so_at(rt, resolves(rodeo, rt.alloc(), keys, wanted)?, row);
-        is_so_at(rt, reads(reader, rt.alloc(), keys, wanted)?, row);
-        is_so_at(rt, tells(resolver, rt.alloc(), keys, wanted)?, row);
+// Whether the keys are those of the list.
+fn are_keys(keys: &[Option<Spur>]) -> bool {
+    for place in 0..keys.len() {
+        if !is_found(keys[place], place % DISTINCT, DISTINCT) {
+            return false;
+        }
     }
+    keys.len() == COUNT
+}
+
+// Whether interning the list by one call gives these keys.
+fn interns(alloc: Global, list: &[&str], wanted: &[Spur]) -> Result<bool, Fail> {
+    let mut rodeo: Small = Rodeo::default(alloc)?;
+    let mut keys = Vec::new(alloc);
+    rodeo.try_get_or_intern_all(list, &mut keys)?;
+    Ok(keys.as_slice() == wanted && has_count(&rodeo, DISTINCT))
+}
+
+// Whether a `Rodeo` finds the keys of the list.
+fn finds(rodeo: &Small, alloc: Global, list: &[&str]) -> Result<bool, Fail> {
+    let mut found = Vec::new(alloc);
+    rodeo.get_all(list, &mut found)?;
+    Ok(are_keys(found.as_slice()))
+}
+
+// Whether a reader finds them.
+fn reader_finds(reader: &SpurReader, alloc: Global, list: &[&str]) -> Result<bool, Fail> {
+    let mut found = Vec::new(alloc);
+    reader.get_all(list, &mut found)?;
+    Ok(are_keys(found.as_slice()))
+}
+
+fn are_texts(texts: &[&str], wanted: &[&str]) -> bool {
+    texts == wanted
+}
+
+// Whether the interner or the frozen form gives these texts for the keys.
+macro_rules! gives_texts {
+    ($form:expr, $alloc:expr, $keys:expr, $list:expr) => {{
+        let mut texts = Vec::new($alloc);
+        if $form.contains_keys($keys) {
+            $form.resolve_all($keys, &mut texts)?;
+        }
+        Ok(are_texts(texts.as_slice(), $list))
+    }};
+}
+
+fn resolves(rodeo: &Small, alloc: Global, keys: &[Spur], list: &[&str]) -> Result<bool, Fail> {
+    gives_texts!(rodeo, alloc, keys, list)
+}
+
+fn reader_resolves(
+    reader: &SpurReader,
+    alloc: Global,
+    keys: &[Spur],
+    list: &[&str],
+) -> Result<bool, Fail> {
+    gives_texts!(reader, alloc, keys, list)
+}
+
+fn resolver_resolves(
+    resolver: &SpurResolver,
+    alloc: Global,
+    keys: &[Spur],
+    list: &[&str],
+) -> Result<bool, Fail> {
+    gives_texts!(resolver, alloc, keys, list)
+}
+
+#[test]
+fn six_thousand_texts_are_interned(rt: HostRuntime) -> Result<(), Fail> {
+    let texts = numbers(rt.alloc())?;
+    let list = list_of(rt.alloc(), texts.as_slice())?;
+    let keys = keys_of(rt.alloc())?;
+    is_so(
+        &rt,
+        interns(rt.alloc(), list.as_slice(), keys.as_slice())?,
+        "the keys",
+    );
     Ok(())
 }
 
 #[test]
-fn texts_of_lists_of_keys(rt: HostRuntime) -> Result<(), Fail> {
-    let rodeo = of_texts(rt.alloc(), &["red", "green"])?;
-    let reader = frozen(copied(&rodeo)?);
+fn six_thousand_texts_are_found(rt: HostRuntime) -> Result<(), Fail> {
+    let texts = numbers(rt.alloc())?;
+    let list = list_of(rt.alloc(), texts.as_slice())?;
+    let rodeo = of_texts(rt.alloc(), list.as_slice())?;
+    is_so(&rt, finds(&rodeo, rt.alloc(), list.as_slice())?, "a rodeo");
+    let reader = frozen(rodeo);
+    is_so(
+        &rt,
+        reader_finds(&reader, rt.alloc(), list.as_slice())?,
+        "a reader",
+    );
+    Ok(())
+}
+
+// Checks the calls of all three.
+fn each_resolves<R: AllocGlobal + Abort>(
+    rt: &R,
+    rodeo: Small,
+    keys: &[Spur],
+    list: &[&str],
+) -> Result<(), Fail> {
+    is_so(rt, resolves(&rodeo, rt.alloc(), keys, list)?, "a rodeo");
     let resolver = resolving(copied(&rodeo)?);
-    resolve_lists(&rt, &rodeo, &reader, &resolver)
-}
-
-fn has_found(keys: &[Option<Spur>]) -> bool {
-    are_found(keys, &[1, 2, 0], 2)
+    is_so(
+        rt,
+        resolver_resolves(&resolver, rt.alloc(), keys, list)?,
+        "a resolver",
+    );
+    let reader = frozen(rodeo);
+    is_so(
+        rt,
+        reader_resolves(&reader, rt.alloc(), keys, list)?,
+        "a reader",
+    );
+    Ok(())
 }
 
 #[test]
-fn keys_of_a_list_in_a_reader(rt: HostRuntime) -> Result<(), Fail> {
-    let reader = frozen(of_texts(rt.alloc(), &["red", "green"])?);
-    let mut keys = Vec::new(rt.alloc());
-    reader.get_all(&["green", "blue", "red"], &mut keys)?;
-    is_so(&rt, has_found(keys.as_slice()), "the keys");
-    Ok(())
+fn six_thousand_keys_are_resolved(rt: HostRuntime) -> Result<(), Fail> {
+    let texts = numbers(rt.alloc())?;
+    let list = list_of(rt.alloc(), texts.as_slice())?;
+    let rodeo = of_texts(rt.alloc(), list.as_slice())?;
+    let keys = keys_of(rt.alloc())?;
+    each_resolves(&rt, rodeo, keys.as_slice(), list.as_slice())
 }
