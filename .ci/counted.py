@@ -36,10 +36,10 @@ class Result:
 
 
 def counts_of(said, status):
-    """How many passed and failed, by the last line of counts; a command without one is one test. It failed if its status says so."""
+    """How many passed and failed, by the last line of counts; a command without one is one test. It failed if its status says so, or if none passed."""
     found = COUNTS.findall(said)
     passed, failed = map(int, found[-1]) if found else (int(status == 0), int(status != 0))
-    return passed, max(failed, int(status != 0))
+    return passed, max(failed, int(status != 0 or not passed))
 
 
 def run(part):
