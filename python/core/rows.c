@@ -192,13 +192,16 @@ static int raise_batch(const struct batch *batch, uint32_t status)
 }
 
 /* Takes one more item. Returns -1 with an exception that has the row. */
-static int take(PyObject *item, Py_ssize_t row, PyObject *nulls, struct batch *batch)
+static int take(Core *core, PyObject *item, Py_ssize_t row, PyObject *nulls, struct batch *batch)
 {
     const uint8_t *text;
     size_t length;
     uint32_t status, refused = LASSO_DONE;
     if (is_text(item)) {
         refused = text_of(item, &text, &length);
+        /* Python's own exception may have run the garbage collector, and another thread, which is in a call now. */
+        if (refused != LASSO_DONE)
+            core_enter(core);
         status = refused == LASSO_DONE ? batch_text(batch, text, length) : batch_end(batch);
     } else if (is_null(item, nulls)) {
         status = batch_null(batch);
@@ -214,7 +217,7 @@ static int take(PyObject *item, Py_ssize_t row, PyObject *nulls, struct batch *b
 }
 
 /* Takes an item that other threads may let go while the GIL is. They may have changed the list before. */
-static int take_shared(struct items *items, Py_ssize_t at, Py_ssize_t row, PyObject *nulls, struct batch *batch)
+static int take_shared(Core *core, struct items *items, Py_ssize_t at, Py_ssize_t row, PyObject *nulls, struct batch *batch)
 {
     items->count = items->list != NULL ? PyList_Size(items->list) : items->count;
     if (at >= items->count) {
@@ -222,21 +225,21 @@ static int take_shared(struct items *items, Py_ssize_t at, Py_ssize_t row, PyObj
         return -1;
     }
     PyObject *item = Py_XNewRef(item_at(items, at));
-    int taken = take(item, row, nulls, batch);
+    int taken = take(core, item, row, nulls, batch);
     Py_XDECREF(item);
     return taken;
 }
 
 /* Interns or looks up the items from start up to stop. Returns -1 with an exception that has the position after `first`. */
-static int pass(struct items *items, Py_ssize_t start, Py_ssize_t stop, Py_ssize_t first, PyObject *nulls, struct batch *batch)
+static int pass(Core *core, struct items *items, Py_ssize_t start, Py_ssize_t stop, Py_ssize_t first, PyObject *nulls, struct batch *batch)
 {
     for (Py_ssize_t at = start; at < stop; at++) {
         int taken;
         if (batch->lets_go != NULL)
-            taken = take_shared(items, at, first + at, nulls, batch);
+            taken = take_shared(core, items, at, first + at, nulls, batch);
         else {
             read_ahead(items, at + AHEAD, true);
-            taken = take(item_at(items, at), first + at, nulls, batch);
+            taken = take(core, item_at(items, at), first + at, nulls, batch);
         }
         if (taken < 0)
             return -1;
@@ -270,7 +273,7 @@ PyObject *core_rows(Core *core, PyObject *words)
     else {
         batch_begin(&batch, &core->interner, appends, codes.buf, (size_t)(first + start));
         batch.lets_go = core->interner.is_shared ? core : NULL;
-        pass(&items, start, stop, first, nulls, &batch);
+        pass(core, &items, start, stop, first, nulls, &batch);
     }
     PyBuffer_Release(&codes);
     items_end(&items);

@@ -8,14 +8,16 @@ import importlib.util
 import pickle
 import sys
 import threading
+import time
 import weakref
 from array import array
 from pathlib import Path
 from typing import Any
 
+import producers
 import pytest
 
-from lasso import NULL, Codes, Interner, InternerClosed, LassoError
+from lasso import NULL, Codes, Interner, InternerClosed, LassoError, NotUtf8
 
 
 class Named(Interner):
@@ -68,6 +70,37 @@ def test_results_and_interners_give_their_memory_back() -> None:
             for _ in range(200):
                 call(texts)
             assert resident() - before < 6_000_000  # 200 results have 16,000,000 bytes at least.
+
+
+@pytest.mark.parametrize("held", range(7))
+def test_a_call_that_the_collector_lets_in_is_waited_for(held: int) -> None:
+    interner, codes, begun = Interner(), array("I", bytes(8)), threading.Event()
+    many = producers.strings([f"text {row}" for row in range(50000)])
+    thread = threading.Thread(target=lambda: (begun.wait(), interner.encode(many)))
+
+    def collected(phase: str, told: dict[str, int]) -> None:
+        try:
+            codes.append(codes.pop())
+        except BufferError:  # The call has the codes, and makes Python's exception.
+            begun.set()
+            time.sleep(0.02)
+
+    thread.start()
+    gc.collect()
+    gc.callbacks.append(collected)
+    before = gc.get_threshold()
+    gc.set_threshold(8)
+    garbage: list[Any] = [[] for _ in range(held)]
+    try:
+        with pytest.raises(NotUtf8, match="at text 1"):
+            interner._rows(["red", "\ud800"], 0, 2, 0, (), codes, True)
+    finally:
+        gc.set_threshold(*before)
+        gc.callbacks.remove(collected)
+        begun.set()
+        thread.join()
+        garbage.clear()
+    assert sorted(interner.texts()) == sorted(["red", *(f"text {row}" for row in range(50000))])
 
 
 def test_codes_are_pickled_and_copied_as_numbers() -> None:
