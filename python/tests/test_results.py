@@ -72,35 +72,40 @@ def test_results_and_interners_give_their_memory_back() -> None:
             assert resident() - before < 6_000_000  # 200 results have 16,000,000 bytes at least.
 
 
-@pytest.mark.parametrize("held", range(7))
-def test_a_call_that_the_collector_lets_in_is_waited_for(held: int) -> None:
-    interner, codes, begun = Interner(), array("I", bytes(8)), threading.Event()
-    many = producers.strings([f"text {row}" for row in range(50000)])
+def test_a_call_that_the_collector_lets_in_is_waited_for() -> None:
+    interner, codes, begun, count = Interner(), array("I", bytes(4 * 1001)), threading.Event(), 1_000_000
+    offsets, data = array("i", range(0, 7 * count + 7, 7)), b"".join(b"%07d" % row for row in range(count))
+    many = producers.Column("u", [None, offsets.tobytes(), data], count)
     thread = threading.Thread(target=lambda: (begun.wait(), interner.encode(many)))
 
     def collected(phase: str, told: dict[str, int]) -> None:
         try:
             codes.append(codes.pop())
-        except BufferError:  # The call has the codes, and makes Python's exception.
-            begun.set()
-            time.sleep(0.02)
+        except BufferError:  # The call has the codes. It makes the exception of its last text if the others are not interned yet.
+            if not begun.is_set() and len(interner) == 0:
+                begun.set()
+                time.sleep(0.05)
 
-    thread.start()
-    gc.collect()
-    gc.callbacks.append(collected)
     before = gc.get_threshold()
-    gc.set_threshold(8)
-    garbage: list[Any] = [[] for _ in range(held)]
+    thread.start()
+    gc.callbacks.append(collected)
+    gc.set_threshold(1)
     try:
-        with pytest.raises(NotUtf8, match="at text 1"):
-            interner._rows(["red", "\ud800"], 0, 2, 0, (), codes, True)
+        for held in range(4):
+            interner.clear()
+            garbage: list[Any] = [[] for _ in range(held)]
+            with pytest.raises(NotUtf8, match="at text 1000"):
+                interner._rows([*map(str, range(1000)), "\ud800"], 0, 1001, 0, (), codes, True)
+            garbage.clear()
+            if begun.is_set():
+                break
     finally:
         gc.set_threshold(*before)
         gc.callbacks.remove(collected)
         begun.set()
         thread.join()
-        garbage.clear()
-    assert sorted(interner.texts()) == sorted(["red", *(f"text {row}" for row in range(50000))])
+    texts = interner.texts()
+    assert len(set(texts)) == len(texts) == count + 1000
 
 
 def test_codes_are_pickled_and_copied_as_numbers() -> None:
