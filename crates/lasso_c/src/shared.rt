@@ -206,14 +206,19 @@ pub extern "C" fn lasso_shared_copy(
     shared: &mut LassoShared,
     lasso: &mut Lasso,
 ) -> u32
+    // On success
     ensures made { result ≡ DONE → IsSome lasso.new.seat.value }
     ensures texts { result ≡ DONE → texts_in lasso.new.seat.value ≡ texts_seen shared.old.seat.value }
     ensures account { result ≡ DONE → account_in lasso.new.seat.value ≡ read_of (texts_seen shared.old.seat.value) }
     ensures first { result ≡ DONE → first_in lasso.new.seat.value ≡ Some (clone_size (texts_seen shared.old.seat.value)) }
     ensures seed { result ≡ DONE → seed_in lasso.new.seat.value ≡ shared_seed shared.old.seat.value }
+
+    // On failure
     ensures none { shared.old.seat.value ≡ None → result ≡ NO_INTERNER }
     ensures refused { IsSome shared.old.seat.value → ¬ (result ≡ DONE) → result ≡ NO_MEMORY }
     ensures lasso_kept { ¬ (result ≡ DONE) → lasso.new.seat.value ≡ lasso.old.seat.value }
+
+    // What stays
     ensures kept { shared.new.seat.value ≡ shared.old.seat.value }
 {
     let Some(member) = shared.member() else {

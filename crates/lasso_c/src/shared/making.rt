@@ -14,7 +14,10 @@ use std::alloc::Global;
 /// out of memory, and the handle is as it was then.
 #[unsafe(no_mangle)]
 pub extern "C" fn lasso_shared_new(alloc: Global, shared: &mut LassoShared) -> u32
+    // On success
     ensures made { result ≡ DONE → Begins 4096 (text_seed 0 0) shared.new.seat.value }
+
+    // On failure
     ensures refused { ¬ (result ≡ DONE) → result ≡ NO_MEMORY }
     ensures kept { ¬ (result ≡ DONE) → shared.new.seat.value ≡ shared.old.seat.value }
 {
@@ -29,7 +32,10 @@ pub extern "C" fn lasso_shared_new_sized(
     shared: &mut LassoShared,
     texts: usize,
 ) -> u32
+    // On success
     ensures made { result ≡ DONE → Begins 4096 (text_seed 0 0) shared.new.seat.value }
+
+    // On failure
     ensures refused { ¬ (result ≡ DONE) → result ≡ NO_MEMORY }
     ensures kept { ¬ (result ≡ DONE) → shared.new.seat.value ≡ shared.old.seat.value }
 {
@@ -45,7 +51,10 @@ pub extern "C" fn lasso_shared_new_seeded(
     seed0: u64,
     seed1: u64,
 ) -> u32
+    // On success
     ensures made { result ≡ DONE → Begins 4096 (text_seed seed0 seed1) shared.new.seat.value }
+
+    // On failure
     ensures refused { ¬ (result ≡ DONE) → result ≡ NO_MEMORY }
     ensures kept { ¬ (result ≡ DONE) → shared.new.seat.value ≡ shared.old.seat.value }
 {
@@ -62,7 +71,10 @@ pub extern "C" fn lasso_shared_new_sized_seeded(
     seed0: u64,
     seed1: u64,
 ) -> u32
+    // On success
     ensures made { result ≡ DONE → Begins 4096 (text_seed seed0 seed1) shared.new.seat.value }
+
+    // On failure
     ensures refused { ¬ (result ≡ DONE) → result ≡ NO_MEMORY }
     ensures kept { ¬ (result ≡ DONE) → shared.new.seat.value ≡ shared.old.seat.value }
 {
@@ -79,7 +91,10 @@ pub extern "C" fn lasso_shared_new_keyed(
     key0: u64,
     key1: u64,
 ) -> u32
+    // On success
     ensures made { result ≡ DONE → Begins 4096 (keyed_seed key0 key1) shared.new.seat.value }
+
+    // On failure
     ensures refused { ¬ (result ≡ DONE) → result ≡ NO_MEMORY }
     ensures kept { ¬ (result ≡ DONE) → shared.new.seat.value ≡ shared.old.seat.value }
 {
@@ -95,7 +110,10 @@ pub extern "C" fn lasso_shared_new_sized_keyed(
     key0: u64,
     key1: u64,
 ) -> u32
+    // On success
     ensures made { result ≡ DONE → Begins 4096 (keyed_seed key0 key1) shared.new.seat.value }
+
+    // On failure
     ensures refused { ¬ (result ≡ DONE) → result ≡ NO_MEMORY }
     ensures kept { ¬ (result ≡ DONE) → shared.new.seat.value ≡ shared.old.seat.value }
 {
