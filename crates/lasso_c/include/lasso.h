@@ -517,11 +517,11 @@ void lasso_free(struct lasso *lasso);
  * call again. The interner lasts until its last handle is freed, in any order. A program with threads is linked with
  * -pthread, too.
  *
- * No call waits. lasso_shared_intern, lasso_shared_intern_batch and lasso_shared_get return LASSO_BUSY if another thread
- * is inside a step of the interner, after they looked about a hundred times. The caller tries again, as
+ * No call waits. lasso_shared_intern, lasso_shared_intern_batch and lasso_shared_get return LASSO_BUSY if another
+ * thread is inside a step of the interner, after they looked about a hundred times. The caller tries again, as
  * lasso_shared_intern_wait, lasso_shared_intern_batch_wait and lasso_shared_get_wait do. What to rely on:
- * - With LASSO_BUSY, no text was added, and nothing was written. The next call may be about another text. (A batch has
- *   interned the texts before the one that was busy.)
+ * - With LASSO_BUSY, no text was added, and nothing was written; a batch has interned the texts before the busy one,
+ *   and written their codes. The next call may be about another text.
  * - The other calls never return LASSO_BUSY: no thread can hold them up.
  * - If no other thread is inside a call, no call returns LASSO_BUSY. (This is tested, not proved.)
  * What not to rely on:
@@ -544,12 +544,17 @@ struct lasso_shared {
  */
 uint32_t lasso_shared_new(struct lasso_shared *shared);
 
-/* lasso_shared_new for a caller that knows how much is to come: the list of texts does not grow before it has texts texts. */
+/*
+ * lasso_shared_new for a caller that knows how much is to come: the list of texts does not grow before it has texts
+ * texts.
+ *
+ * Returns LASSO_DONE, or LASSO_NO_MEMORY, and then the handle is as it was.
+ */
 uint32_t lasso_shared_new_sized(struct lasso_shared *shared, size_t texts);
 
 /*
- * lasso_shared_new for texts that strangers choose, as lasso_new_seeded: they are hashed with this seed of 128 bits, which
- * you take from the system's source of random numbers and keep secret.
+ * lasso_shared_new for texts that strangers choose, as lasso_new_seeded: they are hashed with this seed of 128 bits,
+ * which you take from the system's source of random numbers and keep secret.
  *
  * Returns LASSO_DONE, or LASSO_NO_MEMORY, and then the handle is as it was.
  */
@@ -631,10 +636,10 @@ uint32_t lasso_shared_resolve(struct lasso_shared *shared, uint32_t code, uint8_
 uint32_t lasso_shared_see(struct lasso_shared *shared);
 
 /*
- * Has the handle see what another handle of the same interner has seen, and the list as it is, as lasso_shared_see does:
- * each code that the other handle's calls told has the same text for this handle. It hands promises from thread to
- * thread: the caller orders the call after those of the other handle. With a handle of another interner, the call does
- * what lasso_shared_see does.
+ * Has the handle see what another handle of the same interner has seen, and the list as it is, as lasso_shared_see
+ * does: each code that the other handle's calls wrote has the same text for this handle. It hands promises from thread
+ * to thread: the caller orders the call after those of the other handle. With a handle of another interner, the call
+ * does what lasso_shared_see does.
  *
  * shared, other       two different handles. *other is only read.
  *
@@ -654,10 +659,10 @@ uint32_t lasso_shared_meet(struct lasso_shared *shared, struct lasso_shared *oth
 uint32_t lasso_shared_text(struct lasso_shared *shared, uint32_t code, struct lasso_text *text);
 
 /*
- * Lends the texts from a code on, of the list that the handle has seen last, in the order of their codes: all of them, or
- * as many as have room. Returns their number; 0 without an interner, and if the handle has seen no text of that code or
- * a later one. A caller that has seen n texts, and sees the list again, gets those that came since from n on. The texts
- * stay as those of lasso_shared_text do.
+ * Lends the texts from a code on, of the list that the handle has seen last, in the order of their codes: all of them,
+ * or as many as have room. Returns their number; 0 without an interner, and if the handle has seen no text of that code
+ * or a later one. A caller that has seen n texts, and sees the list again, gets those that came since from n on. The
+ * texts stay as those of lasso_shared_text do.
  *
  * texts               the caller's, written: a struct for each text. texts_length counts structs. Each is LASSO_NO_TEXT
  *                     before, or a text that still lasts.
@@ -666,8 +671,9 @@ size_t lasso_shared_texts(struct lasso_shared *shared, size_t from, struct lasso
 
 /*
  * Copies the texts of the list that the handle has seen last into an interner of one thread, in lasso, under the same
- * codes. Their bytes are in one bucket of just their size (4,096 bytes if they have none), with no limit; the seed or the
- * keys are the same. An interner that lasso holds is freed once the new one is made. The shared interner stays as it is.
+ * codes. Their bytes are in one bucket of just their size (4,096 bytes if they have none), with no limit; the seed or
+ * the keys are the same. An interner that lasso holds is freed once the new one is made. The shared interner stays as
+ * it is.
  *
  * Returns LASSO_NO_INTERNER; LASSO_NO_MEMORY; else LASSO_DONE. If it is not LASSO_DONE, lasso holds what it held.
  */
@@ -998,8 +1004,8 @@ static inline uint32_t lasso_shared_get_wait(struct lasso_shared *shared, const 
 }
 
 /*
- * lasso_shared_intern_batch, and on from the busy text again and again until it is not LASSO_BUSY. In between the thread
- * lets others run. The report is that of the whole batch.
+ * lasso_shared_intern_batch, and on from the busy text again and again until it is not LASSO_BUSY. In between the
+ * thread lets others run. The report is that of the whole batch.
  */
 static inline uint32_t lasso_shared_intern_batch_wait(struct lasso_shared *shared,
                                                       const uint8_t *bytes, size_t bytes_length,
@@ -1011,7 +1017,8 @@ static inline uint32_t lasso_shared_intern_batch_wait(struct lasso_shared *share
     uint32_t status;
     while ((status = lasso_shared_intern_batch(shared, bytes, bytes_length,
                                                done == 0 ? offsets : offsets + done, offsets_length - done,
-                                               done == 0 ? codes : codes + done, codes_length - done, report)) == LASSO_BUSY) {
+                                               done == 0 ? codes : codes + done, codes_length - done,
+                                               report)) == LASSO_BUSY) {
         done += report->texts;
         sched_yield();
     }
