@@ -90,10 +90,14 @@ def some_step(random):
         (8, ("encode", small_data, small_offsets, some_bitmap(random, texts) if random.random() < 0.5 else None, some_null(random), about(random, texts), about(random, len(small_data)), about(random, texts + 1))),
         (8, ("decode", small_data, small_offsets, some_codes(random, texts), some_null(random), random.choice([0, room, 50000]), None, None)),
         (1, ("status_text", random.choice([*range(18), 2**32 - 1]), random.choice([0, 1, 5, 100]))),
-        (2, ("shared_new", handle)),
+        (2, ("shared_new", handle, random.choice([None, None, 0, 60, 1000, 2**60, ENDLESS]), keys)),
         (3, ("shared_join", handle, other)),
         (1, ("shared_free", handle)),
         (2, ("shared_see", handle)),
+        (2, ("shared_meet", handle, other)),
+        (2, ("shared_copy", handle, other)),
+        (6, ("shared_intern_batch", handle, small_data, small_offsets, about(random, texts))),
+        (3, ("shared_texts", handle, random.choice([0, 0, 1, 5, ENDLESS]), random.choice([0, 1, 5, 50]))),
         (9, ("shared_intern", handle, some_text(random))),
         (3, ("shared_get", handle, some_text(random))),
         (3, ("shared_resolve", handle, code, random.choice([0, 1, 3, 20, 9000]))),
@@ -322,9 +326,14 @@ class Run:
         except Refused as refused:
             return refused
 
-    def shared_new(self, handle):
-        expect("lasso_shared_new: the status", self.library.call("lasso_shared_new", STATUS, self.shared[handle].at), reference.DONE)
-        self.shares[handle] = reference.SharedHandle(reference.Shared())
+    def shared_new(self, handle, texts, keys):
+        arguments = [self.shared[handle].at, *([] if texts is None else [texts]), *(keys[1:] if keys else ())]
+        name = "lasso_shared_new" + ("" if texts is None else "_sized") + ("_" + keys[0] if keys else "")
+        is_too_much = (texts or 0) >= 2**60
+        status = self.library.call(name, STATUS, *arguments)
+        expect(f"{name}: the status", status, reference.NO_MEMORY if is_too_much else reference.DONE)
+        if not is_too_much:
+            self.shares[handle] = reference.SharedHandle(reference.Shared())
 
     def shared_join(self, handle, other):
         joined = self.of_shared(handle, lambda share: reference.SharedHandle(reference.holding(share).interner))
@@ -342,6 +351,43 @@ class Run:
         expect("lasso_shared_see: the status", self.library.call("lasso_shared_see", STATUS, self.shared[handle].at), status)
         if self.shares[handle]:
             self.shares[handle].see()
+
+    def shared_meet(self, handle, other):
+        status = reference.NO_INTERNER if None in (self.shares[handle], self.shares[other]) else reference.DONE
+        expect("lasso_shared_meet: the status", self.library.call("lasso_shared_meet", STATUS, self.shared[handle].at, self.shared[other].at), status)
+        if status == reference.DONE:
+            self.shares[handle].see()
+
+    def shared_copy(self, handle, other):
+        copy = self.of_shared(handle, lambda share: reference.holding(share).copy())
+        status = copy.status if isinstance(copy, Refused) else reference.DONE
+        expect("lasso_shared_copy: the status", self.library.call("lasso_shared_copy", STATUS, self.shared[handle].at, self.handles[other].at), status)
+        if status == reference.DONE:
+            self.held[other], self.lent[other] = copy[0], []
+        self.look(other, is_reading=False)
+
+    def shared_intern_batch(self, handle, data, offsets, codes_room):
+        wanted = self.of_shared(handle, lambda share: reference.intern_batch(share, data, offsets, None, 0, codes_room))
+        wanted = (wanted.status, wanted.report, []) if isinstance(wanted, Refused) else wanted[0]
+        codes, report = Output(codes_room, "I"), Output(3, "Q", False)
+        status = self.library.call("lasso_shared_intern_batch", STATUS, self.shared[handle].at, Input(data), Input(offsets, "i"), codes, report)
+        expect("lasso_shared_intern_batch: status and report", (status, struct.unpack("3Q", report.after)), wanted[:2])
+        expect("lasso_shared_intern_batch: the codes", codes.after, codes.after_writing(wanted[2]))
+
+    def shared_texts(self, handle, start, room):
+        wanted = reference.shared_texts(self.shares[handle], start)[:room] if self.shares[handle] else []
+        lent = room_for_texts(room)
+        expect("lasso_shared_texts: the count", self.library.call("lasso_shared_texts", SIZE, self.shared[handle].at, start, lent, room), len(wanted))
+        for number, text in enumerate(wanted):
+            self.lend_shared(handle, lent.after[16 * number : 16 * number + 16], text)
+        expect("lasso_shared_texts: the rest", lent.after[16 * len(wanted) :], lent.before[16 * len(wanted) :])
+
+    def lend_shared(self, handle, pair, text):
+        """Compares a text that a shared interner lent, and keeps where it is."""
+        address, length = struct.unpack("2Q", pair)
+        expect("a lent text's length", length, len(text))
+        expect("a lent text", ctypes.string_at(address, length), text)
+        self.shared_lent.append((self.shares[handle].interner, address, text))
 
     def shared_intern(self, handle, text):
         code = Output(1, "I", False)
@@ -367,10 +413,7 @@ class Run:
         if status != reference.DONE:
             expect("lasso_shared_text: the struct", lent.after, lent.before)
             return
-        address, length = struct.unpack("2Q", lent.after)
-        expect("a lent text's length", length, len(wanted[0]))
-        expect("a lent text", ctypes.string_at(address, length), wanted[0])
-        self.shared_lent.append((self.shares[handle].interner, address, wanted[0]))
+        self.lend_shared(handle, lent.after, wanted[0])
 
     # Columns by one call.
 

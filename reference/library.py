@@ -234,6 +234,20 @@ class SharedHandle:
         """lasso_shared_intern: the code."""
         return self.interner.intern(text)
 
+    def copy(self):
+        """lasso_shared_copy: the interner of one thread."""
+        texts = list(self.codes)[: self.seen]
+        size = sum(map(len, texts))
+        copy = Interner(2**64 - 1, size or 4096)
+        copy.codes = {text: code for code, text in enumerate(texts)}
+        copy.account.store(size)
+        return copy
+
+
+def shared_texts(handle, start):
+    """lasso_shared_texts: the texts that the handle has seen, from a code on."""
+    return list(holding(handle).codes)[start : handle.seen]
+
 
 def shared_text(handle, code):
     """lasso_shared_text: the text, if the handle has seen it."""

@@ -3,8 +3,9 @@
    usage: shared rounds SECONDS SEED     rounds of 1 to 16 threads for so many seconds, and at least one
           shared refused                 calls in one thread, each made again if it is out of memory
 
-   In a round each of some places makes calls by a handle of its own. Now and then the thread of a place ends: it joins a handle for the next
-   thread of the place and frees its own, while others go on. Each reply is noted with the times before and after the call. No call takes a
+   In a round each of some places makes calls by a handle of its own. Now and then the thread of a place ends: the handle for the next thread
+   of the place meets its own, which it frees, while others go on. Each reply is noted with the times before and after the call, and each of
+   a batch. In the end the list is lent at once, and copied for one thread. No call takes a
    second in a round in which a thread that sleeps wakes in time. On a busy machine that is not so, and threads wait for others that do not run. */
 #include "lasso.h"
 
@@ -15,9 +16,9 @@
 #include <string.h>
 #include <time.h>
 
-enum { MOST_PLACES = 16, CALLS = 20000, TEXTS = 16 * CALLS + 1000, LIVES = 8, KEPT = 64, LONG = 400 };
+enum { MOST_PLACES = 16, CALLS = 20000, TEXTS = 16 * CALLS + 1000, LIVES = 8, KEPT = 64, LONG = 400, BATCH = 8 };
 enum kind { ZIPF, DISTINCT, FEW, STARVED, KINDS };
-enum call { INTERN, GET, RESOLVE, LEN };
+enum call { INTERN, GET, RESOLVE, LEN, INTERN_BATCH };
 
 static const uint64_t SECOND = 1000000000, NAP = 5000000, IN_TIME = 10000000;
 
@@ -155,6 +156,32 @@ static void make_call(struct place *place, struct reply *reply, enum call call, 
     }
     if (status != LASSO_DONE && (call != GET || status != LASSO_NO_SUCH_TEXT))
         FAULT("status %u of call %d", (unsigned)status, (int)call);
+    place->done++;
+}
+
+/* Interns at most `most` texts, at least one, as a batch, and notes a reply for each. */
+static void make_batch(struct place *place, struct reply *replies, uint32_t most)
+{
+    uint8_t bytes[BATCH * LONG];
+    int32_t offsets[BATCH + 1] = {0};
+    uint32_t codes[BATCH], count = next(&place->state) % BATCH + 1;
+    struct lasso_report report;
+    count = count < most ? count : most;
+    for (uint32_t at = 0; at < count; at++) {
+        replies[at] = (struct reply){.call = INTERN, .number = choose(place)};
+        offsets[at + 1] = offsets[at] + (int32_t)text_of(replies[at].number, bytes + offsets[at]);
+        place->done++;
+    }
+    uint64_t start = now(CLOCK_MONOTONIC);
+    uint32_t status = lasso_shared_intern_batch_wait(&place->handle, bytes, sizeof bytes, offsets, count + 1, codes, BATCH, &report);
+    uint64_t end = now(CLOCK_MONOTONIC);
+    if (status != LASSO_DONE || report.texts != count || report.at != 0)
+        FAULT("status %u of a batch of %u texts, %zu done", (unsigned)status, (unsigned)count, report.texts);
+    for (uint32_t at = 0; at < count; at++) {
+        replies[at].code = codes[at];
+        replies[at].start = start;
+        replies[at].end = end;
+    }
 }
 
 /* The call that a place makes next. Where a writer may starve, the others look up absent texts, which takes a lock, as long as it writes. */
@@ -163,7 +190,17 @@ static enum call choose_call(struct place *place)
     uint32_t random = next(&place->state) >> 8 & 15;
     if (kind == STARVED)
         return place->number == 0 ? INTERN : GET;
-    return random < 9 ? INTERN : random < 12 ? GET : random < 15 ? RESOLVE : LEN;
+    return random < 8 ? INTERN : random < 9 ? INTERN_BATCH : random < 12 ? GET : random < 15 ? RESOLVE : LEN;
+}
+
+/* A handle that met a place's lends each text that the place was told of, with no look at the list. */
+static void check_met(const struct place *place, struct lasso_shared *handle)
+{
+    struct lasso_text lent = LASSO_NO_TEXT;
+    for (const struct reply *reply = place->replies; reply < place->replies + place->done; reply++)
+        if (reply->call != LEN && reply->number != UINT32_MAX && reply->code != UINT32_MAX
+            && (lasso_shared_text(handle, reply->code, &lent) != LASSO_DONE || number_of(lent.bytes, lent.length) != reply->number))
+            FAULT("a handle that met another one does not lend code %u as text %u", (unsigned)reply->code, (unsigned)reply->number);
 }
 
 static void *work(void *argument)
@@ -171,23 +208,29 @@ static void *work(void *argument)
     struct place *place = argument;
     struct lasso_shared handle = LASSO_SHARED_NONE;
     uint32_t last = CALLS * (uint32_t)(place->life + 1) / (uint32_t)place->lives;
+    if (lasso_shared_join(&place->handle, &handle) != LASSO_DONE)
+        FAULT("no handle for the next thread");
     while (place->done < last && !(kind == STARVED && place->number != 0 && is_written)) {
         struct reply *reply = &place->replies[place->done];
-        make_call(place, reply, choose_call(place), choose(place));
+        enum call call = choose_call(place);
+        if (call == INTERN_BATCH)
+            make_batch(place, reply, last - place->done);
+        else
+            make_call(place, reply, call, choose(place));
         uint64_t took = reply->end - reply->start;
         place->longest = took > place->longest ? took : place->longest;
-        place->done++;
         if (kind == STARVED && place->number != 0 && place->done == last)
             place->done = 0; /* what a reader was told first is noted no more */
     }
     if (kind == STARVED && place->number == 0)
         is_written = true;
-    if (++place->life == place->lives)
-        return NULL;
-    if (lasso_shared_join(&place->handle, &handle) != LASSO_DONE)
-        FAULT("no handle for the next thread");
+    if (lasso_shared_meet(&handle, &place->handle) != LASSO_DONE)
+        FAULT("two handles did not meet");
+    check_met(place, &handle);
     lasso_shared_free(&place->handle);
     place->handle = handle;
+    if (++place->life == place->lives)
+        return NULL;
     if (pthread_create(&place->threads[place->life], NULL, work, place) != 0)
         FAULT("no thread");
     return NULL;
@@ -264,6 +307,27 @@ static void check_reply(const struct reply *reply, size_t length)
     }
 }
 
+/* The list as it is lent from a code on, and a copy of it for one thread, have these texts. */
+static void check_whole(struct lasso_shared *shared, size_t length)
+{
+    static struct lasso_text texts[TEXTS];
+    struct lasso_text lent = LASSO_NO_TEXT;
+    struct lasso copy = LASSO_NONE;
+    for (size_t code = 0; code < TEXTS; code++)
+        texts[code] = (struct lasso_text)LASSO_NO_TEXT;
+    if (lasso_shared_see(shared) != LASSO_DONE || lasso_shared_texts(shared, 0, texts, TEXTS) != length)
+        FAULT("not all texts are lent");
+    if (lasso_shared_copy(shared, &copy) != LASSO_DONE || lasso_len(&copy) != length)
+        FAULT("not all texts are copied");
+    for (uint32_t code = 0; code < length; code++) {
+        if (number_of(texts[code].bytes, texts[code].length) != number_at[code])
+            FAULT("code %u is lent with another text", (unsigned)code);
+        if (lasso_text(&copy, code, &lent) != LASSO_DONE || number_of(lent.bytes, lent.length) != number_at[code])
+            FAULT("code %u is copied with another text", (unsigned)code);
+    }
+    lasso_free(&copy);
+}
+
 /* One growing list of distinct texts explains all replies, and lent texts are as they were. */
 static size_t check_round(struct lasso_shared *shared)
 {
@@ -284,7 +348,28 @@ static size_t check_round(struct lasso_shared *shared)
             FAULT("code %u has another text in the end", (unsigned)code);
     if (lasso_shared_text_now(shared, (uint32_t)length, &lent) != LASSO_NO_SUCH_CODE)
         FAULT("there is a text past the last one");
+    check_whole(shared, length);
     return calls;
+}
+
+/* An interner by one of the makers. */
+static uint32_t make_interner(uint32_t *state, struct lasso_shared *shared)
+{
+    uint32_t texts = next(state) >> 8 & 8191, one = next(state), other = next(state);
+    switch (next(state) >> 8 & 7) {
+    case 0:
+        return lasso_shared_new_sized(shared, texts);
+    case 1:
+        return lasso_shared_new_seeded(shared, one, other);
+    case 2:
+        return lasso_shared_new_sized_seeded(shared, texts, one, other);
+    case 3:
+        return lasso_shared_new_keyed(shared, one, other);
+    case 4:
+        return lasso_shared_new_sized_keyed(shared, texts, one, other);
+    default:
+        return lasso_shared_new(shared);
+    }
 }
 
 /* Draws a round, and gives each place a handle. */
@@ -295,7 +380,7 @@ static void begin_round(uint32_t *state, struct lasso_shared *shared)
     is_raced = next(state) >> 8 & 1;
     is_written = is_over = false;
     late = 0;
-    if (lasso_shared_new(shared) != LASSO_DONE)
+    if (make_interner(state, shared) != LASSO_DONE)
         FAULT("no interner");
     for (int at = 0; at < place_count; at++) {
         struct place *place = &places[at];
@@ -390,15 +475,37 @@ static bool again(uint32_t status, struct lasso_shared *shared, size_t length)
     return status == LASSO_NO_MEMORY;
 }
 
+/* A hundred new texts as a batch, which goes on after the texts that it interned before memory ran out. */
+static void intern_refused_batch(struct lasso_shared *shared)
+{
+    uint8_t bytes[100 * LONG];
+    int32_t offsets[101] = {0};
+    uint32_t codes[100], status;
+    size_t done = 0;
+    struct lasso_report report;
+    for (uint32_t at = 0; at < 100; at++)
+        offsets[at + 1] = offsets[at] + (int32_t)text_of(7000 + at, bytes + offsets[at]);
+    do {
+        status = lasso_shared_intern_batch(shared, bytes, sizeof bytes, offsets + done, 101 - done, codes + done, 100 - done, &report);
+        done += report.texts;
+    } while (again(status, shared, 6001 + done));
+    for (uint32_t at = 0; at < 100; at++)
+        if (codes[at] != 6001 + at)
+            FAULT("text %u of a batch has the code %u", (unsigned)at, (unsigned)codes[at]);
+}
+
 /* Every call in one thread, with more texts than the first buckets and the hints are made for. The requests are the library's alone. */
 static int run_refused(void)
 {
     static uint8_t long_text[200000];
     struct lasso_shared first = LASSO_SHARED_NONE, other = LASSO_SHARED_NONE, *handles[] = {&first, &other};
+    struct lasso copy = LASSO_NONE;
     uint8_t text[LONG];
     uint32_t code = 0;
     memset(long_text, 'x', sizeof long_text);
     while (again(lasso_shared_new(&first), &first, 0))
+        continue;
+    while (again(lasso_shared_new_sized_keyed(&first, 100, 1, 2), &first, 0))
         continue;
     while (again(lasso_shared_join(&first, &other), &first, 0))
         continue;
@@ -416,9 +523,17 @@ static int run_refused(void)
         continue;
     if (code != 6000 || lasso_shared_len(&first) != 6001)
         FAULT("a long text has the code %u", (unsigned)code);
+    intern_refused_batch(&first);
+    if (lasso_shared_meet(&other, &first) != LASSO_DONE)
+        FAULT("two handles did not meet");
+    while (again(lasso_shared_copy(&other, &copy), &first, 6101))
+        continue;
+    if (lasso_len(&copy) != 6101)
+        FAULT("a copy has %zu texts", lasso_len(&copy));
+    lasso_free(&copy);
     lasso_shared_free(&first);
     lasso_shared_free(&other);
-    return puts("6001 texts") < 0;
+    return puts("6101 texts") < 0;
 }
 
 int main(int count, char **words)

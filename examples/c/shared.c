@@ -111,6 +111,66 @@ static int check_many(void)
     return 0;
 }
 
+/* A copy for one thread has the texts that the handle has seen, under their codes. */
+static int check_copy(struct lasso_shared *shared, const char *const *texts, size_t count)
+{
+    struct lasso copy = LASSO_NONE;
+    struct lasso_text lent = LASSO_NO_TEXT;
+    uint32_t code;
+    CHECK(lasso_shared_copy(shared, &copy) == LASSO_DONE && lasso_len(&copy) == count);
+    for (uint32_t k = 0; k < count; k++) {
+        CHECK(lasso_text(&copy, k, &lent) == LASSO_DONE && is_lent(&lent, texts[k]));
+        CHECK(lasso_get(&copy, (const uint8_t *)texts[k], strlen(texts[k]), &code) == LASSO_DONE && code == k);
+    }
+    lasso_free(&copy);
+    return 0;
+}
+
+/* Batches, texts from a code on, meetings and copies of one interner, by hand. */
+static int check_lists_of(struct lasso_shared *shared)
+{
+    static const char *const texts[] = {"red", "blue", ""};
+    static const int32_t offsets[] = {0, 3, 7, 10, 10}, falling[] = {0, 3, 2};
+    const uint8_t *bytes = (const uint8_t *)"redbluered";
+    struct lasso_shared other = LASSO_SHARED_NONE;
+    struct lasso_text lent[4] = {LASSO_NO_TEXT, LASSO_NO_TEXT, LASSO_NO_TEXT, LASSO_NO_TEXT};
+    struct lasso_report report;
+    uint32_t codes[4] = {77, 77, 77, 77};
+    CHECK(lasso_shared_join(shared, &other) == LASSO_DONE);
+    CHECK(lasso_shared_intern_batch(shared, bytes, 10, offsets, 5, codes, 3, &report) == LASSO_CODES_TOO_SHORT && report.texts == 0);
+    CHECK(lasso_shared_intern_batch(shared, NULL, 0, NULL, 0, NULL, 0, &report) == LASSO_DONE && report.texts == 0 && codes[0] == 77);
+    CHECK(lasso_shared_intern_batch_wait(shared, bytes, 10, offsets, 5, codes, 4, &report) == LASSO_DONE);
+    CHECK(report.texts == 4 && report.at == 0 && codes[0] == 0 && codes[1] == 1 && codes[2] == 0 && codes[3] == 2);
+    CHECK(lasso_shared_intern_batch(shared, bytes, 10, falling, 3, codes, 4, &report) == LASSO_OFFSETS_FALL);
+    CHECK(report.texts == 1 && report.at == 1 && lasso_shared_len(shared) == 3);
+    CHECK(lasso_shared_texts(&other, 0, lent, 4) == 0 && is_lent(&lent[0], ""));
+    CHECK(lasso_shared_meet(&other, shared) == LASSO_DONE);
+    CHECK(lasso_shared_texts(&other, 0, lent, 4) == 3 && is_lent(&lent[0], "red") && is_lent(&lent[1], "blue") && is_lent(&lent[2], ""));
+    CHECK(lasso_shared_texts(&other, 1, lent, 1) == 1 && is_lent(&lent[0], "blue") && lasso_shared_texts(&other, 3, lent, 4) == 0);
+    CHECK(lasso_shared_texts(&other, 0, NULL, 0) == 0);
+    CHECK(check_copy(&other, texts, 3) == 0 && check_copy(shared, texts, 0) == 0);
+    lasso_shared_free(&other);
+    CHECK(lasso_shared_meet(shared, &other) == LASSO_NO_INTERNER && lasso_shared_meet(&other, shared) == LASSO_NO_INTERNER);
+    return 0;
+}
+
+/* The same by an interner of each maker. */
+static int check_lists(void)
+{
+    struct lasso_shared shared = LASSO_SHARED_NONE;
+    struct lasso copy = LASSO_NONE;
+    CHECK(lasso_shared_copy(&shared, &copy) == LASSO_NO_INTERNER && !copy.live);
+    CHECK(lasso_shared_new(&shared) == LASSO_DONE && check_lists_of(&shared) == 0);
+    CHECK(lasso_shared_new_sized(&shared, 100000) == LASSO_DONE && check_lists_of(&shared) == 0);
+    CHECK(lasso_shared_new_seeded(&shared, 7, UINT64_MAX) == LASSO_DONE && check_lists_of(&shared) == 0);
+    CHECK(lasso_shared_new_sized_seeded(&shared, 0, 7, 8) == LASSO_DONE && check_lists_of(&shared) == 0);
+    CHECK(lasso_shared_new_keyed(&shared, UINT64_MAX, 7) == LASSO_DONE && check_lists_of(&shared) == 0);
+    CHECK(lasso_shared_new_sized_keyed(&shared, 1000, 8, 7) == LASSO_DONE && check_lists_of(&shared) == 0);
+    CHECK(lasso_shared_new_sized(&shared, SIZE_MAX) == LASSO_NO_MEMORY && lasso_shared_len(&shared) == 3);
+    lasso_shared_free(&shared);
+    return 0;
+}
+
 struct worker {
     pthread_t thread;
     struct lasso_shared handle;
@@ -212,7 +272,7 @@ static int check_threads(struct worker *workers, int threads)
 int main(void)
 {
     struct worker *workers = calloc(MOST_THREADS, sizeof *workers);
-    int wrong = workers == NULL || check_calls() || check_many();
+    int wrong = workers == NULL || check_calls() || check_many() || check_lists();
     for (int threads = 1; threads <= MOST_THREADS && !wrong; threads *= 2)
         wrong = check_threads(workers, threads);
     free(workers);

@@ -23,30 +23,30 @@
  * - An array has at least as many elements as its length says, and at most 2^63 - 1 bytes.
  * - Outputs, *report included, must not overlap other arguments.
  * - A refused call, whose status is not LASSO_DONE, writes only *report and leaves its interner as it was. Only the
- *   calls whose names begin with lasso_intern_batch keep the texts before the refused one, and write their codes. A
- *   call that returns LASSO_DONE writes what is said below to the front of each output, and leaves the rest of it as
- *   it was.
+ *   calls whose names begin with lasso_intern_batch, and lasso_shared_intern_batch, keep the texts before the refused
+ *   one, and write their codes. A call that returns LASSO_DONE writes what is said below to the front of each output,
+ *   and leaves the rest of it as it was.
  * - Calls may run in several threads at once. Threads may share what all of them only read, as a dictionary from
  *   which two decode, but no handle: one call at a time uses it, even to read. While a call runs, nothing else reads or
  *   writes what it writes.
  * - No call is made in a signal handler, or in the forked child of a process with threads.
  *
- * lasso_encode and lasso_encode_nulls take memory from malloc and realloc, and free it before they return.
- * The calls whose names begin with lasso_new or lasso_intern, and lasso_clone, take memory that lasso_free frees;
- * lasso_shared_new, lasso_shared_join, lasso_shared_intern and lasso_shared_get take memory that lasso_shared_free
- * frees. The others take none. The program's malloc, realloc and
- * free have to be one allocator, whose blocks are aligned to each power of two up to 16 that divides their size,
- * as to 8 for 24 bytes.
+ * lasso_encode and lasso_encode_nulls take memory from malloc and realloc, and free it before they return. The calls
+ * whose names begin with lasso_new or lasso_intern, and lasso_clone, take memory that lasso_free frees; the calls
+ * whose names begin with lasso_shared_new or lasso_shared_intern, lasso_shared_join and lasso_shared_get take memory
+ * that lasso_shared_free frees, and lasso_shared_copy memory that lasso_free frees. The others take none. The
+ * program's malloc, realloc and free have to be one allocator, whose blocks are aligned to each power of two up to 16
+ * that divides their size, as to 8 for 24 bytes.
  *
  * A column with nulls also has Arrow's bitmap: bit i % 8 of byte i / 8, counted from the least significant one, is 1
  * if row i is present and 0 if it is a null. The calls with _nulls in their names take or write one. A null has a
  * code that the caller chooses, mostly LASSO_NULL, and no text is interned for it.
  *
- * lasso_new, lasso_new_sized and the calls that encode hash texts with a fixed seed, which suits whoever chooses the
- * texts themselves, and wants each run to take the same steps. Anyone else who chooses the texts can make them
- * collide: each search then takes time linear in the number of distinct texts, and interning n of them time quadratic
- * in n. For texts of strangers lasso_new_seeded hashes as fast with a seed that you keep secret, and lasso_new_keyed
- * by SipHash.
+ * lasso_new, lasso_shared_new, the calls that are named after these with _sized alone, and the calls that encode hash
+ * texts with a fixed seed, which suits whoever chooses the texts themselves, and wants each run to take the same
+ * steps. Anyone else who chooses the texts can make them collide: each search then takes time linear in the number of
+ * distinct texts, and interning n of them time quadratic in n. For texts of strangers lasso_new_seeded hashes as fast
+ * with a seed that you keep secret, and lasso_new_keyed by SipHash.
  *
  * To link, after "make install" has installed the library:
  *
@@ -110,7 +110,7 @@ enum lasso_status {
  * LASSO_NO_MEMORY,
  * LASSO_NO_INTERNER:       all three are 0.
  *
- * The calls whose names begin with lasso_intern_batch report something else: see there.
+ * The calls whose names begin with lasso_intern_batch, and lasso_shared_intern_batch, report something else: see there.
  */
 struct lasso_report {
     size_t texts;
@@ -517,10 +517,11 @@ void lasso_free(struct lasso *lasso);
  * call again. The interner lasts until its last handle is freed, in any order. A program with threads is linked with
  * -pthread, too.
  *
- * No call waits. lasso_shared_intern and lasso_shared_get return LASSO_BUSY if another thread is inside a step of the
- * interner, after they looked about a hundred times. The caller tries again, as lasso_shared_intern_wait and
- * lasso_shared_get_wait do. What to rely on:
- * - With LASSO_BUSY, no text was added, and nothing was written. The next call may be about another text.
+ * No call waits. lasso_shared_intern, lasso_shared_intern_batch and lasso_shared_get return LASSO_BUSY if another
+ * thread is inside a step of the interner, after they looked about a hundred times. The caller tries again, as
+ * lasso_shared_intern_wait, lasso_shared_intern_batch_wait and lasso_shared_get_wait do. What to rely on:
+ * - With LASSO_BUSY, no text was added, and nothing was written; a batch has interned the texts before the busy one,
+ *   and written their codes. The next call may be about another text.
  * - The other calls never return LASSO_BUSY: no thread can hold them up.
  * - If no other thread is inside a call, no call returns LASSO_BUSY. (This is tested, not proved.)
  * What not to rely on:
@@ -544,6 +545,35 @@ struct lasso_shared {
 uint32_t lasso_shared_new(struct lasso_shared *shared);
 
 /*
+ * lasso_shared_new for a caller that knows how much is to come: the list of texts does not grow before it has texts
+ * texts.
+ *
+ * Returns LASSO_DONE, or LASSO_NO_MEMORY, and then the handle is as it was.
+ */
+uint32_t lasso_shared_new_sized(struct lasso_shared *shared, size_t texts);
+
+/*
+ * lasso_shared_new for texts that strangers choose, as lasso_new_seeded: they are hashed with this seed of 128 bits,
+ * which you take from the system's source of random numbers and keep secret.
+ *
+ * Returns LASSO_DONE, or LASSO_NO_MEMORY, and then the handle is as it was.
+ */
+uint32_t lasso_shared_new_seeded(struct lasso_shared *shared, uint64_t seed0, uint64_t seed1);
+
+/* lasso_shared_new_seeded with the capacity of lasso_shared_new_sized. */
+uint32_t lasso_shared_new_sized_seeded(struct lasso_shared *shared, size_t texts, uint64_t seed0, uint64_t seed1);
+
+/*
+ * lasso_shared_new_seeded with SipHash-1-3 and two keys, as lasso_new_keyed.
+ *
+ * Returns LASSO_DONE, or LASSO_NO_MEMORY, and then the handle is as it was.
+ */
+uint32_t lasso_shared_new_keyed(struct lasso_shared *shared, uint64_t key0, uint64_t key1);
+
+/* lasso_shared_new_keyed with the capacity of lasso_shared_new_sized. */
+uint32_t lasso_shared_new_sized_keyed(struct lasso_shared *shared, size_t texts, uint64_t key0, uint64_t key1);
+
+/*
  * Makes another handle of the same interner in other, for another thread. If other holds one, that one is freed after
  * the new one was made.
  *
@@ -563,6 +593,25 @@ uint32_t lasso_shared_join(struct lasso_shared *shared, struct lasso_shared *oth
  * LASSO_DONE.
  */
 uint32_t lasso_shared_intern(struct lasso_shared *shared, const uint8_t *text, size_t text_length, uint32_t *code);
+
+/*
+ * Interns the texts of a layout in order, and writes a code for each, as lasso_intern_batch does. It stops at the first
+ * refused text, and at one for which another thread is inside a step; the texts before it stay, and their codes are
+ * written. report->texts is how many texts were interned, report->bytes is 0, and report->at is the number of the text
+ * that was refused or busy, from 0, or 0 if there is none. Texts of other threads may come in between.
+ *
+ * bytes, offsets      read: as in lasso_encode.
+ * codes               written. codes_length counts codes, one for each text; it may be greater.
+ *
+ * Returns LASSO_NO_INTERNER; LASSO_CODES_TOO_SHORT, or LASSO_OFFSET_PAST_BYTES if the first offset is past the bytes:
+ * then no text is interned, and the report is all 0. Else what the first text gives that is refused or busy:
+ * LASSO_OFFSETS_FALL, LASSO_OFFSET_PAST_BYTES, LASSO_NOT_UTF8, or as lasso_shared_intern; else LASSO_DONE.
+ */
+uint32_t lasso_shared_intern_batch(struct lasso_shared *shared,
+                                   const uint8_t *bytes, size_t bytes_length,
+                                   const int32_t *offsets, size_t offsets_length,
+                                   uint32_t *codes, size_t codes_length,
+                                   struct lasso_report *report);
 
 /*
  * Looks up a text, and appends nothing: *code is its code.
@@ -587,8 +636,20 @@ uint32_t lasso_shared_resolve(struct lasso_shared *shared, uint32_t code, uint8_
 uint32_t lasso_shared_see(struct lasso_shared *shared);
 
 /*
- * Lends the text of a code, of the list that the handle has seen last: when lasso_shared_new or lasso_shared_join made
- * it, or in lasso_shared_see. lasso_shared_text_now lends the text of any code. A text stays, for every thread, until
+ * Has the handle see what another handle of the same interner has seen, and the list as it is, as lasso_shared_see
+ * does: each code that the other handle's calls wrote has the same text for this handle. It hands promises from thread
+ * to thread: the caller orders the call after those of the other handle. With a handle of another interner, the call
+ * does what lasso_shared_see does.
+ *
+ * shared, other       two different handles. *other is only read.
+ *
+ * Returns LASSO_NO_INTERNER if either holds none, else LASSO_DONE.
+ */
+uint32_t lasso_shared_meet(struct lasso_shared *shared, struct lasso_shared *other);
+
+/*
+ * Lends the text of a code, of the list that the handle has seen last: when it was made, in lasso_shared_see, or in
+ * lasso_shared_meet. lasso_shared_text_now lends the text of any code. A text stays, for every thread, until
  * the last handle of the interner is freed. (What is proved covers it until the next call with its handle.)
  *
  * text                the caller's, written: one struct, which before is LASSO_NO_TEXT or a text that still lasts.
@@ -596,6 +657,27 @@ uint32_t lasso_shared_see(struct lasso_shared *shared);
  * Returns LASSO_NO_INTERNER; LASSO_NO_SUCH_CODE, also if the handle has not seen the text yet; else LASSO_DONE.
  */
 uint32_t lasso_shared_text(struct lasso_shared *shared, uint32_t code, struct lasso_text *text);
+
+/*
+ * Lends the texts from a code on, of the list that the handle has seen last, in the order of their codes: all of them,
+ * or as many as have room. Returns their number; 0 without an interner, and if the handle has seen no text of that code
+ * or a later one. A caller that has seen n texts, and sees the list again, gets those that came since from n on. The
+ * texts stay as those of lasso_shared_text do.
+ *
+ * texts               the caller's, written: a struct for each text. texts_length counts structs. Each is LASSO_NO_TEXT
+ *                     before, or a text that still lasts.
+ */
+size_t lasso_shared_texts(struct lasso_shared *shared, size_t from, struct lasso_text *texts, size_t texts_length);
+
+/*
+ * Copies the texts of the list that the handle has seen last into an interner of one thread, in lasso, under the same
+ * codes. Their bytes are in one bucket of just their size (4,096 bytes if they have none), with no limit; the seed or
+ * the keys are the same. An interner that lasso holds is freed once the new one is made. The shared interner stays as
+ * it is.
+ *
+ * Returns LASSO_NO_INTERNER; LASSO_NO_MEMORY; else LASSO_DONE. If it is not LASSO_DONE, lasso holds what it held.
+ */
+uint32_t lasso_shared_copy(struct lasso_shared *shared, struct lasso *lasso);
 
 /*
  * How many texts the interner has, without lasso_shared_see. 0 without an interner. That it counts what other handles
@@ -870,6 +952,25 @@ static inline uint32_t lasso_shared_get_inline(struct lasso_shared *shared, cons
 }
 #define lasso_shared_get lasso_shared_get_inline
 
+static inline uint32_t lasso_shared_intern_batch_inline(struct lasso_shared *shared,
+                                                        const uint8_t *bytes, size_t bytes_length,
+                                                        const int32_t *offsets, size_t offsets_length,
+                                                        uint32_t *codes, size_t codes_length,
+                                                        struct lasso_report *report)
+{
+    return lasso_shared_intern_batch(shared, (const uint8_t *)lasso_read_from(bytes, bytes_length), bytes_length,
+                                     (const int32_t *)lasso_read_from(offsets, offsets_length), offsets_length,
+                                     (uint32_t *)lasso_write_to(codes, codes_length), codes_length, report);
+}
+#define lasso_shared_intern_batch lasso_shared_intern_batch_inline
+
+static inline size_t lasso_shared_texts_inline(struct lasso_shared *shared, size_t from,
+                                               struct lasso_text *texts, size_t texts_length)
+{
+    return lasso_shared_texts(shared, from, (struct lasso_text *)lasso_write_to(texts, texts_length), texts_length);
+}
+#define lasso_shared_texts lasso_shared_texts_inline
+
 static inline uint32_t lasso_shared_resolve_inline(struct lasso_shared *shared, uint32_t code,
                                                    uint8_t *text, size_t text_length, size_t *whole)
 {
@@ -899,6 +1000,31 @@ static inline uint32_t lasso_shared_get_wait(struct lasso_shared *shared, const 
     uint32_t status;
     while ((status = lasso_shared_get(shared, text, text_length, code)) == LASSO_BUSY)
         sched_yield();
+    return status;
+}
+
+/*
+ * lasso_shared_intern_batch, and on from the busy text again and again until it is not LASSO_BUSY. In between the
+ * thread lets others run. The report is that of the whole batch.
+ */
+static inline uint32_t lasso_shared_intern_batch_wait(struct lasso_shared *shared,
+                                                      const uint8_t *bytes, size_t bytes_length,
+                                                      const int32_t *offsets, size_t offsets_length,
+                                                      uint32_t *codes, size_t codes_length,
+                                                      struct lasso_report *report)
+{
+    size_t done = 0;
+    uint32_t status;
+    while ((status = lasso_shared_intern_batch(shared, bytes, bytes_length,
+                                               done == 0 ? offsets : offsets + done, offsets_length - done,
+                                               done == 0 ? codes : codes + done, codes_length - done,
+                                               report)) == LASSO_BUSY) {
+        done += report->texts;
+        sched_yield();
+    }
+    report->texts += done;
+    if (status != LASSO_DONE && status != LASSO_NO_INTERNER)
+        report->at += done;
     return status;
 }
 

@@ -15,3 +15,4 @@ pub mod Passes
 pub mod Members
 pub mod SharedHeld
 pub mod SharedLending
+pub mod SharedBatches

@@ -1,14 +1,28 @@
 -- What a call on a handle of a shared interner is about: the member that the handle holds, if any, with its pass and the
 -- list that it has seen.
-use Rattle.std.specs.Prelude.{◌≡◌, ◌⊎◌, ℕ, Bool, true, false, List, [], Option, None, Some, Result, Err}
+use Rattle.std.specs.Prelude.{◌≡◌, ◌⊎◌, ◌-◌, ◌^◌, ℕ, Bool, true, false, List, [], Option, None, Some, Result, Err}
+use mathlib.Core.List.{IsPrefix}
 use Rattle.lasso_parts.specs.Texts.{Text}
+use Rattle.lasso_log.specs.History.{opened}
 use Rattle.lasso_log.specs.Replies.{Question, Reply}
 use Rattle.lasso_c.specs.Handles.{code_lookup_in}
 use Rattle.lasso_c.specs.declared.error.CallError.{CallError}
 use Rattle.lasso_c.specs.declared.error.CallError.TheVariants.{NoInterner}
 use Rattle.lasso_c.specs.Passes.{CopiesCall, IsCallOf, IsQuiet, texts_of}
+use Rattle.lasso_c.specs.declared.seed.Seed.{Seed}
 use Rattle.lasso_c.specs.declared.shared.member.Member.{Member}
-use Rattle.lasso_c.specs.declared.status.TheConstants.{DONE, NOT_UTF8, NO_SUCH_CODE, NO_MEMORY, LIMIT_REACHED, NO_CODE_LEFT, NO_INTERNER, NO_SUCH_TEXT, BUSY}
+use Rattle.lasso_c.specs.declared.status.TheConstants.{DONE, NOT_UTF8, NO_SUCH_CODE, NO_MEMORY, NO_CODE_LEFT, NO_INTERNER, NO_SUCH_TEXT, BUSY}
+
+-- what the hashers of the member's interner begin with, if there is one
+abbrev pub shared_seed : Option Member → Option Seed
+shared_seed None = None
+shared_seed (Some member) = Some member.shared.seed
+
+-- the handle holds the first member of a new interner with this seed, whose first bucket has this size, and which has no limit
+-- below the greatest number
+abbrev pub Begins : (size : ℕ) → Seed → Option Member → Type 0
+Begins size seed None = ⊥
+Begins size seed (Some member) = (member.pass.notes ≡ []) × (member.pass.of.opening ≡ opened [] size 0 (2 ^ 64 - 1)) × (member.shared.seed ≡ seed)
 
 -- the member made one call of its pass, with this reply
 abbrev pub Calls : (before after : Option Member) → Question → Reply ℕ → Type 0
@@ -22,9 +36,9 @@ MakesNone (Some before) (Some after) = IsQuiet before.pass after.pass
 MakesNone (Some before) None = ⊥
 MakesNone None after = after ≡ None
 
--- the member is of this interner, and has seen nothing yet
+-- the member is of this interner, with its seed, and has seen nothing yet
 abbrev pub BeginsBeside : (first second : Option Member) → Type 0
-BeginsBeside (Some first) (Some second) = (second.pass.of ≡ first.pass.of) × (second.pass.notes ≡ [])
+BeginsBeside (Some first) (Some second) = (second.pass.of ≡ first.pass.of) × (second.pass.notes ≡ []) × (second.shared.seed ≡ first.shared.seed)
 BeginsBeside (Some first) None = ⊥
 BeginsBeside None second = ⊥
 
@@ -50,6 +64,12 @@ Sees (Some before) (Some after) = IsQuiet before.pass after.pass × (after.list.
 Sees (Some before) None = ⊥
 Sees None after = after ≡ None
 
+-- the member made no event, and has seen what the other has if that is of the same interner, and the list that its pass has
+abbrev pub Meets : (before other after : Option Member) → Type 0
+Meets (Some before) (Some other) (Some after) =
+    IsQuiet before.pass after.pass × (other.pass.of ≡ before.pass.of → IsPrefix other.pass.notes after.pass.notes) × (after.list.notes ≡ after.pass.notes)
+Meets before other after = ⊥
+
 -- whether a handle holds a member decides between a status and these
 abbrev pub IsStatusOf : Option Member → (status : ℕ) → Type 0 → Type 0
 IsStatusOf None status others = status ≡ NO_INTERNER
@@ -58,7 +78,7 @@ IsStatusOf (Some _) status others = others
 -- a status of interning bytes that are UTF-8 or not
 abbrev pub IsInternStatus : (utf8 : Bool) → Option Member → (status : ℕ) → Type 0
 IsInternStatus false held status = status ≡ NOT_UTF8
-IsInternStatus true held status = IsStatusOf held status ((status ≡ DONE) ⊎ (status ≡ LIMIT_REACHED) ⊎ (status ≡ NO_CODE_LEFT) ⊎ (status ≡ NO_MEMORY) ⊎ (status ≡ BUSY))
+IsInternStatus true held status = IsStatusOf held status ((status ≡ DONE) ⊎ (status ≡ NO_CODE_LEFT) ⊎ (status ≡ NO_MEMORY) ⊎ (status ≡ BUSY))
 
 -- a status of looking bytes up that are UTF-8 or not
 abbrev pub IsGetStatus : (utf8 : Bool) → Option Member → (status : ℕ) → Type 0

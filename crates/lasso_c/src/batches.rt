@@ -116,7 +116,7 @@ pub(crate) fn intern_layout<O: Offset>(
 }
 
 // Why a batch with this first offset and `rows` rows is refused before its first row, if it is.
-fn first_fault<O: Offset>(
+pub(crate) fn first_fault<O: Offset>(
     bytes: &[u8],
     first: usize,
     rows: usize,

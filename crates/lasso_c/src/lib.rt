@@ -38,6 +38,10 @@ mod seed;
 pub mod seeded;
 pub mod shared;
 #[cfg(test)]
+mod shared_batches_tests;
+#[cfg(test)]
+mod shared_making_tests;
+#[cfg(test)]
 mod shared_tests;
 pub mod status;
 #[cfg(test)]

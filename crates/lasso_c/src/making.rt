@@ -191,7 +191,7 @@ pub(crate) fn make(
 }
 
 // Holds the interner, and lets go of one that was held. The handle is as it was out of memory.
-fn hold(alloc: Global, lasso: &mut Lasso, interner: Interner<Seed>) -> u32
+pub(crate) fn hold(alloc: Global, lasso: &mut Lasso, interner: Interner<Seed>) -> u32
     ensures held { result ≡ DONE → lasso.new.seat.value ≡ Some interner }
     ensures made { result ≡ DONE → IsSome lasso.new.seat.value }
     ensures refused { ¬ (result ≡ DONE) → result ≡ NO_MEMORY }

@@ -22,6 +22,13 @@ pub struct Interner<S: BuildHasher> {
 }
 
 impl<S: BuildHasher + Copy> Interner<S> {
+    // The interner that this `Rodeo` is, whose hashers begin with `seed`.
+    pub(crate) fn of(rodeo: Rodeo<Spur, S, Global>, seed: S) -> Interner<S>
+        ensures { (result.rodeo ≡ rodeo) × (result.seed ≡ seed) }
+    {
+        Interner { rodeo, seed }
+    }
+
     // An interner with room for `capacity`, whose buckets take at most `limit` bytes, and whose hashers begin with `seed`.
     pub(crate) fn new(
         alloc: Global,
@@ -36,7 +43,7 @@ impl<S: BuildHasher + Copy> Interner<S> {
     {
         let limits = MemoryLimits::new(limit);
         let rodeo = Rodeo::with_capacity_memory_limits_and_hasher(alloc, capacity, limits, seed)?;
-        Ok(Interner { rodeo, seed })
+        Ok(Interner::of(rodeo, seed))
     }
 
     // An interner with the same texts under the same codes, in one bucket of just their bytes, with the same seed.
@@ -47,9 +54,6 @@ impl<S: BuildHasher + Copy> Interner<S> {
         ensures seed { IfOk result (λ made. made.seed ≡ self.now.seed) }
     {
         let rodeo = self.rodeo.try_clone()?;
-        Ok(Interner {
-            rodeo,
-            seed: self.seed,
-        })
+        Ok(Interner::of(rodeo, self.seed))
     }
 }

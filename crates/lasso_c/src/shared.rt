@@ -7,45 +7,29 @@ ghost use denote.RawPtr.{null_ptr};
 ghost use Rattle.std.specs.Prelude.{◌≡◌, ◌+◌, ◌-◌, ◌^◌, ◌⊎◌, [], IfSome, IsSome, Err, None, Ok, Some};
 ghost use Rattle.std.specs.Str.{is_utf8};
 ghost use Rattle.lasso_parts.specs.declared.util.LassoErrorKind.TheVariants.{FailedAllocation, KeySpaceExhaustion, MemoryLimitReached};
-ghost use Rattle.lasso_log.specs.History.{opened};
 ghost use Rattle.lasso_log.specs.Replies.{Found, Get, Intern, Interned, Len, Number, Resolve, Resolved, Static};
+ghost use Rattle.lasso_single.specs.Copies.{clone_size, read_of};
+ghost use Rattle.lasso_c.specs.Handles.{account_in, first_in, seed_in, texts_in};
 ghost use Rattle.lasso_c.specs.Interning.{refusal_at};
 ghost use Rattle.lasso_c.specs.Status.{error_status};
-ghost use Rattle.lasso_c.specs.Members.{BeginsBeside, Calls, Copies, IsCodeStatus, IsGetStatus, IsInternStatus, MakesNone, Sees};
+ghost use Rattle.lasso_c.specs.Members.{BeginsBeside, Calls, Copies, IsCodeStatus, IsGetStatus, IsInternStatus, MakesNone, Meets, Sees, shared_seed, texts_seen};
 
+pub mod batches;
 pub mod handle;
+mod interner;
 pub mod lending;
+pub mod making;
 mod member;
 mod seat;
 
-use crate::batches::refusal_of;
-use crate::error;
-use crate::seed::Seed;
+use crate::handle::Lasso;
 use crate::shared::handle::LassoShared;
-use crate::shared::member::Member;
+use crate::shared::making::hold;
 use crate::status::*;
 use crate::utf8::text_of;
 use lasso_parts::keys::{Key, Spur};
-use lasso_parts::util::LassoError;
+use lasso_parts::util::{LassoError, LassoErrorKind};
 use std::alloc::Global;
-
-/// Makes an interner without texts, and its first handle. What the handle held is let go once it is made. It returns `NO_MEMORY`
-/// out of memory, and the handle is as it was then.
-#[unsafe(no_mangle)]
-pub extern "C" fn lasso_shared_new(alloc: Global, shared: &mut LassoShared) -> u32
-    // On success
-    ensures made { result ≡ DONE → IsSome shared.new.seat.value }
-    ensures opening { result ≡ DONE → IfSome shared.new.seat.value (λ m. (m.pass.notes ≡ []) × (m.pass.of.opening ≡ opened [] 4096 0 (2 ^ 64 - 1))) }
-
-    // On failure
-    ensures refused { ¬ (result ≡ DONE) → result ≡ NO_MEMORY }
-    ensures kept { ¬ (result ≡ DONE) → shared.new.seat.value ≡ shared.old.seat.value }
-{
-    let Some(member) = Member::new(alloc, Seed::fixed()) else {
-        return NO_MEMORY;
-    };
-    hold(alloc, shared, member)
-}
 
 /// Makes another handle of the same interner, for another thread. What `other` held is let go once it is made. It returns
 /// `NO_INTERNER` without an interner, `NO_MEMORY` out of memory or beyond the greatest number of handles, and `other` is as it was
@@ -78,12 +62,13 @@ pub extern "C" fn lasso_shared_join(
 pub extern "C" fn lasso_shared_intern(shared: &mut LassoShared, text: &[u8], code: &mut u32) -> u32
     ensures status { IsInternStatus (is_utf8 text.now) shared.old.seat.value result }
     ensures done { result ≡ DONE → Calls shared.old.seat.value shared.new.seat.value (Intern Static text.now) (Interned (Ok (code.new + 1))) }
-    ensures limit { result ≡ LIMIT_REACHED → Calls shared.old.seat.value shared.new.seat.value (Intern Static text.now) (Interned (Err MemoryLimitReached)) }
     ensures full { result ≡ NO_CODE_LEFT → Calls shared.old.seat.value shared.new.seat.value (Intern Static text.now) (Interned (Err KeySpaceExhaustion)) }
     ensures wanting { result ≡ NO_MEMORY → Calls shared.old.seat.value shared.new.seat.value (Intern Static text.now) (Interned (Err FailedAllocation)) }
     ensures busy { result ≡ BUSY → MakesNone shared.old.seat.value shared.new.seat.value }
     ensures kept { (result ≡ NOT_UTF8) ⊎ (result ≡ NO_INTERNER) → shared.new.seat.value ≡ shared.old.seat.value }
     ensures code_kept { ¬ (result ≡ DONE) → code.new ≡ code.old }
+    ensures seen { texts_seen shared.new.seat.value ≡ texts_seen shared.old.seat.value }
+    ensures seed { shared_seed shared.new.seat.value ≡ shared_seed shared.old.seat.value }
 {
     let Some(text) = text_of(text) else {
         return NOT_UTF8;
@@ -111,6 +96,8 @@ pub extern "C" fn lasso_shared_get(shared: &mut LassoShared, text: &[u8], code: 
     ensures busy { result ≡ BUSY → MakesNone shared.old.seat.value shared.new.seat.value }
     ensures kept { (result ≡ NOT_UTF8) ⊎ (result ≡ NO_INTERNER) → shared.new.seat.value ≡ shared.old.seat.value }
     ensures code_kept { ¬ (result ≡ DONE) → code.new ≡ code.old }
+    ensures seen { texts_seen shared.new.seat.value ≡ texts_seen shared.old.seat.value }
+    ensures seed { shared_seed shared.new.seat.value ≡ shared_seed shared.old.seat.value }
 {
     let Some(text) = text_of(text) else {
         return NOT_UTF8;
@@ -143,6 +130,8 @@ pub extern "C" fn lasso_shared_resolve(
     ensures kept { result ≡ NO_INTERNER → shared.new.seat.value ≡ shared.old.seat.value }
     ensures text_kept { ¬ (result ≡ DONE) → text.new ≡ text.old }
     ensures whole_kept { ¬ (result ≡ DONE) → whole.new ≡ whole.old }
+    ensures seen { texts_seen shared.new.seat.value ≡ texts_seen shared.old.seat.value }
+    ensures seed { shared_seed shared.new.seat.value ≡ shared_seed shared.old.seat.value }
 {
     let Some(member) = shared.member() else {
         return NO_INTERNER;
@@ -163,6 +152,7 @@ pub extern "C" fn lasso_shared_see(shared: &mut LassoShared) -> u32
     ensures sees { Sees shared.old.seat.value shared.new.seat.value }
     ensures none { shared.old.seat.value ≡ None → result ≡ NO_INTERNER }
     ensures done { IsSome shared.old.seat.value → result ≡ DONE }
+    ensures seed { shared_seed shared.new.seat.value ≡ shared_seed shared.old.seat.value }
 {
     let Some(member) = shared.member() else {
         return NO_INTERNER;
@@ -171,16 +161,73 @@ pub extern "C" fn lasso_shared_see(shared: &mut LassoShared) -> u32
     DONE
 }
 
+/// Has the handle see what another handle of the same interner has seen, and the list as it is, as `lasso_shared_see` does. If the
+/// other's interner is another one, it does just that. It returns `NO_INTERNER` if either handle holds none.
+#[unsafe(no_mangle)]
+pub extern "C" fn lasso_shared_meet(shared: &mut LassoShared, other: &mut LassoShared) -> u32
+    ensures meets { result ≡ DONE → Meets shared.old.seat.value other.old.seat.value shared.new.seat.value }
+    ensures none { shared.old.seat.value ≡ None → result ≡ NO_INTERNER }
+    ensures other_none { other.old.seat.value ≡ None → result ≡ NO_INTERNER }
+    ensures done { IsSome shared.old.seat.value → IsSome other.old.seat.value → result ≡ DONE }
+    ensures kept { ¬ (result ≡ DONE) → shared.new.seat.value ≡ shared.old.seat.value }
+    ensures other_kept { other.new.seat.value ≡ other.old.seat.value }
+    ensures seed { shared_seed shared.new.seat.value ≡ shared_seed shared.old.seat.value }
+{
+    let Some(met) = other.member() else {
+        return NO_INTERNER;
+    };
+    let Some(member) = shared.member() else {
+        return NO_INTERNER;
+    };
+    member.meet(met);
+    DONE
+}
+
 /// How many texts the interner has; 0 without an interner.
 #[unsafe(no_mangle)]
 pub extern "C" fn lasso_shared_len(shared: &mut LassoShared) -> usize
     ensures value { IsSome shared.old.seat.value → Calls shared.old.seat.value shared.new.seat.value Len (Number result) }
     ensures none { shared.old.seat.value ≡ None → (result ≡ 0) × (shared.new.seat.value ≡ None) }
+    ensures seen { texts_seen shared.new.seat.value ≡ texts_seen shared.old.seat.value }
+    ensures seed { shared_seed shared.new.seat.value ≡ shared_seed shared.old.seat.value }
 {
     let Some(member) = shared.member() else {
         return 0;
     };
     member.len()
+}
+
+/// Copies the texts that the handle has seen into an interner of one thread, under the same codes, in one bucket of just their bytes,
+/// or of 4096 bytes if they have none. It has no limit, and hashes with the same seed. What `lasso` held is let go once it is made.
+/// It returns `NO_INTERNER` without an interner, `NO_MEMORY` out of memory, and `lasso` is as it was then.
+#[unsafe(no_mangle)]
+pub extern "C" fn lasso_shared_copy(
+    alloc: Global,
+    shared: &mut LassoShared,
+    lasso: &mut Lasso,
+) -> u32
+    // On success
+    ensures made { result ≡ DONE → IsSome lasso.new.seat.value }
+    ensures texts { result ≡ DONE → texts_in lasso.new.seat.value ≡ texts_seen shared.old.seat.value }
+    ensures account { result ≡ DONE → account_in lasso.new.seat.value ≡ read_of (texts_seen shared.old.seat.value) }
+    ensures first { result ≡ DONE → first_in lasso.new.seat.value ≡ Some (clone_size (texts_seen shared.old.seat.value)) }
+    ensures seed { result ≡ DONE → seed_in lasso.new.seat.value ≡ shared_seed shared.old.seat.value }
+
+    // On failure
+    ensures none { shared.old.seat.value ≡ None → result ≡ NO_INTERNER }
+    ensures refused { IsSome shared.old.seat.value → ¬ (result ≡ DONE) → result ≡ NO_MEMORY }
+    ensures lasso_kept { ¬ (result ≡ DONE) → lasso.new.seat.value ≡ lasso.old.seat.value }
+
+    // What stays
+    ensures kept { shared.new.seat.value ≡ shared.old.seat.value }
+{
+    let Some(member) = shared.member() else {
+        return NO_INTERNER;
+    };
+    match member.copy(alloc) {
+        Some(made) => crate::making::hold(alloc, lasso, made),
+        None => NO_MEMORY,
+    }
 }
 
 /// Lets go of what the handle holds, if it holds something; with the last handle of an interner, of the interner. The handle is all
@@ -193,20 +240,6 @@ pub extern "C" fn lasso_shared_free(alloc: Global, shared: &mut LassoShared)
     *shared = LassoShared::none(alloc);
 }
 
-// Holds the member, and lets go of one that was held. The handle is as it was out of memory.
-fn hold(alloc: Global, shared: &mut LassoShared, member: Member) -> u32
-    ensures held { result ≡ DONE → shared.new.seat.value ≡ Some member }
-    ensures made { result ≡ DONE → IsSome shared.new.seat.value }
-    ensures refused { ¬ (result ≡ DONE) → result ≡ NO_MEMORY }
-    ensures kept { ¬ (result ≡ DONE) → shared.new.seat.value ≡ shared.old.seat.value }
-{
-    let Ok(boxed) = Box::new(alloc, member) else {
-        return NO_MEMORY;
-    };
-    shared.put(alloc, boxed);
-    DONE
-}
-
 // The key of a code, if there is one.
 pub(crate) fn key_of(code: u32) -> Option<Spur>
     ensures key { IfSome result (λ key. key - 1 ≡ code) }
@@ -215,9 +248,15 @@ pub(crate) fn key_of(code: u32) -> Option<Spur>
     Spur::try_from_usize(code as usize)
 }
 
-// The status of an interner's refusal.
+// The status of the refusal of a text that no limit counts.
 fn status_of(error: LassoError) -> u32
-    ensures { result ≡ error_status (refusal_at 0 error) }
+    requires { ¬ (error ≡ MemoryLimitReached) }
+    ensures value { result ≡ error_status (refusal_at 0 error) }
+    ensures some { (result ≡ NO_CODE_LEFT) ⊎ (result ≡ NO_MEMORY) }
 {
-    error::status_of(&refusal_of(error.kind(), 0))
+    match error.kind() {
+        LassoErrorKind::KeySpaceExhaustion => NO_CODE_LEFT,
+        LassoErrorKind::FailedAllocation => NO_MEMORY,
+        LassoErrorKind::MemoryLimitReached => unreachable!(),
+    }
 }

@@ -2,9 +2,10 @@
 use crate::lending::LassoText;
 use crate::shared::handle::LassoShared;
 use crate::shared::lending::lasso_shared_text;
+use crate::shared::making::lasso_shared_new;
 use crate::shared::{
     lasso_shared_free, lasso_shared_get, lasso_shared_intern, lasso_shared_join, lasso_shared_len,
-    lasso_shared_new, lasso_shared_resolve, lasso_shared_see,
+    lasso_shared_resolve, lasso_shared_see,
 };
 use crate::tests::checks::{Seen, has_bytes, is_as_told};
 use std::alloc::Global;

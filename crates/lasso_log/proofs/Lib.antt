@@ -18,6 +18,7 @@ pub mod LentRights
 pub mod BucketWords
 pub mod TurnWords
 pub mod NewBuckets
+pub mod Meeting
 pub mod Crossing
 pub mod FillCalls
 pub mod Reserved

@@ -13,6 +13,7 @@ pub mod kept_cell;
 pub mod known_list;
 mod limits;
 mod look;
+mod meeting;
 mod memory;
 mod new_book;
 pub mod note;

@@ -1,6 +1,8 @@
 //! A member of a shared interner: what one handle holds.
-ghost use Rattle.std.specs.Prelude.{◌≡◌, ◌-◌, ◌^◌, [], IfOk, IfSome, IsFalse, IsNone, IsTrue, None, Some, option_map, slice_get};
+ghost use Rattle.std.specs.Prelude.{◌≡◌, ◌-◌, ◌^◌, [], IfOk, IfSome, IsFalse, IsNone, IsTrue, None, Some, length, option_map, slice_get};
 ghost use Rattle.std.proofs.Props.{props};
+ghost use mathlib.Core.List.{IsPrefix};
+ghost use Rattle.lasso_single.specs.Copies.{clone_size, read_of};
 ghost use Rattle.lasso_log.specs.History.{opened};
 ghost use Rattle.lasso_log.specs.LentBuckets.{LentBucket};
 ghost use Rattle.lasso_log.specs.Replies.{Found, Get, Intern, Interned, Len, Number, Resolve, Resolved, Static};
@@ -10,13 +12,13 @@ ghost use Rattle.lasso_c.specs.Layout.{CopiesFront};
 ghost use Rattle.lasso_c.specs.Passes.{CopiesCall, IsCallOf, IsQuiet, texts_of};
 
 use crate::seed::Seed;
+use crate::seeded::Interner;
+use crate::shared::interner::SharedInterner;
 use lasso_log::log::{Pass, SeenList};
 use lasso_log::shared_memory::new_bucket::NewBucket;
 use lasso_parts::keys::Spur;
-use lasso_parts::util::LassoResult;
-use lasso_shared::threaded::ThreadedRodeo;
+use lasso_parts::util::{Capacity, LassoResult};
 use std::alloc::Global;
-use std::sync::Arc;
 
 // After how many texts a member keeps hints. They take 128 KiB, and a member of few calls saves less by them than they cost.
 const HINTS_AFTER: u32 = 4096;
@@ -25,47 +27,49 @@ const HINTS_AFTER: u32 = 4096;
 /// that it has seen.
 #[derive(Drop)]
 pub struct Member {
-    rodeo: Arc<ThreadedRodeo<Spur, Seed>, Global>,
+    shared: SharedInterner<Seed>,
     pub(crate) pass: Pass<Spur>,
     own: Option<NewBucket>,
     pub(crate) list: SeenList<Spur>,
     // How many texts were looked up, up to `HINTS_AFTER`.
     looked_up: u32,
     alloc: Global,
-    ghost of: { pass.of ≡ rodeo.value },
-    ghost list_of: { list.of ≡ rodeo.value },
-    ghost own_of: { IsOwnOf rodeo.value own } by { Prim.hlevel props },
+    ghost of: { pass.of ≡ shared.rodeo.value },
+    ghost list_of: { list.of ≡ shared.rodeo.value },
+    ghost own_of: { IsOwnOf shared.rodeo.value own } by { Prim.hlevel props },
 }
 
 impl Member {
-    // The first member of a new interner, or none out of memory.
-    pub(crate) fn new(alloc: Global, seed: Seed) -> Option<Member>
-        ensures opening { IfSome result (λ m. m.pass.of.opening ≡ opened [] 4096 0 (2 ^ 64 - 1)) }
+    // The first member of a new interner with room for `capacity`, or none out of memory.
+    pub(crate) fn new(alloc: Global, capacity: Capacity, seed: Seed) -> Option<Member>
+        ensures opening { IfSome result (λ m. m.pass.of.opening ≡ opened [] capacity.bytes 0 (2 ^ 64 - 1)) }
         ensures notes { IfSome result (λ m. m.pass.notes ≡ []) }
+        ensures seed { IfSome result (λ m. m.shared.seed ≡ seed) }
     {
-        let rodeo = ThreadedRodeo::with_hasher(alloc, seed).ok()?;
-        let rodeo = Arc::new(alloc, rodeo).ok()?;
-        Some(Member::of(alloc, rodeo))
+        let shared = SharedInterner::new(alloc, capacity, seed)?;
+        Some(Member::of(alloc, shared))
     }
 
     // Another member of the same interner, or none if there are too many.
     pub(crate) fn join(&self, alloc: Global) -> Option<Member>
         ensures of { IfSome result (λ m. m.pass.of ≡ self.now.pass.of) }
         ensures notes { IfSome result (λ m. m.pass.notes ≡ []) }
+        ensures seed { IfSome result (λ m. m.shared.seed ≡ self.now.shared.seed) }
     {
-        let rodeo = Arc::try_clone(&self.rodeo).ok()?;
-        Some(Member::of(alloc, rodeo))
+        let shared = self.shared.again()?;
+        Some(Member::of(alloc, shared))
     }
 
     // A member that has seen nothing yet.
-    fn of(alloc: Global, rodeo: Arc<ThreadedRodeo<Spur, Seed>, Global>) -> Member
-        ensures of { result.pass.of ≡ rodeo.value }
+    fn of(alloc: Global, shared: SharedInterner<Seed>) -> Member
+        ensures of { result.pass.of ≡ shared.rodeo.value }
         ensures notes { result.pass.notes ≡ [] }
+        ensures shared { result.shared ≡ shared }
     {
-        let pass = rodeo.pass();
-        let list = rodeo.seen_list_as(&mut rodeo.pass());
+        let pass = shared.rodeo.pass();
+        let list = shared.rodeo.seen_list_as(&mut shared.rodeo.pass());
         Member {
-            rodeo,
+            shared,
             pass,
             own: None,
             list,
@@ -78,7 +82,8 @@ impl Member {
     #[inline(always)]
     fn count(&mut self)
         ensures pass { self.new.pass ≡ self.old.pass }
-        ensures rodeo { self.new.rodeo ≡ self.old.rodeo }
+        ensures shared { self.new.shared ≡ self.old.shared }
+        ensures list { self.new.list ≡ self.old.list }
     {
         if self.looked_up < HINTS_AFTER {
             self.looked_up += 1;
@@ -92,9 +97,12 @@ impl Member {
     pub(crate) fn intern(&mut self, text: &str) -> Option<LassoResult<Spur>>
         ensures call { IfSome result (λ r. IsCallOf self.old.pass self.new.pass (Intern Static text.now) (Interned r)) }
         ensures busy { IsNone result → IsQuiet self.old.pass self.new.pass }
+        ensures list { self.new.list ≡ self.old.list }
+        ensures seed { self.new.shared.seed ≡ self.old.shared.seed }
     {
         self.count();
-        self.rodeo
+        self.shared
+            .rodeo
             .intern_now_as(&mut self.pass, &mut self.own, text)
     }
 
@@ -102,9 +110,11 @@ impl Member {
     pub(crate) fn get(&mut self, text: &str) -> Option<Option<Spur>>
         ensures call { IfSome result (λ found. IsCallOf self.old.pass self.new.pass (Get text.now) (Found found)) }
         ensures busy { IsNone result → IsQuiet self.old.pass self.new.pass }
+        ensures list { self.new.list ≡ self.old.list }
+        ensures seed { self.new.shared.seed ≡ self.old.shared.seed }
     {
         self.count();
-        self.rodeo.get_now_as(&mut self.pass, text)
+        self.shared.rodeo.get_now_as(&mut self.pass, text)
     }
 
     // Copies the text of a key, if there is one, as far as there is room, and tells how many bytes it has.
@@ -112,8 +122,10 @@ impl Member {
         ensures found { IsTrue result → CopiesCall self.old.pass self.new.pass (key - 1) whole.new room.old room.new }
         ensures absent { IsFalse result → IsCallOf self.old.pass self.new.pass (Resolve (key - 1)) (Resolved None) }
         ensures kept { IsFalse result → (whole.new ≡ whole.old) × (room.new ≡ room.old) }
+        ensures list { self.new.list ≡ self.old.list }
+        ensures seed { self.new.shared.seed ≡ self.old.shared.seed }
     {
-        match self.rodeo.try_resolve_as(&mut self.pass, key) {
+        match self.shared.rodeo.try_resolve_as(&mut self.pass, key) {
             None => false,
             Some(text) => {
                 copy_front(text.as_bytes(), room, whole);
@@ -126,22 +138,53 @@ impl Member {
     pub(crate) fn see(&mut self)
         ensures quiet { IsQuiet self.old.pass self.new.pass }
         ensures list { self.new.list.notes ≡ self.new.pass.notes }
+        ensures seed { self.new.shared.seed ≡ self.old.shared.seed }
     {
-        self.list = self.rodeo.seen_list_as(&mut self.pass);
+        self.list = self.shared.rodeo.seen_list_as(&mut self.pass);
+    }
+
+    // Sees what the other has seen, if it is a member of the same interner, and the list as it is.
+    pub(crate) fn meet(&mut self, other: &Member)
+        ensures quiet { IsQuiet self.old.pass self.new.pass }
+        ensures other { other.now.pass.of ≡ self.old.pass.of → IsPrefix other.now.pass.notes self.new.pass.notes }
+        ensures list { self.new.list.notes ≡ self.new.pass.notes }
+        ensures seed { self.new.shared.seed ≡ self.old.shared.seed }
+    {
+        self.pass.meet_if_same(&other.pass);
+        self.see();
+    }
+
+    // An interner of one thread with the texts of the list that was seen, which hashes with the same seed, or none out of memory.
+    pub(crate) fn copy(&self, alloc: Global) -> Option<Interner<Seed>>
+        ensures texts { IfSome result (λ made. made.rodeo.texts ≡ texts_of self.now.list) }
+        ensures account { IfSome result (λ made. read_of (texts_of self.now.list) ≡ Some made.rodeo.account) }
+        ensures first { IfSome result (λ made. made.rodeo.first ≡ clone_size (texts_of self.now.list)) }
+        ensures seed { IfSome result (λ made. made.seed ≡ self.now.shared.seed) }
+    {
+        self.shared.copy(alloc, &self.list).ok()
+    }
+
+    // How many texts the list has that was seen.
+    pub(crate) fn count_seen(&self) -> usize
+        ensures { result ≡ length (texts_of self.now.list) }
+    {
+        self.list.len()
     }
 
     // The text of a code in the list that was seen, if there is one.
     pub(crate) fn text_seen(&self, code: usize) -> Option<&str>
         ensures { option_map (λ t. t.now) result ≡ slice_get (texts_of self.now.list) code }
     {
-        self.rodeo.text_at(&self.list, code)
+        self.shared.rodeo.text_at(&self.list, code)
     }
 
     // How many texts there are.
     pub(crate) fn len(&mut self) -> usize
         ensures call { IsCallOf self.old.pass self.new.pass Len (Number result) }
+        ensures list { self.new.list ≡ self.old.list }
+        ensures seed { self.new.shared.seed ≡ self.old.shared.seed }
     {
-        self.rodeo.len_as(&mut self.pass)
+        self.shared.rodeo.len_as(&mut self.pass)
     }
 }
 

@@ -162,7 +162,7 @@ fn finds(lasso: &mut Lasso, text: &[u8], want: (u32, u32)) -> Seen {
 }
 
 // Whether these codes were written, and the call ended so.
-fn has_codes(status: u32, report: &LassoReport, codes: &[u32], want: Codes) -> Seen {
+pub fn has_codes(status: u32, report: &LassoReport, codes: &[u32], want: Codes) -> Seen {
     let is_told = told(status, report) == (want.0, want.1);
     (status, is_told && has_numbers(codes, want.2))
 }
@@ -241,7 +241,7 @@ fn lends_all(lasso: &mut Lasso, from: usize, room: usize, want: &[&[u8]]) -> See
 }
 
 // Whether these are the first texts, and no other is one.
-fn are_lent(texts: &[LassoText<'_>], want: &[&[u8]]) -> bool {
+pub fn are_lent(texts: &[LassoText<'_>], want: &[&[u8]]) -> bool {
     for at in 0..texts.len() {
         let bytes = if at < want.len() {
             want[at]

@@ -1,18 +1,18 @@
 //! The frozen forms of an interner that threads share: its texts are interned in order into a `Rodeo`, which is frozen.
-ghost use Rattle.std.specs.Prelude.{◌≡◌, ◌≤◌, ◌^◌, Err, IfOk, IfErr, length};
+ghost use Rattle.std.specs.Prelude.{◌≡◌, ◌≤◌, ◌^◌, Err, IfOk, IfErr, Some, length};
 ghost use Rattle.lasso_parts.specs.Texts.{IsDistinct, Fits};
 ghost use Rattle.lasso_parts.specs.declared.util.LassoErrorKind.TheVariants.{FailedAllocation};
-ghost use Rattle.lasso_single.specs.Copies.{bytes_of, clone_size};
+ghost use Rattle.lasso_single.specs.Copies.{bytes_of, clone_size, read_of};
 ghost use Rattle.lasso_single.specs.Interner.{IsMadeWith};
 ghost use Rattle.lasso_log.specs.History.{IsLegal, IsOpening};
 ghost use Rattle.lasso_log.specs.Replies.{Freeze, Listed};
 ghost use Rattle.lasso_log.specs.Calls.{IsPlainCall};
-ghost use Rattle.lasso_log.specs.Views.{PassView, InternerId, IsSamePass, list_of, seen};
+ghost use Rattle.lasso_log.specs.Views.{PassView, InternerId, SnapshotView, IsSamePass, list_of, seen};
 ghost use Rattle.lasso_shared.specs.PassCalls.{IsPassCall};
 
 use crate::shards::parts::Parts;
 use crate::threaded::ThreadedRodeo;
-use lasso_log::log::Pass;
+use lasso_log::log::{Pass, SeenList};
 use lasso_parts::index::Texts;
 use lasso_parts::keys::Key;
 use lasso_parts::util::LassoResult;
@@ -101,6 +101,29 @@ impl<K: Key, S: BuildHasher + Drop> ThreadedRodeo<K, S> {
     }
 }
 
+impl<K: Key, S: BuildHasher + Drop> ThreadedRodeo<K, S> {
+    /// An interner of one thread with the texts of a list that was seen, under the same keys. All texts are copied, static ones too,
+    /// into one bucket of just their bytes (4096 if they have none), and it has no limit below the greatest number. It fails only out
+    /// of memory (`FailedAllocation`), also if the texts have more bytes than a `usize` counts. It does not wait.
+    pub fn copy_list<H: BuildHasher + Drop>(
+        &self,
+        alloc: Global,
+        list: &SeenList<K>,
+        hasher: H,
+    ) -> LassoResult<Rodeo<K, H, Global>>
+        requires { list.now.of ≡ self.now }
+        ensures texts { IfOk result (λ r. r.texts ≡ list_of list.now.of list.now.notes) }
+        ensures account { IfOk result (λ r. read_of (list_of list.now.of list.now.notes) ≡ Some r.account) }
+        ensures made { IfOk result (IsMadeWith (clone_size (list_of list.now.of list.now.notes)) (bytes_of (list_of list.now.of list.now.notes))) }
+        ensures refused { IfErr result (λ error. error ≡ FailedAllocation) }
+        ensures overflow { 2 ^ 64 ≤ bytes_of (list_of list.now.of list.now.notes) → result ≡ Err FailedAllocation }
+    {
+        list.prove_legal();
+        let texts = self.shards.log.texts_of(list);
+        copy_of(alloc, hasher, &texts, list.len())
+    }
+}
+
 // An interner with the texts of a distinct list that fits the keys, in order, all copied into one bucket of
 // just their bytes (4096 if they have none), with no limit below the greatest number. There must be `len`
 // texts. It fails only out of memory (`FailedAllocation`), also if the texts have more bytes than a
@@ -115,6 +138,7 @@ fn copy_of<K: Key, S: BuildHasher + Drop, T: Texts>(
     requires distinct { IsDistinct (T.list texts.now) }
     requires fits { Fits K.key_at (length (T.list texts.now)) }
     ensures texts { IfOk result (λ r. r.texts ≡ T.list texts.now) }
+    ensures account { IfOk result (λ r. read_of (T.list texts.now) ≡ Some r.account) }
     ensures made { IfOk result (IsMadeWith (clone_size (T.list texts.now)) (bytes_of (T.list texts.now))) }
     ensures refused { IfErr result (λ error. error ≡ FailedAllocation) }
     ensures overflow { 2 ^ 64 ≤ bytes_of (T.list texts.now) → result ≡ Err FailedAllocation }

@@ -1,7 +1,8 @@
 -- The list that the pass has seen at the load of its length is the one that is copied. It is distinct and fits the keys, as the list of
 -- a legal history does.
-use Rattle.std.proofs.Common.{◌≡◌, ◌∙◌, ap, sym, subst, inl, inr, List, length, Ok, Err}
+use Rattle.std.proofs.Common.{◌≡◌, ◌≤◌, ◌^◌, ◌∙◌, ap, sym, subst, inl, inr, List, length, Ok, Err}
 use Rattle.lasso_parts.specs.Texts.{Text, IsDistinct, Fits}
+use Rattle.lasso_single.specs.Copies.{bytes_of}
 use Rattle.lasso_log.specs.Notes.{history, state}
 use Rattle.lasso_log.specs.Views.{InternerId, list_of}
 use Rattle.lasso_shared.proofs.Frozen.{frozen}
@@ -35,3 +36,10 @@ returns-clause-call g c =
     let o = c.args.self.opening in
     let after = c.len-len.new.pass.notes in
     frozen g.K.Key.key_at o c.args.pass.now.number c.args.pass.now.notes after (Err c.in-Err.error) c.len-len.ensures.since (inr (ap Err c.in-Err.ensures.refused))
+
+pub returns-in-Ok-clause-overflow : goal.returns-in-Ok-clause-overflow
+returns-in-Ok-clause-overflow g c large =
+    let after = c.len-len.new.pass.notes in
+    let mine = ap (λ (of : InternerId). list_of of after) (c.len-len.ensures.same.1 ∙ c.requires) in
+    let no = c.in-Ok.ensures.overflow (subst (λ (ts : List Text). 2 ^ 64 ≤ bytes_of ts) (sym (c.seen_texts-texts.ensures ∙ mine)) large) in
+    absurd (cc no)
