@@ -2,12 +2,12 @@
 use Rattle.std.proofs.Common.{ℕ, ◌≡◌, ◌++◌, List, length, map, Option, Result, Err, Bool, sym, ap, subst, ◌∙◌, append_assoc}
 use Rattle.std.specs.Prelude.{flat_map}
 use Rattle.std.proofs.lemmas.List.{length-map}
+use Rattle.std.proofs.lemmas.List.Folds.{flat_map-map}
 use Rattle.lasso_parts.specs.Texts.{Text}
 use Rattle.lasso_codes.specs.Columns.{column_of, entries_of, entry_at, entry_bytes, head_of, header}
 use Rattle.lasso_codes.specs.Distinct.{with_feed}
 use Rattle.lasso_codes.specs.Streams.{Writes, WritesAll}
 use Rattle.lasso_codes.specs.declared.error.RunError.{RunError}
-use Rattle.lasso_codes.proofs.Flat.{flat_seen}
 use Rattle.lasso_codes.proofs.Written.{writes_front, writes_front_fails}
 
 module _ (binary : Bool) (list : List Text) (numbers : List ℕ) where
@@ -15,7 +15,7 @@ module _ (binary : Bool) (list : List Text) (numbers : List ℕ) where
   pub head_whole : column_of binary list (map entry_at numbers) ≡ head_of binary list (length numbers) ++ entries_of binary numbers
   head_whole =
       let texts = flat_map with_feed list in
-      ap (λ bs. header binary (length list) (length (map entry_at numbers)) ++ (texts ++ bs)) (flat_seen (entry_bytes binary) entry_at numbers)
+      ap (λ bs. header binary (length list) (length (map entry_at numbers)) ++ (texts ++ bs)) (flat_map-map (entry_bytes binary) entry_at numbers)
       ∙ ap (λ n. header binary (length list) n ++ (texts ++ entries_of binary numbers)) (length-map numbers entry_at)
       ∙ sym (append_assoc (header binary (length list) (length numbers)) texts (entries_of binary numbers))
 

@@ -30,6 +30,7 @@ use Rattle.lasso_codes.specs.declared.error.RunError.{RunError}
 use Rattle.lasso_codes.specs.declared.error.RunError.TheVariants.{Line, TooManyLines, ReadFailed, WriteFailed, ReaderGone, Column}
 use Rattle.lasso_codes.proofs.LineTexts.{extend_line, texts_push}
 use Rattle.lasso_codes.proofs.Taken.{taken_push, taken_all, taken_fails, taken_first, taken_let_in, taken_few, taken_next}
+use Rattle.lasso_codes.proofs.Failing.{by_read_error, by_write_end, by_write_error}
 
 -- one line more
 -- no line was counted
@@ -79,14 +80,10 @@ module _ (input rest : List ℕ) (only : Bool) (number : ℕ) (old now : Interne
   counting_many limit after many = omega (arith, so_far.taken.counted, lines_few, many)
 
   pub counting_read_fails : (limit : ℕ) (before after : Option (List ℕ)) (error : RunError) → old ≡ made_with 4096 limit → before ≡ Some rest → LosesPart before after → IsReadError number error → CountingError only limit (lines_of input) after error
-  counting_read_fails limit before after (Line error) made there lost is =
-      (length so_far.done, inr (first_let_in, (now, first_list limit made, inl (is ∙ ap (λ n. Refused n FailedAllocation) (sym so_far.taken.counted), lines_few))))
-  counting_read_fails limit before after TooManyLines made there lost is = absurd is
-  counting_read_fails limit before after ReadFailed made there lost is =
+  counting_read_fails limit before after error made there lost is =
+      by_read_error (CountingError only limit (lines_of input) after) number error is
+      (length so_far.done, inr (first_let_in, (now, first_list limit made, inl (ap (λ n. Refused n FailedAllocation) (sym so_far.taken.counted), lines_few))))
       (length so_far.done, (first_let_in, (now, first_list limit made)), taken_fails input rest only number so_far.done so_far.taken before after there lost)
-  counting_read_fails limit before after WriteFailed made there lost is = absurd is
-  counting_read_fails limit before after ReaderGone made there lost is = absurd is
-  counting_read_fails limit before after (Column column error) made there lost is = absurd is
 
   -- the next line is refused or not let in
   pub counting_line_fails : (limit : ℕ) (after : Option (List ℕ)) (line left : List ℕ) (error : LineError) → old ≡ made_with 4096 limit → lines_of rest ≡ line ∷ lines_of left → IsLineFault only now line number error → CountingError only limit (lines_of input) after (Line error)
@@ -125,12 +122,8 @@ lines_fail see xs i d part more error small so_far written =
 -- a report is written, or a beginning of it
 pub report_written : (input : List ℕ) (only : Bool) (limit top : ℕ) (after : Option (List ℕ)) (ranked : List (ℕ × Text)) (part : List ℕ) (result : Result (Unit {0}) RunError) → AreTaken only limit (lines_of input) → IsPermutation (counted_lines (lines_of input)) ranked → IsSorted ranked_cmp ranked → sum_by (λ pair. pair.0) ranked ≡ length (lines_of input) → WritesAll (flat_map count_line (take top ranked)) result part → CountsEnd input only limit top after part result
 report_written input only limit top after ranked part (Ok x) texts order sorted total written = (texts, (ranked, order, sorted, total, written))
-report_written input only limit top after ranked part (Err (Line error)) texts order sorted total written = absurd written.0
-report_written input only limit top after ranked part (Err TooManyLines) texts order sorted total written = absurd written.0
-report_written input only limit top after ranked part (Err ReadFailed) texts order sorted total written = absurd written.0
-report_written input only limit top after ranked part (Err WriteFailed) texts order sorted total written = inr (flat_map count_line (take top ranked), (ranked, order, sorted, total, refl), written.1)
-report_written input only limit top after ranked part (Err ReaderGone) texts order sorted total written = inr (flat_map count_line (take top ranked), (ranked, order, sorted, total, refl), written.1)
-report_written input only limit top after ranked part (Err (Column column error)) texts order sorted total written = absurd written.0
+report_written input only limit top after ranked part (Err error) texts order sorted total written =
+    let begun : IsBegun (lines_of input) top part = inr (flat_map count_line (take top ranked), (ranked, order, sorted, total, refl), written.1) in by_write_error (λ e. CountsEnd input only limit top after part (Err e)) error written.0 begun begun
 
 -- lines were not counted, and nothing is written
 pub none_written : (input : List ℕ) (only : Bool) (limit top : ℕ) (after : Option (List ℕ)) (error : RunError) → CountingError only limit (lines_of input) after error → CountsEnd input only limit top after [] (Err error)
@@ -166,16 +159,8 @@ end_begun input only limit top after part (Err WriteFailed) end = end
 end_begun input only limit top after part (Err ReaderGone) end = end
 end_begun input only limit top after part (Err (Column column error)) end = absurd end
 
-write_end : (input : List ℕ) (only : Bool) (limit top : ℕ) (after : Option (List ℕ)) (part : List ℕ) (result : Result (Unit {0}) RunError) → IsBegun (lines_of input) top part → IsWriteEnd result → CountsEnd input only limit top after part result
-write_end input only limit top after part (Ok x) begun is = absurd is
-write_end input only limit top after part (Err (Line error)) begun is = absurd is
-write_end input only limit top after part (Err TooManyLines) begun is = absurd is
-write_end input only limit top after part (Err ReadFailed) begun is = absurd is
-write_end input only limit top after part (Err WriteFailed) begun is = begun
-write_end input only limit top after part (Err ReaderGone) begun is = begun
-write_end input only limit top after part (Err (Column column error)) begun is = absurd is
-
 -- the run ends as it did before the flush, or with the error of the flush
 pub end_then : (input : List ℕ) (only : Bool) (limit top : ℕ) (after : Option (List ℕ)) (part : List ℕ) (given result : Result (Unit {0}) RunError) → CountsEnd input only limit top after part given → (result ≡ given) ⊎ IsWriteEnd result → CountsEnd input only limit top after part result
 end_then input only limit top after part given result end (inl same) = subst (CountsEnd input only limit top after part) (sym same) end
-end_then input only limit top after part given result end (inr is) = write_end input only limit top after part result (end_begun input only limit top after part given end) is
+end_then input only limit top after part given result end (inr is) =
+    let begun = end_begun input only limit top after part given end in by_write_end (CountsEnd input only limit top after part) result is begun begun

@@ -27,6 +27,7 @@ use Rattle.lasso_codes.specs.declared.error.RunError.TheVariants.{Line, TooManyL
 use Rattle.lasso_codes.specs.declared.reading.Header.{Header}
 use Rattle.lasso_codes.proofs.Cuts.{ColumnRead, Refuses, entries_cut, head_local, short_after, short_as, texts_local}
 use Rattle.lasso_codes.proofs.Items.{before_error, column_read, column_unread, entries_all, entries_fail, entries_first, entries_push, entry_error, texts_read}
+use Rattle.lasso_codes.proofs.Failing.{by_read_error, by_write_end, by_write_error}
 
 -- ---- the bytes of lines
 
@@ -56,21 +57,12 @@ begins_after part more xs ys is b =
 
 -- a read failed, or there was no memory
 lines_some : (read : ReadItems Text) (column m : ℕ) (part : List ℕ) (error : RunError) → part ≡ fed_lines (take m read.0) → IsReadError 0 error → DecodingError read column part error
-lines_some read column m part (Line error) first is = (is, (m, first))
-lines_some read column m part TooManyLines first is = absurd is
-lines_some read column m part ReadFailed first is = (m, first)
-lines_some read column m part WriteFailed first is = absurd is
-lines_some read column m part ReaderGone first is = absurd is
-lines_some read column m part (Column number error) first is = absurd is
+lines_some read column m part error first is = by_read_error (DecodingError read column part) 0 error is (refl, (m, first)) (m, first)
 
 -- a part of a line was written
 lines_begun : (read : ReadItems Text) (column : ℕ) (line : Text) (part more : List ℕ) (error : RunError) → Begins (part ++ with_feed line) (fed_lines read.0) → WritesAll (with_feed line) (Err error) more → DecodingError read column (part ++ more) error
-lines_begun read column line part more (Line error) front written = absurd written.0
-lines_begun read column line part more TooManyLines front written = absurd written.0
-lines_begun read column line part more ReadFailed front written = absurd written.0
-lines_begun read column line part more WriteFailed front written = begun_more part more (with_feed line) (fed_lines read.0) front written.1
-lines_begun read column line part more ReaderGone front written = begun_more part more (with_feed line) (fed_lines read.0) front written.1
-lines_begun read column line part more (Column number error) front written = absurd written.0
+lines_begun read column line part more error front written =
+    let begun = begun_more part more (with_feed line) (fed_lines read.0) front written.1 in by_write_error (DecodingError read column (part ++ more)) error written.0 begun begun
 
 module _ (make : Makes Text) (header : Header) (bytes rest : List ℕ) (count : ℕ) (part : List ℕ) (so_far : LinesAhead make header.binary bytes rest count part) where
   abbrev lines_read : ReadItems Text
@@ -231,12 +223,9 @@ module _ (only : Bool) (input : List ℕ) (limit : ℕ) (null : Option Text) (re
 
   -- a read failed, or there was no memory
   pub columns_read_fails : (after : Option (List ℕ)) (error : RunError) → IsReadError 0 error → StopsShort rest after (DecodesPart only limit null way.lines (part ++ [])) → DecodeEnd input only limit null after part (Err error)
-  columns_read_fails after (Line error) is short = (is, whole_so_far)
-  columns_read_fails after TooManyLines is short = absurd is
-  columns_read_fails after ReadFailed is short = (whole_so_far, subst (λ bs. StopsShort input after (DecodesShort only limit null bs)) (append-nil part) (columns_cut after [] short))
-  columns_read_fails after WriteFailed is short = absurd is
-  columns_read_fails after ReaderGone is short = absurd is
-  columns_read_fails after (Column number error) is short = absurd is
+  columns_read_fails after error is short =
+      by_read_error (λ e. DecodeEnd input only limit null after part (Err e)) 0 error is (refl, whole_so_far)
+      (whole_so_far, subst (λ bs. StopsShort input after (DecodesShort only limit null bs)) (append-nil part) (columns_cut after [] short))
 
   pub columns_unmade : (after : Option (List ℕ)) (error : RunError) → error ≡ Line (Refused 0 FailedAllocation) → DecodeEnd input only limit null after part (Err error)
   columns_unmade after error is = subst (λ f. DecodeEnd input only limit null after part (Err f)) (sym is) (refl, whole_so_far)
@@ -399,16 +388,8 @@ end_begun only input limit null after part (Err ReaderGone) end = end
 end_begun only input limit null after part (Err (Column column error)) end =
     (end.0, end.1, end.2, end.3, subst (λ bs. Begins bs (fed_lines (end.1 ++ (decoded only null end.2).0))) (sym end.7) (before_begins only null end.2 end.1 error))
 
-write_end : (only : Bool) (input : List ℕ) (limit : ℕ) (null : Option Text) (after : Option (List ℕ)) (part : List ℕ) (result : Result (Unit {0}) RunError) → IsBegun input only null part → IsWriteEnd result → DecodeEnd input only limit null after part result
-write_end only input limit null after part (Ok x) begun is = absurd is
-write_end only input limit null after part (Err (Line error)) begun is = absurd is
-write_end only input limit null after part (Err TooManyLines) begun is = absurd is
-write_end only input limit null after part (Err ReadFailed) begun is = absurd is
-write_end only input limit null after part (Err WriteFailed) begun is = begun
-write_end only input limit null after part (Err ReaderGone) begun is = begun
-write_end only input limit null after part (Err (Column column error)) begun is = absurd is
-
 -- the run ends as it did before the flush, or with the error of the flush
 pub end_then : (only : Bool) (input : List ℕ) (limit : ℕ) (null : Option Text) (after : Option (List ℕ)) (part : List ℕ) (given result : Result (Unit {0}) RunError) → DecodeEnd input only limit null after part given → (result ≡ given) ⊎ IsWriteEnd result → DecodeEnd input only limit null after part result
 end_then only input limit null after part given result end (inl same) = subst (DecodeEnd input only limit null after part) (sym same) end
-end_then only input limit null after part given result end (inr is) = write_end only input limit null after part result (end_begun only input limit null after part given end) is
+end_then only input limit null after part given result end (inr is) =
+    let begun = end_begun only input limit null after part given end in by_write_end (DecodeEnd input only limit null after part) result is begun begun

@@ -30,6 +30,7 @@ use Rattle.lasso_codes.specs.declared.error.RunError.{RunError}
 use Rattle.lasso_codes.specs.declared.error.RunError.TheVariants.{Line, TooManyLines, ReadFailed, WriteFailed, ReaderGone, Column}
 use Rattle.lasso_codes.proofs.LineTexts.{distinct_are_bytes, extend_line, lines_are_bytes, list_of_lines, position_of_text}
 use Rattle.lasso_codes.proofs.Taken.{taken_push, taken_all, taken_first, taken_let_in, taken_few, taken_next}
+use Rattle.lasso_codes.proofs.Failing.{by_read_error, by_write_end, by_write_error}
 
 -- ---- the report of one line more
 
@@ -144,21 +145,13 @@ module _ (input : List ℕ) (only : Bool) (limit : ℕ) (rest : List ℕ) (numbe
   fails_at before after there lost = let cut = lost rest there in (cut.1, cut.2, fails_where cut.0 cut.1 cut.3 cut.4 way.fed)
 
   pub way_read_fails : (before after : Option (List ℕ)) (error : RunError) → before ≡ Some rest → LosesPart before after → IsReadError number error → DistinctEnd input only limit after part (Err error)
-  way_read_fails before after (Line error) there lost is =
-      (length way.done, way_first, inr (first_let_in, (now, first_list, inl (is ∙ ap (λ n. Refused n FailedAllocation) (sym number_is), lines_few))))
-  way_read_fails before after TooManyLines there lost is = absurd is
-  way_read_fails before after ReadFailed there lost is = (length way.done, way_first, first_taken, fails_at before after there lost)
-  way_read_fails before after WriteFailed there lost is = absurd is
-  way_read_fails before after ReaderGone there lost is = absurd is
-  way_read_fails before after (Column column error) there lost is = absurd is
+  way_read_fails before after error there lost is =
+      by_read_error (λ e. DistinctEnd input only limit after part (Err e)) number error is
+      (length way.done, way_first, inr (first_let_in, (now, first_list, inl (ap (λ n. Refused n FailedAllocation) (sym number_is), lines_few))))
+      (length way.done, way_first, first_taken, fails_at before after there lost)
 
   pub way_write_fails : (after : Option (List ℕ)) (error : RunError) → IsWriteError error → DistinctEnd input only limit after part (Err error)
-  way_write_fails after (Line error) is = absurd is
-  way_write_fails after TooManyLines is = absurd is
-  way_write_fails after ReadFailed is = absurd is
-  way_write_fails after WriteFailed is = way_begins
-  way_write_fails after ReaderGone is = way_begins
-  way_write_fails after (Column column error) is = absurd is
+  way_write_fails after error is = by_write_error (λ e. DistinctEnd input only limit after part (Err e)) error is way_begins way_begins
 
   -- the next line is refused or not let in, or a part of it was written
   passed_begins : (line more : List ℕ) (left : List (List ℕ)) → lines_of rest ≡ line ∷ left → IsBytes line → Begins more (passed now.texts line) → Begins (part ++ more) (distinct_report (lines_of input))
@@ -199,16 +192,8 @@ end_begins input only limit after part (Err WriteFailed) end = end
 end_begins input only limit after part (Err ReaderGone) end = end
 end_begins input only limit after part (Err (Column column error)) end = absurd end
 
-write_end : (input : List ℕ) (only : Bool) (limit : ℕ) (after : Option (List ℕ)) (part : List ℕ) (result : Result (Unit {0}) RunError) → Begins part (distinct_report (lines_of input)) → IsWriteEnd result → DistinctEnd input only limit after part result
-write_end input only limit after part (Ok x) begun is = absurd is
-write_end input only limit after part (Err (Line error)) begun is = absurd is
-write_end input only limit after part (Err TooManyLines) begun is = absurd is
-write_end input only limit after part (Err ReadFailed) begun is = absurd is
-write_end input only limit after part (Err WriteFailed) begun is = begun
-write_end input only limit after part (Err ReaderGone) begun is = begun
-write_end input only limit after part (Err (Column column error)) begun is = absurd is
-
 -- the run ends as it did before the flush, or with the error of the flush
 pub end_then : (input : List ℕ) (only : Bool) (limit : ℕ) (after : Option (List ℕ)) (part : List ℕ) (given result : Result (Unit {0}) RunError) → DistinctEnd input only limit after part given → (result ≡ given) ⊎ IsWriteEnd result → DistinctEnd input only limit after part result
 end_then input only limit after part given result end (inl same) = subst (DistinctEnd input only limit after part) (sym same) end
-end_then input only limit after part given result end (inr is) = write_end input only limit after part result (end_begins input only limit after part given end) is
+end_then input only limit after part given result end (inr is) =
+    let begun = end_begins input only limit after part given end in by_write_end (DistinctEnd input only limit after part) result is begun begun

@@ -20,7 +20,6 @@ use Rattle.lasso_single.specs.Coding.{spur_at}
 use Rattle.hex.specs.Hex.{IsBytes}
 use Rattle.lasso_input.specs.Lines.{lines_of}
 use Rattle.lasso_input.specs.Texts.{line_of, text_of}
-use Rattle.lasso_columns.specs.Parts.{new_texts}
 use Rattle.lasso_columns.specs.declared.faults.LineError.{LineError}
 use Rattle.lasso_columns.specs.declared.faults.LineError.TheVariants.{Refused}
 use Rattle.lasso_columns.specs.Rows.{is_null, texts_of}
@@ -35,6 +34,7 @@ use Rattle.lasso_codes.specs.declared.error.RunError.TheVariants.{Line, TooManyL
 use Rattle.lasso_codes.proofs.FewTexts.{few_texts}
 use Rattle.lasso_codes.proofs.LineTexts.{distinct_are_bytes, extend_line, kept_are_bytes, lines_are_bytes, lines_back, list_of_lines, position_of_text}
 use Rattle.lasso_codes.proofs.Taken.{taken_fails, taken_push, taken_all, taken_first, taken_let_in, taken_few, taken_next}
+use Rattle.lasso_codes.proofs.Failing.{by_read_error, by_write_end, by_write_error}
 
 -- ---- numbers of lines
 
@@ -161,15 +161,11 @@ module _ (input rest : List ℕ) (only : Bool) (number : ℕ) (null : Option Tex
   lacks error is (Some line) = subst (IsNoNull null line) (sym is) (inl refl)
 
   pub encoding_read_fails : (limit : ℕ) (before after : Option (List ℕ)) (error : RunError) → old ≡ made_with 4096 limit → before ≡ Some rest → LosesPart before after → IsReadError number error → EncodingError only limit null (lines_of input) after error
-  encoding_read_fails limit before after (Line error) made there lost is =
-      let full = is ∙ ap (λ n. Refused n FailedAllocation) (sym so_far.taken.counted) in
-      (length so_far.done, inr (first_let_in, (now, first_list limit made, inl (full, lines_few)), lacks error full (slice_get (lines_of input) (length so_far.done))))
-  encoding_read_fails limit before after TooManyLines made there lost is = absurd is
-  encoding_read_fails limit before after ReadFailed made there lost is =
+  encoding_read_fails limit before after error made there lost is =
+      let full = ap (λ n. Refused n FailedAllocation) (sym so_far.taken.counted) in
+      by_read_error (EncodingError only limit null (lines_of input) after) number error is
+      (length so_far.done, inr (first_let_in, (now, first_list limit made, inl (full, lines_few)), lacks (Refused number FailedAllocation) full (slice_get (lines_of input) (length so_far.done))))
       (length so_far.done, first_let_in, (now, first_list limit made), taken_fails input rest only number so_far.done so_far.taken before after there lost)
-  encoding_read_fails limit before after WriteFailed made there lost is = absurd is
-  encoding_read_fails limit before after ReaderGone made there lost is = absurd is
-  encoding_read_fails limit before after (Column column error) made there lost is = absurd is
 
   -- the next line is refused or not let in
   pub encoding_line_fails : (limit : ℕ) (after : Option (List ℕ)) (line left : List ℕ) (error : LineError) → old ≡ made_with 4096 limit → lines_of rest ≡ line ∷ lines_of left → IsLineFault only now line number error → IsNoNull null line error → EncodingError only limit null (lines_of input) after (Line error)
@@ -184,12 +180,7 @@ module _ (input rest : List ℕ) (only : Bool) (number : ℕ) (null : Option Tex
 
 written_end : (input : List ℕ) (only : Bool) (limit : ℕ) (null : Option Text) (binary : Bool) (after : Option (List ℕ)) (part : List ℕ) (result : Result (Unit {0}) RunError) → AreLetIn only (lines_of input) → AreCodable null (lines_of input) → Admits limit (line_texts (texts_of null (lines_of input))) → WritesAll (column_bytes binary null (lines_of input)) result part → EncodeEnd input only limit null binary after part result
 written_end input only limit null binary after part (Ok x) texts few admitted written = (texts, written, few, admitted)
-written_end input only limit null binary after part (Err (Line error)) texts few admitted written = absurd written.0
-written_end input only limit null binary after part (Err TooManyLines) texts few admitted written = absurd written.0
-written_end input only limit null binary after part (Err ReadFailed) texts few admitted written = absurd written.0
-written_end input only limit null binary after part (Err WriteFailed) texts few admitted written = written.1
-written_end input only limit null binary after part (Err ReaderGone) texts few admitted written = written.1
-written_end input only limit null binary after part (Err (Column column error)) texts few admitted written = absurd written.0
+written_end input only limit null binary after part (Err error) texts few admitted written = by_write_error (λ e. EncodeEnd input only limit null binary after part (Err e)) error written.0 written.1 written.1
 
 -- a column is written, or a beginning of it
 pub column_written : (input : List ℕ) (only : Bool) (limit : ℕ) (null : Option Text) (binary : Bool) (after : Option (List ℕ)) (table list : List Text) (numbers : List ℕ) (part : List ℕ) (result : Result (Unit {0}) RunError) → AreLetIn only (lines_of input) → table ≡ map line_of list → AreNumbered null (lines_of input) list numbers → Admits limit (line_texts (texts_of null (lines_of input))) → length numbers < 2 ^ 64 → WritesAll (column_of binary table (map entry_at numbers)) result part → EncodeEnd input only limit null binary after part result
@@ -229,16 +220,8 @@ end_begun input only limit null binary after part (Err WriteFailed) end = end
 end_begun input only limit null binary after part (Err ReaderGone) end = end
 end_begun input only limit null binary after part (Err (Column column error)) end = absurd end
 
-write_end : (input : List ℕ) (only : Bool) (limit : ℕ) (null : Option Text) (binary : Bool) (after : Option (List ℕ)) (part : List ℕ) (result : Result (Unit {0}) RunError) → Begins part (column_bytes binary null (lines_of input)) → IsWriteEnd result → EncodeEnd input only limit null binary after part result
-write_end input only limit null binary after part (Ok x) begun is = absurd is
-write_end input only limit null binary after part (Err (Line error)) begun is = absurd is
-write_end input only limit null binary after part (Err TooManyLines) begun is = absurd is
-write_end input only limit null binary after part (Err ReadFailed) begun is = absurd is
-write_end input only limit null binary after part (Err WriteFailed) begun is = begun
-write_end input only limit null binary after part (Err ReaderGone) begun is = begun
-write_end input only limit null binary after part (Err (Column column error)) begun is = absurd is
-
 -- the run ends as it did before the flush, or with the error of the flush
 pub end_then : (input : List ℕ) (only : Bool) (limit : ℕ) (null : Option Text) (binary : Bool) (after : Option (List ℕ)) (part : List ℕ) (given result : Result (Unit {0}) RunError) → EncodeEnd input only limit null binary after part given → (result ≡ given) ⊎ IsWriteEnd result → EncodeEnd input only limit null binary after part result
 end_then input only limit null binary after part given result end (inl same) = subst (EncodeEnd input only limit null binary after part) (sym same) end
-end_then input only limit null binary after part given result end (inr is) = write_end input only limit null binary after part result (end_begun input only limit null binary after part given end) is
+end_then input only limit null binary after part given result end (inr is) =
+    let begun = end_begun input only limit null binary after part given end in by_write_end (EncodeEnd input only limit null binary after part) result is begun begun

@@ -10,8 +10,8 @@ use Rattle.std.specs.IoError.{error_kind}
 use Rattle.std.specs.declared.io.Error.{Error}
 use Rattle.std.specs.declared.io.ErrorKind.TheVariants.{OutOfMemory}
 use Rattle.std.specs.Str.{is_utf8, IsUtf8}
-use Rattle.std.proofs.Math.Seq.{take-append_seam}
-use Rattle.std.proofs.lemmas.List.{length-map, take-append-drop, take_all}
+use Rattle.std.proofs.Math.Seq.{drop-append_seam, take-append_seam}
+use Rattle.std.proofs.lemmas.List.{drop-map, length-map, take-append-drop, take-append-le, take-map, take_all}
 use Rattle.std.proofs.lemmas.List.Elements.{All-cons, All-head, All-nil, All-tail}
 use Rattle.std.proofs.lemmas.Str.{is_utf8-from_IsUtf8}
 use Rattle.hex.specs.Hex.{IsBytes}
@@ -45,10 +45,6 @@ use Rattle.lasso_codes.proofs.EncodedLines.{encoding_ends, encoding_interned}
 use Rattle.lasso_codes.proofs.LineTexts.{same_texts}
 
 -- ---- results
-
-pub ok_then : {X E : Type 0} {P Q : Type 0} (r : Result X E) → OnOk r P → (P → Q) → OnOk r Q
-ok_then (Ok x) p go = go p
-ok_then (Err e) p go = tt
 
 pub ok_both : {X E : Type 0} {P P' Q : Type 0} (r : Result X E) → OnOk r P → OnOk r P' → (P → P' → Q) → OnOk r Q
 ok_both (Ok x) p p' go = go p p'
@@ -140,20 +136,6 @@ pub record RowsRun (only : Bool) (null : Option Text) (old now : InternerView) (
   pub entries_are : AreEntries null now.texts done entries
   pub list : extend spur_at old (line_texts (texts_of null done)) accepted now
 
-map_take : (f : Text → Text) (n : ℕ) (xs : List Text) → map f (take n xs) ≡ take n (map f xs)
-map_take f zero xs = refl
-map_take f (suc n) [] = refl
-map_take f (suc n) (x ∷ xs) = ap (λ (ys : List Text). f x ∷ ys) (map_take f n xs)
-
-map_drop : (f : Text → Text) (n : ℕ) (xs : List Text) → map f (drop n xs) ≡ drop n (map f xs)
-map_drop f zero xs = refl
-map_drop f (suc n) [] = refl
-map_drop f (suc n) (x ∷ xs) = map_drop f n xs
-
-drop_seam : (xs ys : List Text) → drop (length xs) (xs ++ ys) ≡ ys
-drop_seam [] ys = refl
-drop_seam (x ∷ xs) ys = drop_seam xs ys
-
 all_take : (n : ℕ) (lines : List Text) → All IsBytes lines → All IsBytes (take n lines)
 all_take zero lines all = All-nil IsBytes
 all_take (suc n) [] all = All-nil IsBytes
@@ -168,10 +150,10 @@ module _ (only : Bool) (null : Option Text) (old now : InternerView) (first rest
 
   -- the texts that were encoded are those of the first lines
   run_texts : map (text_by only) run_done ≡ rows.done
-  run_texts = map_take (text_by only) run_len first ∙ ap (take run_len) rows.split ∙ take-append_seam rows.done rest
+  run_texts = sym (take-map (text_by only) run_len first) ∙ ap (take run_len) rows.split ∙ take-append_seam rows.done rest
 
   pub run_rest : map (text_by only) (drop run_len first) ≡ rest
-  run_rest = map_drop (text_by only) run_len first ∙ ap (drop run_len) rows.split ∙ drop_seam rows.done rest
+  run_rest = sym (drop-map (text_by only) run_len first) ∙ ap (drop run_len) rows.split ∙ drop-append_seam rows.done rest
 
   run_bytes : All IsBytes run_done
   run_bytes = all_take run_len first bytes
@@ -269,11 +251,6 @@ longer_at n [] rest line is = absurd (cc)
 longer_at zero (l ∷ ls) rest line is = is
 longer_at (suc n) (l ∷ ls) rest line is = longer_at n ls rest line is
 
-longer_take : (n : ℕ) (first rest : List Text) → n ≤ length first → take n (first ++ rest) ≡ take n first
-longer_take zero first rest few = refl
-longer_take (suc n) [] rest few = absurd (omega (arith, few))
-longer_take (suc n) (l ∷ ls) rest few = ap (λ (xs : List Text). l ∷ xs) (longer_take n ls rest (omega (arith, few)))
-
 bytes_at : (n : ℕ) (lines others : List Text) (line : Text) → All IsBytes lines → drop n lines ≡ line ∷ others → IsBytes line
 bytes_at zero [] others line all is = absurd (cc)
 bytes_at zero (l ∷ ls) others line all is = let same : l ≡ line = cc in subst IsBytes same (All-head IsBytes l ls all)
@@ -292,7 +269,7 @@ RowsStop only null old now lines entries left (Column column error) = ⊥
 
 first_run : (only : Bool) (null : Option Text) (lines first rest : List Text) (old now : InternerView) (n : ℕ) (entries : List ℕ) → lines ≡ first ++ rest → n ≤ length first → RowsRun only null old now (take n first) entries → RowsRun only null old now (take n lines) entries
 first_run only null lines first rest old now n entries split few run =
-    let same : take n lines ≡ take n first = ap (take n) split ∙ longer_take n first rest few in
+    let same : take n lines ≡ take n first = ap (take n) split ∙ take-append-le n first rest few in
     subst (λ (ls : List Text). RowsRun only null old now ls entries) (sym same) run
 
 lacks : (null : Option Text) (number : ℕ) (error : LineError) → error ≡ Refused number FailedAllocation → (o : Option Text) → IfSome o (λ line. IsNoNull null line error)
@@ -334,7 +311,7 @@ rows_read_stop only null old now lines first rest before after left word bytes s
     let run = run_rows only null old now first [] before after word bytes none rows in
     let many : n ≡ length first = ap length (sym (append-nil rows.done) ∙ sym rows.split) ∙ length-map first (text_by only) in
     let few : n ≤ length first = omega (arith, many) in
-    let same : take n lines ≡ take n first = ap (take n) split ∙ longer_take n first rest few in
+    let same : take n lines ≡ take n first = ap (take n) split ∙ take-append-le n first rest few in
     let all : take n first ≡ first = take_all n first (omega (arith, many)) in
     let inside : n ≤ length lines = omega (arith, few, ap length split, length-append first rest) in (
       n,

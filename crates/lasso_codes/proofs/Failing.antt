@@ -4,6 +4,9 @@
 -- If the run had ended at a failed write, nothing is flushed. Else the writer counts at most the flush, which is
 -- a failed write exactly if the run then ends with one.
 use Rattle.std.proofs.Common.{ℕ, ◌≡◌, ◌+◌, ◌≤◌, ◌⊎◌, List, Option, Result, Ok, Err, IfErr, refl, sym, ap, subst, ◌∙◌, arith, inl, inr}
+use Rattle.lasso_parts.specs.declared.util.LassoErrorKind.TheVariants.{FailedAllocation}
+use Rattle.lasso_columns.specs.declared.faults.LineError.{LineError}
+use Rattle.lasso_columns.specs.declared.faults.LineError.TheVariants.{Refused}
 use Rattle.lasso_codes.specs.Errors.{failed_reads, failed_writes, gone_readers, FailsWriting, IsDataError, IsInputError, IsOutputError, IsReadError, IsWriteError, IsWriteEnd}
 use Rattle.lasso_codes.specs.Reading.{HeaderError}
 use Rattle.lasso_codes.specs.Streams.{WritesAll}
@@ -11,39 +14,37 @@ use Rattle.lasso_codes.specs.Views.{InputView, OutputView}
 use Rattle.lasso_codes.specs.declared.error.RunError.{RunError}
 use Rattle.lasso_codes.specs.declared.error.RunError.TheVariants.{Line, TooManyLines, ReadFailed, WriteFailed, ReaderGone, Column}
 
+-- ---- the errors of failed reads and of failed writes
+
+-- a read failed, or there was no memory for the line
+pub by_read_error : (P : RunError → Type 0) (number : ℕ) (error : RunError) → IsReadError number error → P (Line (Refused number FailedAllocation)) → P ReadFailed → P error
+by_read_error P number (Line error) is full failed = subst (λ (e : LineError). P (Line e)) (sym is) full
+by_read_error P number TooManyLines is full failed = absurd is
+by_read_error P number ReadFailed is full failed = failed
+by_read_error P number WriteFailed is full failed = absurd is
+by_read_error P number ReaderGone is full failed = absurd is
+by_read_error P number (Column column error) is full failed = absurd is
+
+-- a write failed, or the reader is gone
+pub by_write_error : (P : RunError → Type 0) (error : RunError) → IsWriteError error → P WriteFailed → P ReaderGone → P error
+by_write_error P (Line error) is failed gone = absurd is
+by_write_error P TooManyLines is failed gone = absurd is
+by_write_error P ReadFailed is failed gone = absurd is
+by_write_error P WriteFailed is failed gone = failed
+by_write_error P ReaderGone is failed gone = gone
+by_write_error P (Column column error) is failed gone = absurd is
+
+pub by_write_end : (P : Result (Unit {0}) RunError → Type 0) (result : Result (Unit {0}) RunError) → IsWriteEnd result → P (Err WriteFailed) → P (Err ReaderGone) → P result
+by_write_end P (Ok x) is failed gone = absurd is
+by_write_end P (Err error) is failed gone = by_write_error (λ e. P (Err e)) error is failed gone
+
 -- ---- errors of calls that only read, only write, or do neither
 
-pub data_input : (error : RunError) → IsDataError error → IsInputError error
-data_input (Line fault) is = tt
-data_input TooManyLines is = tt
-data_input ReadFailed is = absurd is
-data_input WriteFailed is = absurd is
-data_input ReaderGone is = absurd is
-data_input (Column column fault) is = tt
-
-pub data_output : (error : RunError) → IsDataError error → IsOutputError error
-data_output (Line fault) is = tt
-data_output TooManyLines is = tt
-data_output ReadFailed is = absurd is
-data_output WriteFailed is = absurd is
-data_output ReaderGone is = absurd is
-data_output (Column column fault) is = tt
-
 pub read_input : (number : ℕ) (error : RunError) → IsReadError number error → IsInputError error
-read_input number (Line fault) is = tt
-read_input number TooManyLines is = absurd is
-read_input number ReadFailed is = tt
-read_input number WriteFailed is = absurd is
-read_input number ReaderGone is = absurd is
-read_input number (Column column fault) is = absurd is
+read_input number error is = by_read_error IsInputError number error is tt tt
 
 pub write_output : (error : RunError) → IsWriteError error → IsOutputError error
-write_output (Line fault) is = absurd is
-write_output TooManyLines is = absurd is
-write_output ReadFailed is = absurd is
-write_output WriteFailed is = tt
-write_output ReaderGone is = tt
-write_output (Column column fault) is = absurd is
+write_output error is = by_write_error IsOutputError error is tt tt
 
 pub header_input : (before after : Option (List ℕ)) (column : ℕ) (error : RunError) → HeaderError before after column error → IsInputError error
 header_input before after column error (inl is) = read_input 0 error is.0
@@ -87,14 +88,6 @@ pub written_no_read : (bytes part : List ℕ) (result : Result (Unit {0}) RunErr
 written_no_read bytes part (Ok x) written = refl
 written_no_read bytes part (Err error) written = output_no_read error (written_output bytes part error written)
 
-pub written_faults : (bytes part : List ℕ) (result : Result (Unit {0}) RunError) → WritesAll bytes result part → IfErr result IsOutputError
-written_faults bytes part (Ok x) written = tt
-written_faults bytes part (Err error) written = written_output bytes part error written
-
-pub write_errors_no_read : (result : Result (Unit {0}) RunError) → IfErr result IsWriteError → failed_reads result ≡ 0
-write_errors_no_read (Ok x) is = refl
-write_errors_no_read (Err error) is = output_no_read error (write_output error is)
-
 -- ---- runs
 
 abbrev Ended : Type 0
@@ -110,13 +103,7 @@ write_or_not (Err ReaderGone) = inl tt
 write_or_not (Err (Column column error)) = inr (λ is. absurd is)
 
 pub no_read : (result : Ended) → IsWriteEnd result → failed_reads result ≡ 0
-no_read (Ok x) is = absurd is
-no_read (Err (Line error)) is = absurd is
-no_read (Err TooManyLines) is = absurd is
-no_read (Err ReadFailed) is = absurd is
-no_read (Err WriteFailed) is = refl
-no_read (Err ReaderGone) is = refl
-no_read (Err (Column column error)) is = absurd is
+no_read result is = by_write_end (λ (r : Ended). failed_reads r ≡ 0) result is refl refl
 
 pub no_write : (result : Ended) → ¬ (IsWriteEnd result) → failed_writes result ≡ 0
 no_write (Ok x) none_wrote = refl
@@ -158,15 +145,6 @@ module _ (before mid after : OutputView) (ended result : Ended) (none : IsWriteE
       either : IsWriteEnd ended ⊎ (¬ (IsWriteEnd ended)) → after.gone ≡ before.gone + gone_readers result
       either (inl is) = let told = none is in ap (λ (v : OutputView). v.gone) told.1 ∙ count ∙ ap (λ (r : Ended). before.gone + gone_readers r) (sym told.0)
       either (inr none_wrote) = let now = flushed none_wrote other in let nothing = none_gone ended none_wrote in omega (arith, now, count, nothing)
-
-pub gone_once : {X : Type 0} (result : Result X RunError) → gone_readers result ≤ 1
-gone_once (Ok x) = omega arith
-gone_once (Err (Line error)) = omega arith
-gone_once (Err TooManyLines) = omega arith
-gone_once (Err ReadFailed) = omega arith
-gone_once (Err WriteFailed) = omega arith
-gone_once (Err ReaderGone) = omega arith
-gone_once (Err (Column column error)) = omega arith
 
 -- a run that ends with a failed write: it was the first error, or another one came before the last flush
 module _ (read read' : InputView) (before mid after : OutputView) (result : Ended) (P : RunError → Type 0) (failed : result ≡ Err WriteFailed) where

@@ -3,17 +3,12 @@
 -- The bytes of the first items and one more are the bytes of the first items, and then its own. So after each
 -- item the bytes of the items so far are written. If a part of an item is written, that is a beginning of the
 -- bytes of all.
-use Rattle.std.proofs.Common.{ℕ, ◌≡◌, ◌+◌, List, [], ◌∷◌, ◌++◌, map, take, drop, Err, refl, sym, ap, ◌∙◌, append_assoc}
+use Rattle.std.proofs.Common.{ℕ, ◌≡◌, ◌+◌, List, [], ◌∷◌, ◌++◌, take, drop, Err, sym, ap, ◌∙◌, append_assoc}
 use Rattle.std.specs.Prelude.{flat_map}
 use Rattle.std.proofs.lemmas.Grind.{flat_map-append}
 use Rattle.std.proofs.lemmas.List.{append-nil, take-append-drop}
 use Rattle.lasso_codes.specs.Streams.{WritesAll}
 use Rattle.lasso_codes.specs.declared.error.RunError.{RunError}
-
--- the bytes of items that are mapped
-pub flat_seen : {X Y : Type 0} (f : Y → List ℕ) (see : X → Y) (xs : List X) → flat_map f (map see xs) ≡ flat_map (λ x. f (see x)) xs
-flat_seen f see [] = refl
-flat_seen f see (x ∷ xs) = ap (λ bs. f (see x) ++ bs) (flat_seen f see xs)
 
 module _ {X : Type 0} (f : X → List ℕ) (xs : List X) (i : ℕ) (x : X) (next : take (i + 1) xs ≡ take i xs ++ x ∷ []) where
   -- the bytes of one item more

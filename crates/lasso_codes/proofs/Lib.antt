@@ -29,7 +29,6 @@ pub mod RecodedColumns
 pub mod MergedLines
 pub mod RecodedLines
 pub mod Failing
-pub mod Lacking
 pub mod Verbs
 pub mod NearestVerbs
 pub mod AtEnd

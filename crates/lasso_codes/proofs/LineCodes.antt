@@ -5,21 +5,16 @@
 use Rattle.std.proofs.Common.{ℕ, zero, suc, ◌≡◌, ◌+◌, Bool, List, [], ◌∷◌, Option, Some, None, Ok, refl, sym, ap, ◌∙◌}
 use Rattle.std.specs.Prelude.{All, IfSome, option_map, slice_get}
 use Rattle.std.proofs.lemmas.List.Elements.{All-head, All-tail}
+use Rattle.std.proofs.lemmas.Option.{slice_get-map}
 use Rattle.hex.specs.Hex.{IsBytes}
 use Rattle.lasso_parts.specs.Texts.{Text}
 use Rattle.lasso_input.specs.Texts.{text_of}
 use Rattle.lasso_codes.specs.Limits.{line_texts}
 use Rattle.lasso_codes.specs.Merge.{code_or_past, recoded}
-use Rattle.lasso_codes.specs.Reading.{Makes, ReadItems, cut_entry, items_from, on_item}
+use Rattle.lasso_codes.specs.Reading.{cut_entry, items_from, on_item}
 use Rattle.lasso_codes.specs.declared.entries.Entry.{Entry}
 use Rattle.lasso_codes.specs.declared.entries.Entry.TheVariants.{Missing, Bad, Null, Code}
 use Rattle.lasso_codes.proofs.LineTexts.{position_of_text}
-
--- the text of the line at a place
-text_at : (lines : List Text) (n : ℕ) → slice_get (line_texts lines) n ≡ option_map text_of (slice_get lines n)
-text_at [] n = refl
-text_at (line ∷ lines) zero = refl
-text_at (line ∷ lines) (suc n) = text_at lines n
 
 bytes_at : (lines : List Text) (n : ℕ) → All IsBytes lines → IfSome (slice_get lines n) IsBytes
 bytes_at [] n all = tt
@@ -37,7 +32,7 @@ module _ (list lines : List Text) (list_bytes : All IsBytes list) (lines_bytes :
   recoded_same Bad number = refl
   recoded_same Null number = refl
   recoded_same (Code code) number =
-      same_code (slice_get lines code) number (bytes_at lines code lines_bytes) ∙ ap (λ o. code_or_past (line_texts list) o number) (sym (text_at lines code))
+      same_code (slice_get lines code) number (bytes_at lines code lines_bytes) ∙ ap (λ o. code_or_past (line_texts list) o number) (sym (slice_get-map text_of lines code))
 
   -- all entries of a column, rewritten
   pub recoded_items : (n : ℕ) (binary : Bool) (number : ℕ) (bytes : List ℕ) → items_from (recoded list lines) n binary number bytes ≡ items_from (recoded (line_texts list) (line_texts lines)) n binary number bytes

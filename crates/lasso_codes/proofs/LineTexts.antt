@@ -3,11 +3,12 @@
 -- Two lines of bytes are equal exactly if their texts are. So a line is where its text is, comes as often, and is new
 -- exactly if its text is new: the distinct texts are the texts of the distinct lines.
 use Rattle.std.proofs.Common.{ℕ, zero, suc, ◌≡◌, ◌+◌, Bool, true, false, cond, not, nat_lt, List, [], ◌∷◌, ◌++◌, Option, Some, None, Ok, is_some, length, take, add-one, refl, sym, ap, subst, ◌∙◌}
-use Rattle.std.specs.Prelude.{All, IsSomeAnd, bytes_eq, map, slice_get}
+use Rattle.std.specs.Prelude.{All, IsSomeAnd, bytes_eq, map, option_map, slice_get}
 use Rattle.std.specs.List.{position_or_len}
 use Rattle.std.proofs.lemmas.Bool.Decides.{Decides-like, same_from_decides}
 use Rattle.std.proofs.lemmas.List.{length-map, map-append}
 use Rattle.std.proofs.lemmas.List.Elements.{All-cons, All-filter, All-head, All-nil, All-push, All-tail, All-weaker}
+use Rattle.std.proofs.lemmas.Option.{slice_get-map}
 use Rattle.std.proofs.lemmas.Result.{MatchResult-weaker}
 use Rattle.std.proofs.lemmas.Slice.Eq.{bytes_eq-Decides}
 use Rattle.hex.specs.Hex.{IsBytes}
@@ -144,13 +145,8 @@ take_last (suc n) (y ∷ ys) x at = ap (λ (ts : List Text). y ∷ ts) (take_las
 pub take_next : (n : ℕ) (xs : List Text) (x : Text) → slice_get xs n ≡ Some x → take (n + 1) xs ≡ take n xs ++ x ∷ []
 take_next n xs x at = ap (λ k. take k xs) (add-one n) ∙ take_last n xs x at
 
-map_at : (f : Text → Text) (n : ℕ) (xs : List Text) (x : Text) → slice_get xs n ≡ Some x → slice_get (map f xs) n ≡ Some (f x)
-map_at f n [] x at = absurd (cc)
-map_at f zero (y ∷ ys) x at = let same : y ≡ x = cc in ap (λ (t : Text). Some (f t)) same
-map_at f (suc n) (y ∷ ys) x at = map_at f n ys x at
-
 -- one more text is its own line
 pub own_next : (n : ℕ) (texts : List Text) (text : Text) → take n (map line_of texts) ≡ take n texts → slice_get texts n ≡ Some text → line_of text ≡ text → take (n + 1) (map line_of texts) ≡ take (n + 1) texts
 own_next n texts text so_far at own =
-    take_next n (map line_of texts) (line_of text) (map_at line_of n texts text at) ∙ ap (λ (t : Text). take n (map line_of texts) ++ t ∷ []) own
+    take_next n (map line_of texts) (line_of text) (slice_get-map line_of texts n ∙ ap (option_map line_of) at) ∙ ap (λ (t : Text). take n (map line_of texts) ++ t ∷ []) own
     ∙ ap (λ (ts : List Text). ts ++ text ∷ []) so_far ∙ sym (take_next n texts text at)

@@ -9,7 +9,7 @@ use Rattle.std.specs.Prelude.{All, slice_get, IsSomeAnd}
 use Rattle.std.proofs.lemmas.Bool.Decides.{nat_tests}
 use Rattle.std.proofs.lemmas.List.{append-nil, length-map, map_push, take-map}
 use Rattle.std.proofs.lemmas.List.Elements.{All-append, All-nil}
-use Rattle.std.proofs.lemmas.Option.{slice_get_within, slice_get-get_or}
+use Rattle.std.proofs.lemmas.Option.{slice_get_past, slice_get_within, slice_get-get_or}
 use Rattle.lasso_parts.proofs.TextLemmas.{position_here}
 use Rattle.lasso_parts.specs.Texts.{Text, position_of}
 use Rattle.lasso_parts.specs.declared.util.LassoError.{LassoError}
@@ -42,6 +42,7 @@ use Rattle.lasso_codes.specs.declared.reading.Header.{Header}
 use Rattle.lasso_codes.proofs.FewTexts.{few_texts}
 use Rattle.lasso_codes.proofs.Cuts.{Refuses, column_local, entries_cut, head_local, short_after, short_as, texts_local}
 use Rattle.lasso_codes.proofs.Items.{before_error, column_read, column_unread, entries_all, entries_fail, entries_push, entry_error, texts_read}
+use Rattle.lasso_codes.proofs.Failing.{by_read_error, by_write_end, by_write_error}
 
 -- ---- interning texts, and then others
 
@@ -52,11 +53,6 @@ code_there list texts [] code number are at = absurd (cc)
 code_there list [] (n ∷ ns) code number are at = absurd (cc)
 code_there list (t ∷ ts) (n ∷ ns) zero number are at = let here : position_of list t ≡ Some number = cc in (t, refl, here)
 code_there list (t ∷ ts) (n ∷ ns) (suc code) number are at = code_there list ts ns code number (cc) at
-
-none_past : (texts : List Text) (code : ℕ) → length texts ≤ code → slice_get texts code ≡ None
-none_past [] code past = refl
-none_past (t ∷ ts) zero past = absurd (omega (arith, past))
-none_past (t ∷ ts) (suc code) past = none_past ts code (omega (arith, past))
 
 -- an entry's code is rewritten
 pub code_rewritten : (list texts : List Text) (table : List ℕ) (code number : ℕ) → AreCodes list texts table → length list < 2 ^ 32 → code < length table → recoded list texts (Code code) number ≡ Ok (entry_at (get_or table code 0))
@@ -71,7 +67,7 @@ code_rewritten list texts table code number are few small =
     ap (λ o. code_or_past list o number) there.1 ∙ ap (λ (o : Option ℕ). Ok o) (there.2 ∙ sym entry)
 
 pub code_past : (list texts : List Text) (table : List ℕ) (code number : ℕ) → AreCodes list texts table → length table ≤ code → recoded list texts (Code code) number ≡ Err (PastTexts number)
-code_past list texts table code number are past = ap (λ o. code_or_past list o number) (none_past texts code (omega (arith, past, map_some_length (position_of list) texts table are)))
+code_past list texts table code number are past = ap (λ o. code_or_past list o number) (slice_get_past texts code (omega (arith, past, map_some_length (position_of list) texts table are)))
 
 same_error : (error other : ColumnError) → IsEntryError error → ◌≡◌ {A = Result (Option ℕ) ColumnError} (Err error) (Err other) → IsEntryError other
 same_error error other is e = let same : error ≡ other = cc in subst IsEntryError same is
@@ -94,12 +90,7 @@ recode_refuses list texts number = refl
 
 -- a read failed, or there was no memory
 pub entries_read_fails : (read : ReadItems (Option ℕ)) (column : ℕ) (error : RunError) → IsReadError 0 error → EntriesError read column error
-entries_read_fails read column (Line error) is = is
-entries_read_fails read column TooManyLines is = absurd is
-entries_read_fails read column ReadFailed is = tt
-entries_read_fails read column WriteFailed is = absurd is
-entries_read_fails read column ReaderGone is = absurd is
-entries_read_fails read column (Column number error) is = absurd is
+entries_read_fails read column error is = by_read_error (EntriesError read column) 0 error is refl tt
 
 -- the entry at a position; its number is added, or the entry is bad
 module _ (list texts : List Text) (header : Header) (bytes rest : List ℕ) (count : ℕ) (before numbers : List ℕ) (so_far : EntriesAhead (recoded list texts) header.binary bytes rest count before numbers) where
@@ -191,13 +182,9 @@ module _ (only : Bool) (input rest : List ℕ) (limit column : ℕ) (now : Inter
 
   -- a read failed, or there was no memory
   pub merging_read_fails : (after : Option (List ℕ)) (error : RunError) → IsReadError 0 error → StopsShort rest after IsPart → MergingError input only limit after error
-  merging_read_fails after (Line error) is short = is
-  merging_read_fails after TooManyLines is short = absurd is
-  merging_read_fails after ReadFailed is short =
-      short_after way.front input rest after IsPart (MergesShort only limit) way.split short (λ seen ends. (way.count, way.texts, map entry_at numbers, seen, within_any seen, ends))
-  merging_read_fails after WriteFailed is short = absurd is
-  merging_read_fails after ReaderGone is short = absurd is
-  merging_read_fails after (Column number error) is short = absurd is
+  merging_read_fails after error is short =
+      by_read_error (MergingError input only limit after) 0 error is refl
+      (short_after way.front input rest after IsPart (MergesShort only limit) way.split short (λ seen ends. (way.count, way.texts, map entry_at numbers, seen, within_any seen, ends)))
 
   pub merging_unmade : (after : Option (List ℕ)) (error : RunError) → error ≡ Line (Refused 0 FailedAllocation) → MergingError input only limit after error
   merging_unmade after error is = subst (MergingError input only limit after) (sym is) refl
@@ -359,12 +346,8 @@ module _ (only : Bool) (input rest : List ℕ) (limit column : ℕ) (now : Inter
 
 written_end : (only : Bool) (input : List ℕ) (limit : ℕ) (form : List Text → List (Option ℕ) → List ℕ) (after : Option (List ℕ)) (n : ℕ) (texts : List Text) (entries : List (Option ℕ)) (part : List ℕ) (result : Result (Unit {0}) RunError) → MergesWithin only limit n input texts entries [] → length (distinct_of texts) < 2 ^ 32 → length entries < 2 ^ 64 → WritesAll (form (distinct_of texts) entries) result part → MergedEnd input only limit form after part result
 written_end only input limit form after n texts entries part (Ok x) merges few few' written = (n, texts, entries, merges, (few, few'), written)
-written_end only input limit form after n texts entries part (Err (Line error)) merges few few' written = absurd written.0
-written_end only input limit form after n texts entries part (Err TooManyLines) merges few few' written = absurd written.0
-written_end only input limit form after n texts entries part (Err ReadFailed) merges few few' written = absurd written.0
-written_end only input limit form after n texts entries part (Err WriteFailed) merges few few' written = inr (n, texts, entries, merges.0, written.1)
-written_end only input limit form after n texts entries part (Err ReaderGone) merges few few' written = inr (n, texts, entries, merges.0, written.1)
-written_end only input limit form after n texts entries part (Err (Column column error)) merges few few' written = absurd written.0
+written_end only input limit form after n texts entries part (Err error) merges few few' written =
+    let begun : IsMergeBegun input only form part = inr (n, texts, entries, merges.0, written.1) in by_write_error (λ e. MergedEnd input only limit form after part (Err e)) error written.0 begun begun
 
 -- the column is written, or a beginning of it
 pub merged_written : (only : Bool) (input : List ℕ) (limit : ℕ) (form : List Text → List (Option ℕ) → List ℕ) (after : Option (List ℕ)) (table list : List Text) (numbers part : List ℕ) (result : Result (Unit {0}) RunError) → table ≡ map line_of list → AreMerged input only limit list numbers → length numbers < 2 ^ 64 → WritesAll (form table (map entry_at numbers)) result part → MergedEnd input only limit form after part result
@@ -396,16 +379,8 @@ end_begun only input limit form after part (Err WriteFailed) end = end
 end_begun only input limit form after part (Err ReaderGone) end = end
 end_begun only input limit form after part (Err (Column column error)) end = inl end.0
 
-write_end : (only : Bool) (input : List ℕ) (limit : ℕ) (form : List Text → List (Option ℕ) → List ℕ) (after : Option (List ℕ)) (part : List ℕ) (result : Result (Unit {0}) RunError) → IsMergeBegun input only form part → IsWriteEnd result → MergedEnd input only limit form after part result
-write_end only input limit form after part (Ok x) begun is = absurd is
-write_end only input limit form after part (Err (Line error)) begun is = absurd is
-write_end only input limit form after part (Err TooManyLines) begun is = absurd is
-write_end only input limit form after part (Err ReadFailed) begun is = absurd is
-write_end only input limit form after part (Err WriteFailed) begun is = begun
-write_end only input limit form after part (Err ReaderGone) begun is = begun
-write_end only input limit form after part (Err (Column column error)) begun is = absurd is
-
 -- the run ends as it did before the flush, or with the error of the flush
 pub end_then : (only : Bool) (input : List ℕ) (limit : ℕ) (form : List Text → List (Option ℕ) → List ℕ) (after : Option (List ℕ)) (part : List ℕ) (given result : Result (Unit {0}) RunError) → MergedEnd input only limit form after part given → (result ≡ given) ⊎ IsWriteEnd result → MergedEnd input only limit form after part result
 end_then only input limit form after part given result end (inl same) = subst (MergedEnd input only limit form after part) (sym same) end
-end_then only input limit form after part given result end (inr is) = write_end only input limit form after part result (end_begun only input limit form after part given end) is
+end_then only input limit form after part given result end (inr is) =
+    let begun = end_begun only input limit form after part given end in by_write_end (MergedEnd input only limit form after part) result is begun begun

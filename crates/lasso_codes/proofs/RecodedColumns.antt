@@ -15,14 +15,14 @@ use Rattle.lasso_single.specs.Filling.{extend}
 use Rattle.lasso_single.specs.Interner.{InternerView, made_with}
 use Rattle.lasso_single.specs.Coding.{spur_at}
 use Rattle.lasso_single.proofs.Filled.{accepted}
-use Rattle.lasso_input.specs.Texts.{line_of, text_of, is_let_in}
+use Rattle.lasso_input.specs.Texts.{text_of, is_let_in}
 use Rattle.lasso_columns.specs.declared.faults.LineError.TheVariants.{Refused}
-use Rattle.lasso_codes.specs.Columns.{column_of, entry_at}
+use Rattle.lasso_codes.specs.Columns.{entry_at}
 use Rattle.lasso_codes.specs.Errors.{IsReadError, IsWriteEnd}
 use Rattle.lasso_codes.specs.Limits.{line_texts, Admits}
 use Rattle.lasso_codes.specs.Merge.{recoded, AddsEntries, AreFew, EntriesError}
-use Rattle.lasso_codes.specs.Reading.{ReadItems, ReadTexts, entry_items, head_of, head_before, items_from, on_header_line, on_text, texts_at, texts_before, texts_from, HasNoHeader, IsColumnError, IsCut, IsEntryError, IsTextError, LacksEntry, LacksText, TextsError}
-use Rattle.lasso_codes.specs.Recode.{coded, coded_entries, form_of, texts_or, without_texts, AddsColumn, AddsColumns, AreRecoded, BodyError, ColumnsError, ColumnsShort, DictionaryError, HasAll, HasTexts, IsAbsent, IsBodyCut, IsBodyError, IsDictionary, IsDictionaryCut, IsDictionaryError, IsFindFailure, IsRecodeBegun, IsRecodeError, RecodedEnd, Recodes, RecodesShort, RecodingError, TakesDictionary}
+use Rattle.lasso_codes.specs.Reading.{ReadItems, ReadTexts, entry_items, head_of, head_before, on_header_line, on_text, texts_at, texts_before, texts_from, HasNoHeader, IsCut, IsEntryError, IsTextError, LacksEntry, LacksText, TextsError}
+use Rattle.lasso_codes.specs.Recode.{coded, coded_entries, texts_or, AddsColumn, AddsColumns, AreRecoded, BodyError, ColumnsError, ColumnsShort, DictionaryError, HasAll, HasTexts, IsAbsent, IsBodyCut, IsBodyError, IsDictionary, IsDictionaryCut, IsDictionaryError, IsFindFailure, IsRecodeBegun, IsRecodeError, RecodedEnd, Recodes, RecodesShort, RecodingError}
 use Rattle.lasso_codes.specs.Streams.{StopsShort, WritesAll, cut_line}
 use Rattle.lasso_codes.specs.declared.error.ColumnError.{ColumnError}
 use Rattle.lasso_codes.specs.declared.error.ColumnError.TheVariants.{NoHeader, NoText, NotUtf8, Doubled, TextRefused, NoEntry, NotEntry, PastTexts, IsNull, NotMerged, HasEntries, Absent}
@@ -33,8 +33,9 @@ use Rattle.lasso_codes.proofs.Cuts.{Refuses, column_local, head_local, short_aft
 use Rattle.lasso_codes.proofs.FewTexts.{few_texts}
 use Rattle.lasso_codes.proofs.Items.{before_error, column_read, column_unread, entry_error, texts_read}
 use Rattle.lasso_codes.proofs.LineCodes.{recoded_items}
-use Rattle.lasso_codes.proofs.LineTexts.{position_of_text, some_line, table_back}
+use Rattle.lasso_codes.proofs.LineTexts.{position_of_text, some_line}
 use Rattle.lasso_codes.proofs.ReadTexts.{plain_test}
+use Rattle.lasso_codes.proofs.Failing.{by_read_error, by_write_end, by_write_error}
 
 -- ---- texts that the list has
 
@@ -109,12 +110,7 @@ no_header only limit seen none = (NoHeader, none, ap on_header_line none)
 
 -- a read failed, or there was no memory
 pub dictionary_read_fails : (only : Bool) (limit : ℕ) (bytes : List ℕ) (after : Option (List ℕ)) (error : RunError) → IsReadError 0 error → StopsShort bytes after (IsDictionaryCut only limit) → DictionaryError only limit bytes after error
-dictionary_read_fails only limit bytes after (Line error) is short = is
-dictionary_read_fails only limit bytes after TooManyLines is short = absurd is
-dictionary_read_fails only limit bytes after ReadFailed is short = short
-dictionary_read_fails only limit bytes after WriteFailed is short = absurd is
-dictionary_read_fails only limit bytes after ReaderGone is short = absurd is
-dictionary_read_fails only limit bytes after (Column number error) is short = absurd is
+dictionary_read_fails only limit bytes after error is short = by_read_error (DictionaryError only limit bytes after) 0 error is refl short
 
 pub dictionary_header_fails : (only : Bool) (limit : ℕ) (bytes : List ℕ) (after : Option (List ℕ)) (error : RunError) → (IsReadError 0 error × StopsShort bytes after (λ seen. cut_line seen ≡ None)) ⊎ ((error ≡ Column 1 NoHeader) × HasNoHeader bytes) → DictionaryError only limit bytes after error
 dictionary_header_fails only limit bytes after error (inl is) =
@@ -133,12 +129,7 @@ dictionary_texts_fail only limit bytes left header head none after error (inr is
 
 -- a read failed, or there was no memory
 body_read_fails : (only : Bool) (limit : ℕ) (list : List Text) (header : Header) (bytes : List ℕ) (column : ℕ) (after : Option (List ℕ)) (error : RunError) → IsReadError 0 error → StopsShort bytes after (IsBodyCut only limit list header) → BodyError only limit list header bytes column after error
-body_read_fails only limit list header bytes column after (Line error) is short = is
-body_read_fails only limit list header bytes column after TooManyLines is short = absurd is
-body_read_fails only limit list header bytes column after ReadFailed is short = short
-body_read_fails only limit list header bytes column after WriteFailed is short = absurd is
-body_read_fails only limit list header bytes column after ReaderGone is short = absurd is
-body_read_fails only limit list header bytes column after (Column number error) is short = absurd is
+body_read_fails only limit list header bytes column after error is short = by_read_error (BodyError only limit list header bytes column after) 0 error is refl short
 
 pub body_unmade : (only : Bool) (limit : ℕ) (list : List Text) (header : Header) (bytes : List ℕ) (column : ℕ) (after : Option (List ℕ)) (error : RunError) → error ≡ Line (Refused 0 FailedAllocation) → BodyError only limit list header bytes column after error
 body_unmade only limit list header bytes column after error is = subst (BodyError only limit list header bytes column after) (sym is) refl
@@ -310,13 +301,9 @@ module _ (only : Bool) (limit : ℕ) (list : List Text) (bytes rest : List ℕ) 
 
   -- a read failed, or there was no memory
   pub recoding_read_fails : (after : Option (List ℕ)) (error : RunError) → IsReadError 0 error → StopsShort rest after IsRest → ColumnsError only limit list bytes after error
-  recoding_read_fails after (Line error) is short = is
-  recoding_read_fails after TooManyLines is short = absurd is
-  recoding_read_fails after ReadFailed is short =
-      short_after way.front bytes rest after IsRest (ColumnsShort only limit list) way.split short (λ seen ends. (way.count, entries, seen, way.any seen, ends))
-  recoding_read_fails after WriteFailed is short = absurd is
-  recoding_read_fails after ReaderGone is short = absurd is
-  recoding_read_fails after (Column number error) is short = absurd is
+  recoding_read_fails after error is short =
+      by_read_error (ColumnsError only limit list bytes after) 0 error is refl
+      (short_after way.front bytes rest after IsRest (ColumnsShort only limit list) way.split short (λ seen ends. (way.count, entries, seen, way.any seen, ends)))
 
   -- the bytes are none, or a header line that does not end
   header_cut : (seen : List ℕ) → cut_line seen ≡ None → IsRest seen
@@ -426,12 +413,8 @@ recoded_few limit made now list numbers new interned texts_are long =
 -- all is written, or a beginning
 pub recoded_written : (only : Bool) (input : List ℕ) (limit : ℕ) (form : List Text → List (Option ℕ) → List ℕ) (after : Option (List ℕ)) (list : List Text) (entries : List (Option ℕ)) (part : List ℕ) (result : Result (Unit {0}) RunError) → AreRecoded input only limit list entries → AreFew list entries → WritesAll (form list entries) result part → RecodedEnd input only limit form after part result
 recoded_written only input limit form after list entries part (Ok x) are few written = (list, entries, are, few, written)
-recoded_written only input limit form after list entries part (Err (Line error)) are few written = absurd written.0
-recoded_written only input limit form after list entries part (Err TooManyLines) are few written = absurd written.0
-recoded_written only input limit form after list entries part (Err ReadFailed) are few written = absurd written.0
-recoded_written only input limit form after list entries part (Err WriteFailed) are few written = inr (list, entries, are, written.1)
-recoded_written only input limit form after list entries part (Err ReaderGone) are few written = inr (list, entries, are, written.1)
-recoded_written only input limit form after list entries part (Err (Column column error)) are few written = absurd written.0
+recoded_written only input limit form after list entries part (Err error) are few written =
+    let begun : IsRecodeBegun input only limit form part = inr (list, entries, are, written.1) in by_write_error (λ e. RecodedEnd input only limit form after part (Err e)) error written.0 begun begun
 
 end_begun : (only : Bool) (input : List ℕ) (limit : ℕ) (form : List Text → List (Option ℕ) → List ℕ) (after : Option (List ℕ)) (part : List ℕ) (result : Result (Unit {0}) RunError) → RecodedEnd input only limit form after part result → IsRecodeBegun input only limit form part
 end_begun only input limit form after part (Ok x) end = inr (end.0, end.1, end.2, ([], sym end.4 ∙ sym (append-nil part)))
@@ -442,16 +425,8 @@ end_begun only input limit form after part (Err WriteFailed) end = end
 end_begun only input limit form after part (Err ReaderGone) end = end
 end_begun only input limit form after part (Err (Column column error)) end = inl end.0
 
-write_end : (only : Bool) (input : List ℕ) (limit : ℕ) (form : List Text → List (Option ℕ) → List ℕ) (after : Option (List ℕ)) (part : List ℕ) (result : Result (Unit {0}) RunError) → IsRecodeBegun input only limit form part → IsWriteEnd result → RecodedEnd input only limit form after part result
-write_end only input limit form after part (Ok x) begun is = absurd is
-write_end only input limit form after part (Err (Line error)) begun is = absurd is
-write_end only input limit form after part (Err TooManyLines) begun is = absurd is
-write_end only input limit form after part (Err ReadFailed) begun is = absurd is
-write_end only input limit form after part (Err WriteFailed) begun is = begun
-write_end only input limit form after part (Err ReaderGone) begun is = begun
-write_end only input limit form after part (Err (Column column error)) begun is = absurd is
-
 -- the run ends as it did before the flush, or with the error of the flush
 pub recoded_then : (only : Bool) (input : List ℕ) (limit : ℕ) (form : List Text → List (Option ℕ) → List ℕ) (after : Option (List ℕ)) (part : List ℕ) (given result : Result (Unit {0}) RunError) → RecodedEnd input only limit form after part given → (result ≡ given) ⊎ IsWriteEnd result → RecodedEnd input only limit form after part result
 recoded_then only input limit form after part given result end (inl same) = subst (RecodedEnd input only limit form after part) (sym same) end
-recoded_then only input limit form after part given result end (inr is) = write_end only input limit form after part result (end_begun only input limit form after part given end) is
+recoded_then only input limit form after part given result end (inr is) =
+    let begun = end_begun only input limit form after part given end in by_write_end (RecodedEnd input only limit form after part) result is begun begun

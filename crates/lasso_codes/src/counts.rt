@@ -7,16 +7,16 @@ ghost use Rattle.lasso_columns.specs.Counts.{CountsOneMore};
 ghost use Rattle.lasso_codes.specs.Counts.{CountsEnds, CountingError, CountsLines, RefusesNewLine, StopsCountingRound, count_line, grown_to, pair_by};
 ghost use Rattle.lasso_codes.specs.Limits.{IfNew, InternsLine, InternsLines, IsLineFault};
 ghost use Rattle.lasso_codes.specs.Stages.{CountsOn, StopsCounting};
-ghost use Rattle.lasso_codes.specs.Streams.{IfKnown, Reports, ReportsFailure, Writes, WritesAll};
-ghost use Rattle.lasso_codes.specs.Errors.{failed_reads, failed_writes, gone_readers, IsWriteEnd, IsDataError, IsInputError};
+ghost use Rattle.lasso_codes.specs.Streams.{IfKnown, Reports, Writes, WritesAll};
+ghost use Rattle.lasso_codes.specs.Errors.{failed_reads, failed_writes, gone_readers, IsDataError, IsInputError};
 
 use crate::arguments::Settings;
 use crate::error::RunError;
 use crate::input::next_line;
 use crate::interner::new_rodeo;
 use crate::line_table::LineTable;
-use crate::lines::{TextRule, Walk, plain_text_in, taken, text_in};
-use crate::output::{end_flushed, write_bytes, write_line, write_number};
+use crate::lines::{TextRule, Walk, taken, text_in};
+use crate::output::{write_bytes, write_line, write_number};
 use crate::ranking::lines_by_frequency;
 use crate::streams::{Input, Output};
 use lasso_columns::counts::{by_frequency_in_parts, count_codes, count_next};
@@ -30,33 +30,13 @@ use std::convert::AsSlice;
 use std::io::{Read, Write};
 use std::thread::Threads;
 
-/// Counts the lines, and writes each distinct line after its count, the most frequent first. Lines with equal
-/// counts are in the order of their bytes. At most `top` lines are written. Several workers encode blocks of the
-/// input, as `encode_stream` says, and the codes of each round are counted after it.
-///
-/// # Errors
-/// A line that is refused or not let in, a failed read, or out of memory: nothing is written. After a
-/// failed write, a prefix of the list was written.
-pub fn counts<H: AllocGlobal + Threads + Sync, R: Read + Drop, W: Write + Drop>(
-    rt: &H,
-    input: &mut Input<R>,
-    output: &mut Output<W>,
-    settings: Settings,
-    hasher: TextState,
-) -> Result<(), RunError>
-    ensures report { Reports input.old output.old output.new (CountsEnds settings input.new.left result) }
-    ensures flushed { ¬ (IsWriteEnd result) → output.new.pending ≡ [] }
-    ensures reads { ¬ (result ≡ Err RunError.WriteFailed) → input.new.failures ≡ input.old.failures + failed_reads result }
-    ensures writes { output.new.failures ≡ output.old.failures + failed_writes result }
-    ensures gone { ¬ (result ≡ Err RunError.WriteFailed) → output.new.gone ≡ output.old.gone + gone_readers result }
-    ensures write_failed { ReportsFailure result input.old input.new output.old output.new (CountsEnds settings input.new.left) }
-{
-    let result = write_counts(rt, input, output, settings, hasher);
-    end_flushed(output, result)
-}
-
-// Counts the lines and writes them. The last bytes stay in the buffer.
-fn write_counts<H: AllocGlobal + Threads + Sync, R: Read + Drop, W: Write + Drop>(
+// Counts the lines, and writes each distinct line after its count, the most frequent first. Lines with equal
+// counts are in the order of their bytes. At most `top` lines are written. Several workers encode blocks of the
+// input, as `encode_stream` says, and the codes of each round are counted after it. The last bytes stay in the buffer.
+//
+// A line that is refused or not let in, a failed read, or out of memory: nothing is written. After a failed write,
+// a prefix of the list was written.
+pub(crate) fn write_counts<H: AllocGlobal + Threads + Sync, R: Read + Drop, W: Write + Drop>(
     rt: &H,
     input: &mut Input<R>,
     output: &mut Output<W>,
@@ -189,34 +169,6 @@ fn count_stretch(
 
 // Counts the line with this number, the next one of the walk.
 fn count_line(
-    rule: TextRule,
-    rodeo: &mut SpurRodeo,
-    walk: &mut Walk,
-    counts: &mut Vec<u64>,
-    line: &Line<'_>,
-    number: usize,
-) -> Result<(), LineError>
-    requires lengths { vec_len counts.old ≡ length rodeo.old.texts }
-    requires fits { sum counts.old.items < 2 ^ 64 - 1 }
-    ensures interned { OnOk result (InternsLine rule.only_utf8 rodeo.old line.now rodeo.new) }
-    ensures counted { OnOk result (CountsOneMore (text_of line.now) rodeo.old.texts counts.old.items rodeo.new.texts counts.new.items) }
-    ensures total { OnOk result (sum counts.new.items ≡ sum counts.old.items + 1) }
-    ensures lengths { vec_len counts.new ≡ length rodeo.new.texts }
-    ensures error { IfErr result (IsLineFault rule.only_utf8 rodeo.old line.now number) }
-    ensures memory { IfErr result (RefusesNewLine rodeo.old counts.new line.now) }
-{
-    let Some(text) = plain_text_in(rule, line) else {
-        return count_any(rule, rodeo, walk, counts, line, number);
-    };
-    match count_next(rodeo, text, &mut walk.batch, counts) {
-        Ok(()) => Ok(()),
-        Err(error) => Err(LineError::Refused(number, error)),
-    }
-}
-
-// Counts a line that may not be its own text.
-#[inline(never)]
-fn count_any(
     rule: TextRule,
     rodeo: &mut SpurRodeo,
     walk: &mut Walk,

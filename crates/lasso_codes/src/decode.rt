@@ -1,50 +1,29 @@
 //! Decodes columns into their lines.
-ghost use Rattle.std.specs.Prelude.{◌≡◌, ◌+◌, ◌-◌, ◌≤◌, [], Err, IfOk, IfErr, length};
+ghost use Rattle.std.specs.Prelude.{◌≡◌, ◌+◌, ◌-◌, ◌≤◌, Err, IfOk, IfErr, length};
 ghost use Rattle.lasso_columns.specs.Rows.{word_of};
 ghost use Rattle.lasso_codes.specs.Decode.{line_at, DecodeEnds, WritesEntry, WritesLines};
-ghost use Rattle.lasso_codes.specs.Errors.{failed_reads, failed_writes, gone_readers, IsWriteEnd, IsOutputError};
+ghost use Rattle.lasso_codes.specs.Errors.{failed_reads, failed_writes, gone_readers, IsOutputError};
 ghost use Rattle.lasso_codes.specs.Reading.{entry_items};
 ghost use Rattle.lasso_codes.specs.Stages.{DecodesOn, StopsDecoding};
-ghost use Rattle.lasso_codes.specs.Streams.{IfKnown, Reports, ReportsFailure, Writes};
+ghost use Rattle.lasso_codes.specs.Streams.{IfKnown, Reports, Writes};
 
 use crate::entries::{Entry, first_entry, line_at, next_entry};
 use crate::error::RunError;
 use crate::interner::new_rodeo;
 use crate::line_table::LineTable;
 use crate::lines::TextRule;
-use crate::output::{end_flushed, write_line};
+use crate::output::write_line;
 use crate::reading::{Header, next_header, read_texts};
 use crate::streams::{Input, Output};
 use lasso_parts::util::MemoryLimits;
 use std::io::{Read, Write};
 
-/// Decodes the columns of the input, and writes their lines, each with a line feed. A null is written as
-/// `null`.
-///
-/// # Errors
-/// A damaged column, a null if `null` is `None`, a text that is refused or not let in, a failed read, or out of memory: the
-/// lines before it were written. After a failed write, a prefix of the lines was written.
-pub fn decode<R: Read + Drop, W: Write + Drop>(
-    rule: TextRule,
-    input: &mut Input<R>,
-    output: &mut Output<W>,
-    limits: MemoryLimits,
-    null: Option<&[u8]>,
-) -> Result<(), RunError>
-    ensures report { Reports input.old output.old output.new (DecodeEnds rule.only_utf8 limits (word_of null.entry) input.new.left result) }
-    ensures flushed { ¬ (IsWriteEnd result) → output.new.pending ≡ [] }
-    ensures reads { ¬ (result ≡ Err RunError.WriteFailed) → input.new.failures ≡ input.old.failures + failed_reads result }
-    ensures writes { output.new.failures ≡ output.old.failures + failed_writes result }
-    ensures gone { ¬ (result ≡ Err RunError.WriteFailed) → output.new.gone ≡ output.old.gone + gone_readers result }
-    ensures write_failed { ReportsFailure result input.old input.new output.old output.new
-        (DecodeEnds rule.only_utf8 limits (word_of null.entry) input.new.left) }
-{
-    let result = write_decoded(rule, input, output, limits, null);
-    end_flushed(output, result)
-}
-
-// Writes the lines of each column. The last bytes stay in the buffer.
-fn write_decoded<R: Read + Drop, W: Write + Drop>(
+// Decodes the columns of the input, and writes their lines, each with a line feed. A null is written as `null`. The
+// last bytes stay in the buffer.
+//
+// A damaged column, a null if `null` is `None`, a text that is refused or not let in, a failed read, or out of
+// memory: the lines before it were written. After a failed write, a prefix of the lines was written.
+pub(crate) fn write_decoded<R: Read + Drop, W: Write + Drop>(
     rule: TextRule,
     input: &mut Input<R>,
     output: &mut Output<W>,

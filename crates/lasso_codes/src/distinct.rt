@@ -1,46 +1,27 @@
 //! Lists the distinct lines.
-ghost use Rattle.std.specs.Prelude.{◌≡◌, ◌+◌, ◌<◌, ◌≤◌, ◌-◌, ◌^◌, [], Err, IfOk, IfErr, length};
+ghost use Rattle.std.specs.Prelude.{◌≡◌, ◌+◌, ◌<◌, ◌≤◌, ◌-◌, ◌^◌, Err, IfOk, IfErr, length};
 ghost use Rattle.lasso_codes.specs.Stages.{PassesOn, StopsPassing};
-ghost use Rattle.lasso_codes.specs.Streams.{Reports, ReportsFailure, Writes};
+ghost use Rattle.lasso_codes.specs.Streams.{Reports, Writes};
 ghost use Rattle.lasso_codes.specs.Distinct.{DistinctEnds, PassesLine};
-ghost use Rattle.lasso_codes.specs.Errors.{failed_reads, failed_writes, gone_readers, IsWriteEnd, IsOutputError};
+ghost use Rattle.lasso_codes.specs.Errors.{failed_reads, failed_writes, gone_readers, IsOutputError};
 
 use crate::error::RunError;
 use crate::input::next_line;
 use crate::interner::new_rodeo;
 use crate::lines::{TextRule, Walk, intern_line, taken};
-use crate::output::{end_flushed, write_line};
+use crate::output::write_line;
 use crate::streams::{Input, Output};
 use lasso_columns::SpurRodeo;
 use lasso_input::{Line, Stretch};
 use lasso_parts::util::MemoryLimits;
 use std::io::{Read, Write};
 
-/// Writes each distinct line once, where it first occurs, with a line feed. The output is flushed before a
-/// read that may wait, and before each return.
-///
-/// # Errors
-/// The first line that is refused or not let in, a failed read, or out of memory: the distinct lines before
-/// it were written. After a failed write, a prefix of the distinct lines was written.
-pub fn distinct<R: Read + Drop, W: Write + Drop>(
-    rule: TextRule,
-    input: &mut Input<R>,
-    output: &mut Output<W>,
-    limits: MemoryLimits,
-) -> Result<(), RunError>
-    ensures report { Reports input.old output.old output.new (DistinctEnds rule.only_utf8 limits input.new.left result) }
-    ensures flushed { ¬ (IsWriteEnd result) → output.new.pending ≡ [] }
-    ensures reads { ¬ (result ≡ Err RunError.WriteFailed) → input.new.failures ≡ input.old.failures + failed_reads result }
-    ensures writes { output.new.failures ≡ output.old.failures + failed_writes result }
-    ensures gone { ¬ (result ≡ Err RunError.WriteFailed) → output.new.gone ≡ output.old.gone + gone_readers result }
-    ensures write_failed { ReportsFailure result input.old input.new output.old output.new (DistinctEnds rule.only_utf8 limits input.new.left) }
-{
-    let result = write_distinct(rule, input, output, limits);
-    end_flushed(output, result)
-}
-
-// Writes the distinct lines. The last bytes may stay in the buffer.
-fn write_distinct<R: Read + Drop, W: Write + Drop>(
+// Writes each distinct line once, where it first occurs, with a line feed. The output is flushed before a read that
+// may wait; the last bytes may stay in the buffer.
+//
+// The first line that is refused or not let in, a failed read, or out of memory: the distinct lines before it were
+// written. After a failed write, a prefix of the distinct lines was written.
+pub(crate) fn write_distinct<R: Read + Drop, W: Write + Drop>(
     rule: TextRule,
     input: &mut Input<R>,
     output: &mut Output<W>,

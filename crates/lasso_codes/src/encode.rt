@@ -8,10 +8,10 @@ ghost use Rattle.lasso_parts.specs.declared.util.LassoErrorKind.TheVariants.{Fai
 ghost use Rattle.lasso_columns.specs.declared.faults.LineError.TheVariants.{Refused};
 ghost use Rattle.lasso_columns.specs.Rows.{texts_of, word_of};
 ghost use Rattle.lasso_codes.specs.Encode.{AddsNumber, EncodeEnds, EncodingError, EntryMayLackMemory, IsEntryFault, IsNoNull, IsNumbered, NumbersLines};
-ghost use Rattle.lasso_codes.specs.Errors.{failed_reads, failed_writes, gone_readers, IsWriteEnd, IsDataError, IsInputError};
+ghost use Rattle.lasso_codes.specs.Errors.{failed_reads, failed_writes, gone_readers, IsDataError, IsInputError};
 ghost use Rattle.lasso_codes.specs.Limits.{IfNew, InternsLines, IsLetIn, IsLineFault};
 ghost use Rattle.lasso_codes.specs.Stages.{EncodesOn, StopsNumbering};
-ghost use Rattle.lasso_codes.specs.Streams.{IfKnown, Reports, ReportsFailure};
+ghost use Rattle.lasso_codes.specs.Streams.{IfKnown, Reports};
 
 use crate::arguments::Settings;
 use crate::columns::append;
@@ -20,8 +20,7 @@ use crate::error::RunError;
 use crate::input::next_line;
 use crate::interner::new_rodeo;
 use crate::line_table::LineTable;
-use crate::lines::{TextRule, Walk, known_bytes, plain_text_in, taken, text_in};
-use crate::output::end_flushed;
+use crate::lines::{TextRule, Walk, known_bytes, taken, text_in};
 use crate::streams::{Input, Output};
 use lasso_columns::{LineError, NULL, SpurRodeo, is_null};
 use lasso_input::{Line, Stretch, text_of};
@@ -33,33 +32,12 @@ use std::borrow::CowStr;
 use std::io::{Read, Write};
 use std::thread::Threads;
 
-/// Encodes the lines, and writes their column. A line that equals `null` is a null. Several workers encode
-/// blocks of the input, as `encode_stream` says.
-///
-/// # Errors
-/// A line that is refused or not let in, a failed read, or out of memory: nothing is written. After a
-/// failed write, a prefix of the column was written.
-pub fn encode<H: AllocGlobal + Threads + Sync, R: Read + Drop, W: Write + Drop>(
-    rt: &H,
-    input: &mut Input<R>,
-    output: &mut Output<W>,
-    settings: Settings,
-    null: Option<&[u8]>,
-    hasher: TextState,
-) -> Result<(), RunError>
-    ensures report { Reports input.old output.old output.new (EncodeEnds settings (word_of null.entry) input.new.left result) }
-    ensures flushed { ¬ (IsWriteEnd result) → output.new.pending ≡ [] }
-    ensures reads { ¬ (result ≡ Err RunError.WriteFailed) → input.new.failures ≡ input.old.failures + failed_reads result }
-    ensures writes { output.new.failures ≡ output.old.failures + failed_writes result }
-    ensures gone { ¬ (result ≡ Err RunError.WriteFailed) → output.new.gone ≡ output.old.gone + gone_readers result }
-    ensures write_failed { ReportsFailure result input.old input.new output.old output.new (EncodeEnds settings (word_of null.entry) input.new.left) }
-{
-    let result = write_encoded(rt, input, output, settings, null, hasher);
-    end_flushed(output, result)
-}
-
-// Encodes the lines and writes their column. The last bytes stay in the buffer.
-fn write_encoded<H: AllocGlobal + Threads + Sync, R: Read + Drop, W: Write + Drop>(
+// Encodes the lines, and writes their column. A line that equals `null` is a null. Several workers encode blocks of
+// the input, as `encode_stream` says. The last bytes stay in the buffer.
+//
+// A line that is refused or not let in, a failed read, or out of memory: nothing is written. After a failed write,
+// a prefix of the column was written.
+pub(crate) fn write_encoded<H: AllocGlobal + Threads + Sync, R: Read + Drop, W: Write + Drop>(
     rt: &H,
     input: &mut Input<R>,
     output: &mut Output<W>,
@@ -236,33 +214,6 @@ fn encode_line(
 
 // The entry of the line with this number. Interns the line, unless it is a null.
 fn entry_of(
-    rule: TextRule,
-    rodeo: &mut SpurRodeo,
-    walk: &mut Walk,
-    null: Option<&[u8]>,
-    line: &Line<'_>,
-    number: usize,
-) -> Result<u32, LineError>
-    ensures { MatchResult result
-        (λ entry. IsLetIn rule.only_utf8 line.now × IsNumbered (word_of null.entry) rodeo.old line.now rodeo.new entry)
-        (IsEntryFault rule.only_utf8 (word_of null.entry) rodeo.old line.now number) }
-{
-    let Some(text) = plain_text_in(rule, line) else {
-        return any_entry_of(rule, rodeo, walk, null, line, number);
-    };
-    if is_null(null, line.bytes()) {
-        walk.batch.skip();
-        return Ok(NULL);
-    }
-    match intern_code_next(rodeo, text, &mut walk.batch) {
-        Ok(entry) => Ok(entry),
-        Err(error) => Err(LineError::Refused(number, error)),
-    }
-}
-
-// The entry of a line that may not be its own text.
-#[inline(never)]
-fn any_entry_of(
     rule: TextRule,
     rodeo: &mut SpurRodeo,
     walk: &mut Walk,

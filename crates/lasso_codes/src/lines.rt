@@ -1,5 +1,5 @@
 //! Interns lines, and says how far a stretch of them is taken.
-ghost use Rattle.std.specs.Prelude.{◌≡◌, ◌-◌, ◌≤◌, false, IfErr, IfSome, MatchResult, drop, length};
+ghost use Rattle.std.specs.Prelude.{◌≡◌, ◌-◌, ◌≤◌, false, IfErr, MatchResult, drop, length};
 ghost use Rattle.hex.specs.Hex.{IsBytes};
 ghost use Rattle.lasso_input.specs.Texts.{is_own_text, text_of};
 ghost use Rattle.lasso_codes.specs.Limits.{InternsOrFinds, IsLetIn, IsLineFault, IsNotLetIn, LacksMemory};
@@ -62,23 +62,29 @@ pub fn text_in<'a>(
 {
     let bytes = line.bytes();
     known_bytes(bytes);
-    match own_text(line) {
+    match line.plain_text() {
         Some(text) => Ok(text),
-        None => made_text(rule, buffer, line, number),
+        None => any_text_in(rule, buffer, line, number),
     }
 }
 
-/// The text of the line, if it is known to be plain. Such a line is let in.
-#[inline(always)]
-pub fn plain_text_in<'a>(rule: TextRule, line: &Line<'a>) -> Option<&'a str>
-    ensures { IfSome result (λ text. IsLetIn rule.only_utf8 line.now × (text.now ≡ text_of line.now)) }
+// The text of a line that may not be its own text. Out of line, so that the text of a plain one stays in registers.
+#[inline(never)]
+fn any_text_in<'a>(
+    rule: TextRule,
+    buffer: &'a mut Vec<u8>,
+    line: &'a Line<'_>,
+    number: usize,
+) -> Result<&'a str, LineError>
+    ensures { MatchResult result
+        (λ text. IsLetIn rule.only_utf8 line.now × (text.now ≡ text_of line.now))
+        (IsNotLetIn rule.only_utf8 line.now number) }
 {
     let bytes = line.bytes();
     known_bytes(bytes);
-    let _ = rule;
-    match line.plain_text() {
-        Some(text) => Some(text),
-        None => None,
+    match own_text(line) {
+        Some(text) => Ok(text),
+        None => made_text(rule, buffer, line, number),
     }
 }
 
@@ -122,30 +128,6 @@ pub fn known_bytes(bytes: &[u8])
 /// The line is not let in, or its text is refused. The interner is as it was. Out of memory occurs only for a
 /// text that the interner lacks and would take, or for a line that is not its own text.
 pub fn intern_line<S: BuildHasher, A: Allocator + Clone>(
-    rule: TextRule,
-    rodeo: &mut Rodeo<Spur, S, A>,
-    walk: &mut Walk,
-    line: &Line<'_>,
-    number: usize,
-) -> Result<bool, LineError>
-    ensures interned { MatchResult result
-        (InternsOrFinds rule.only_utf8 rodeo.old line.now rodeo.new)
-        (λ error. (rodeo.new ≡ rodeo.old) × IsLineFault rule.only_utf8 rodeo.old line.now number error) }
-    ensures memory { IfErr result (LacksMemory rodeo.old line.now) }
-{
-    let Some(text) = plain_text_in(rule, line) else {
-        return intern_any(rule, rodeo, walk, line, number);
-    };
-    let count = rodeo.len();
-    match intern_next(rodeo, text, &mut walk.batch) {
-        Ok(_) => Ok(rodeo.len() > count),
-        Err(error) => Err(LineError::Refused(number, error)),
-    }
-}
-
-// Interns the text of any line. Out of line, so that the text of a plain one stays in registers.
-#[inline(never)]
-fn intern_any<S: BuildHasher, A: Allocator + Clone>(
     rule: TextRule,
     rodeo: &mut Rodeo<Spur, S, A>,
     walk: &mut Walk,

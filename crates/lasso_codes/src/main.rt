@@ -13,7 +13,6 @@ pub mod cause;
 pub mod columns;
 pub mod counts;
 pub mod decode;
-pub mod dictionary;
 pub mod distinct;
 pub mod encode;
 pub mod ending;
@@ -46,7 +45,7 @@ use error::RunError;
 use fused::Fused;
 use lasso_parts::hasher::TextState;
 use nearest::nearest_verb;
-use program::{BUFFER_SIZE, Ran, run_with_hasher};
+use program::{BUFFER_SIZE, Ran, run};
 use progress::{Terminals, Watched, shows_progress};
 use std::alloc::{AllocError, Global};
 use std::io::{BufReader, BufWriter, ErrorKind, IsTerminal};
@@ -118,7 +117,7 @@ fn run_program<'a, R: AllocGlobal + Input + Print + Eprint + Clock + Threads + S
     };
     let mut input = streams::Input::new(reader);
     let mut output = streams::Output::new(writer);
-    let ran = run_with_hasher(rt, request, &mut input, &mut output, hasher);
+    let ran = run(rt, request, &mut input, &mut output, hasher);
     input.into_inner().into_inner().wipe();
     // Dropping the writer would write what a failed write left in the buffer. Nothing is tried again.
     let (_writer, _left) = output.into_parts();

@@ -1,16 +1,16 @@
 //! Merges columns into one column.
-ghost use Rattle.std.specs.Prelude.{◌≡◌, ◌+◌, ◌-◌, ◌<◌, ◌≤◌, ◌^◌, ◌++◌, ◌∷◌, [], List, length, Ok, Err, OnOk, IfOk, IfErr, MatchResult};
+ghost use Rattle.std.specs.Prelude.{◌≡◌, ◌+◌, ◌-◌, ◌<◌, ◌≤◌, ◌^◌, ◌++◌, ◌∷◌, [], List, cond, length, Ok, Err, OnOk, IfOk, IfErr, MatchResult};
 ghost use Rattle.lasso_parts.specs.Texts.{Text};
 ghost use Rattle.lasso_single.specs.Interner.{made_with};
 ghost use Rattle.lasso_single.specs.Codes.{AreCodes};
 ghost use Rattle.lasso_columns.specs.declared.faults.LineError.TheVariants.{Refused};
 ghost use Rattle.lasso_parts.specs.declared.util.LassoErrorKind.TheVariants.{FailedAllocation};
-ghost use Rattle.lasso_codes.specs.Columns.{entry_at};
-ghost use Rattle.lasso_codes.specs.Errors.{failed_reads, failed_writes, gone_readers, IsWriteEnd, IsDataError, IsInputError};
-ghost use Rattle.lasso_codes.specs.Merge.{recoded, AddsEntries, AddsEntry, AreMerged, MergeEnds, MergingError};
+ghost use Rattle.lasso_codes.specs.Columns.{column_of, entry_at};
+ghost use Rattle.lasso_codes.specs.Errors.{failed_reads, failed_writes, gone_readers, IsDataError, IsInputError};
+ghost use Rattle.lasso_codes.specs.Merge.{recoded, without_entries, AddsEntries, AddsEntry, AreMerged, MergedEnd, MergingError};
 ghost use Rattle.lasso_codes.specs.Stages.{AddsOn, StopsAdding};
 ghost use Rattle.lasso_codes.specs.Reading.{entry_items};
-ghost use Rattle.lasso_codes.specs.Streams.{IfKnown, Reports, ReportsFailure};
+ghost use Rattle.lasso_codes.specs.Streams.{IfKnown, Reports};
 
 use crate::columns::{append, write_column};
 use crate::entries::{Entry, first_entry, next_entry};
@@ -18,46 +18,27 @@ use crate::error::{ColumnError, RunError};
 use crate::interner::new_rodeo;
 use crate::line_table::LineTable;
 use crate::lines::TextRule;
-use crate::output::end_flushed;
 use crate::reading::{Header, next_header, read_texts};
 use crate::streams::{Input, Output};
 use lasso_columns::{NULL, SpurRodeo, merge as merge_texts};
 use lasso_parts::util::MemoryLimits;
 use std::io::{Read, Write};
 
-/// Reads the columns of the input, and then writes one column with one dictionary, which has the lines of
-/// all.
-///
-/// # Errors
-/// A damaged column, a text that is refused or not let in, a failed read, or out of memory: nothing is written. After a
-/// failed write, a prefix of the column was written.
-pub fn merge<R: Read + Drop, W: Write + Drop>(
+// Reads the columns of the input, and then writes one column with one dictionary, which has the lines of all; without
+// its entries unless `with_entries`. The last bytes stay in the buffer.
+//
+// A damaged column, a text that is refused or not let in, a failed read, or out of memory: nothing is written. After
+// a failed write, a prefix of the column was written.
+pub(crate) fn write_merged<R: Read + Drop, W: Write + Drop>(
     rule: TextRule,
     input: &mut Input<R>,
     output: &mut Output<W>,
     limits: MemoryLimits,
     binary: bool,
+    with_entries: bool,
 ) -> Result<(), RunError>
-    ensures report { Reports input.old output.old output.new (MergeEnds rule.only_utf8 limits binary input.new.left result) }
-    ensures flushed { ¬ (IsWriteEnd result) → output.new.pending ≡ [] }
-    ensures reads { ¬ (result ≡ Err RunError.WriteFailed) → input.new.failures ≡ input.old.failures + failed_reads result }
-    ensures writes { output.new.failures ≡ output.old.failures + failed_writes result }
-    ensures gone { ¬ (result ≡ Err RunError.WriteFailed) → output.new.gone ≡ output.old.gone + gone_readers result }
-    ensures write_failed { ReportsFailure result input.old input.new output.old output.new (MergeEnds rule.only_utf8 limits binary input.new.left) }
-{
-    let result = write_merged(rule, input, output, limits, binary);
-    end_flushed(output, result)
-}
-
-// Merges the columns and writes the merged one. The last bytes stay in the buffer.
-fn write_merged<R: Read + Drop, W: Write + Drop>(
-    rule: TextRule,
-    input: &mut Input<R>,
-    output: &mut Output<W>,
-    limits: MemoryLimits,
-    binary: bool,
-) -> Result<(), RunError>
-    ensures report { Reports input.old output.old output.new (MergeEnds rule.only_utf8 limits binary input.new.left result) }
+    ensures report { Reports input.old output.old output.new (λ bytes part.
+        MergedEnd bytes rule.only_utf8 limits (cond with_entries (column_of binary) (without_entries binary)) input.new.left part result) }
     ensures reads { input.new.failures ≡ input.old.failures + failed_reads result }
     ensures writes { output.new.failures ≡ output.old.failures + failed_writes result }
     ensures gone { output.new.gone ≡ output.old.gone + gone_readers result }
@@ -66,15 +47,16 @@ fn write_merged<R: Read + Drop, W: Write + Drop>(
     let mut numbers = Vec::new(rule.alloc);
     merge_columns(rule, input, &mut rodeo, &mut numbers, limits)?;
     let table = LineTable::new(rule.alloc, &rodeo)?;
-    write_column(output, &table, &numbers, binary)
+    if with_entries {
+        write_column(output, &table, &numbers, binary)
+    } else {
+        write_column(output, &table, &[], binary)
+    }
 }
 
-/// Interns the texts of each column, and appends its entries with the codes of these. The interner must be new, and there
-/// must be no entries.
-///
-/// # Errors
-/// Those of `merge` before a write.
-pub fn merge_columns<R: Read + Drop>(
+// Interns the texts of each column, and appends its entries with the codes of these. The interner must be new, and there
+// must be no entries. Its errors are those of `write_merged` before a write.
+fn merge_columns<R: Read + Drop>(
     rule: TextRule,
     input: &mut Input<R>,
     rodeo: &mut SpurRodeo,

@@ -178,40 +178,21 @@ fn setting_of(verb: Verb, name: &[u8]) -> Option<Setting>
 fn takes_null(verb: Verb) -> bool
     ensures { result ≡ takes_null verb }
 {
-    match verb {
-        Verb::Decode | Verb::Encode => true,
-        Verb::Counts
-        | Verb::Dictionary
-        | Verb::Distinct
-        | Verb::Join
-        | Verb::Merge
-        | Verb::Recode => false,
-    }
+    matches!(verb, Verb::Decode | Verb::Encode)
 }
 
 // Whether the verb has the option `--binary`.
 fn takes_binary(verb: Verb) -> bool
     ensures { result ≡ takes_binary verb }
 {
-    match verb {
-        Verb::Counts | Verb::Decode | Verb::Distinct => false,
-        Verb::Dictionary | Verb::Encode | Verb::Join | Verb::Merge | Verb::Recode => true,
-    }
+    !matches!(verb, Verb::Counts | Verb::Decode | Verb::Distinct)
 }
 
 // Whether the verb has the option `--workers`.
 fn takes_workers(verb: Verb) -> bool
     ensures { result ≡ takes_workers verb }
 {
-    match verb {
-        Verb::Counts | Verb::Encode => true,
-        Verb::Decode
-        | Verb::Dictionary
-        | Verb::Distinct
-        | Verb::Join
-        | Verb::Merge
-        | Verb::Recode => false,
-    }
+    matches!(verb, Verb::Counts | Verb::Encode)
 }
 
 // Reads the value of the setting, which is the word from the position `from` on.

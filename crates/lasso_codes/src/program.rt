@@ -2,13 +2,7 @@
 ghost use Rattle.std.specs.Prelude.{◌≡◌, ◌+◌, [], None, Err, IfErr};
 ghost use Rattle.lasso_columns.specs.Rows.{word_of};
 ghost use Rattle.lasso_codes.specs.Causes.{cause_of};
-ghost use Rattle.lasso_codes.specs.Counts.{CountsEnds};
-ghost use Rattle.lasso_codes.specs.Decode.{DecodeEnds};
-ghost use Rattle.lasso_codes.specs.Distinct.{DistinctEnds};
-ghost use Rattle.lasso_codes.specs.Encode.{EncodeEnds};
 ghost use Rattle.lasso_codes.specs.Errors.{failed_reads, failed_writes, gone_readers, IsWriteEnd, IsWriteError};
-ghost use Rattle.lasso_codes.specs.Merge.{DictionaryEnds, MergeEnds};
-ghost use Rattle.lasso_codes.specs.Recode.{JoinEnds, RecodeEnds};
 ghost use Rattle.lasso_codes.specs.Requests.{RequestEnds, VerbEnds};
 ghost use Rattle.lasso_codes.specs.Streams.{Reports, ReportsFailure, Writes, WritesAll};
 ghost use Rattle.lasso_columns.specs.declared.faults.LineError.TheVariants.{Refused};
@@ -16,21 +10,19 @@ ghost use Rattle.lasso_parts.specs.declared.util.LassoErrorKind.TheVariants.{Fai
 ghost use Rattle.lasso_codes.specs.declared.arguments.Settings.{Settings};
 ghost use Rattle.lasso_codes.specs.declared.arguments.Command.TheVariants.{Help, VerbHelp, Version, Run};
 ghost use Rattle.lasso_codes.specs.declared.arguments.Verb.{Verb};
-ghost use Rattle.lasso_codes.specs.declared.arguments.Verb.TheVariants.{Counts, Decode, Dictionary, Distinct, Encode, Join, Merge, Recode};
 
-use crate::arguments::{Command, Request, Verb};
+use crate::arguments::{Command, Request, Settings, Verb};
 use crate::cause::Cause;
-use crate::counts::counts;
-use crate::decode::decode;
-use crate::dictionary::dictionary;
-use crate::distinct::distinct;
-use crate::encode::encode;
+use crate::counts::write_counts;
+use crate::decode::write_decoded;
+use crate::distinct::write_distinct;
+use crate::encode::write_encoded;
 use crate::error::RunError;
 use crate::help::{HELP, VERSION, verb_help};
 use crate::lines::TextRule;
-use crate::merge::merge;
-use crate::output::write_bytes;
-use crate::recode::{join, recode};
+use crate::merge::write_merged;
+use crate::output::{end_flushed, write_bytes};
+use crate::recode::write_recoded;
 use crate::streams::{Input, Output};
 use lasso_parts::hasher::TextState;
 use lasso_parts::util::MemoryLimits;
@@ -79,32 +71,9 @@ impl<'a> Ran<'a> {
     }
 }
 
-/// Runs the request as `run_request` does, with the fixed seed, and keeps the error of the call at which it ended.
+/// Runs the verb, or writes a help text and reads nothing; and keeps the error of the call at which it ended.
+/// Interners hash by this seed, which what is written does not depend on. The output is flushed, unless a write failed.
 pub fn run<'a, H: AllocGlobal + Threads + Sync, R: Read + Drop, W: Write + Drop>(
-    rt: &H,
-    request: &Request<'a>,
-    input: &mut Input<R>,
-    output: &mut Output<W>,
-) -> Ran<'a>
-    ensures request { result.request ≡ request.now }
-    ensures report { (verb : Verb) (settings : Settings) → request.now.command ≡ Run verb settings →
-        Reports input.old output.old output.new (VerbEnds verb settings (word_of request.now.null) input.new.left result.ended) }
-    ensures help { request.now.command ≡ Help → input.new ≡ input.old }
-    ensures verb_help { (verb : Verb) → request.now.command ≡ VerbHelp verb → input.new ≡ input.old }
-    ensures version { request.now.command ≡ Version → input.new ≡ input.old }
-    ensures flushed { ¬ (IsWriteEnd result.ended) → output.new.pending ≡ [] }
-    ensures reads { ¬ (result.ended ≡ Err RunError.WriteFailed) → input.new.failures ≡ input.old.failures + failed_reads result.ended }
-    ensures writes { output.new.failures ≡ output.old.failures + failed_writes result.ended }
-    ensures gone { ¬ (result.ended ≡ Err RunError.WriteFailed) → output.new.gone ≡ output.old.gone + gone_readers result.ended }
-    ensures write_failed { ReportsFailure result.ended input.old input.new output.old output.new
-        (RequestEnds request.now.command (word_of request.now.null) input.new.left) }
-    ensures cause { result.cause ≡ cause_of result.ended input.new output.new }
-{
-    run_with_hasher(rt, request, input, output, TextState::new())
-}
-
-/// Runs the request as `run_request` does. Interners hash by this seed, which what is written does not depend on.
-pub fn run_with_hasher<'a, H: AllocGlobal + Threads + Sync, R: Read + Drop, W: Write + Drop>(
     rt: &H,
     request: &Request<'a>,
     input: &mut Input<R>,
@@ -149,33 +118,17 @@ fn cause_of<R: Read + Drop, W: Write + Drop>(
     }
 }
 
-/// Runs the verb, or writes a help text and reads nothing.
-///
-/// # Errors
-/// As the verb, or as `write_bytes` for a help text.
-pub fn run_request<H: AllocGlobal + Threads + Sync, R: Read + Drop, W: Write + Drop>(
+// Runs the verb, or writes a help text and reads nothing. Flushes the output, unless a write failed: after another
+// error, a reader of the output that is gone is a failed write.
+fn run_request<H: AllocGlobal + Threads + Sync, R: Read + Drop, W: Write + Drop>(
     rt: &H,
     request: &Request<'_>,
     input: &mut Input<R>,
     output: &mut Output<W>,
     hasher: TextState,
 ) -> Result<(), RunError>
-    ensures distinct { (settings : Settings) → request.now.command ≡ Run Distinct settings →
-        Reports input.old output.old output.new (DistinctEnds settings.only_utf8 settings.limit input.new.left result) }
-    ensures counts { (settings : Settings) → request.now.command ≡ Run Counts settings →
-        Reports input.old output.old output.new (CountsEnds settings input.new.left result) }
-    ensures decode { (settings : Settings) → request.now.command ≡ Run Decode settings →
-        Reports input.old output.old output.new (DecodeEnds settings.only_utf8 settings.limit (word_of request.now.null) input.new.left result) }
-    ensures dictionary { (settings : Settings) → request.now.command ≡ Run Dictionary settings →
-        Reports input.old output.old output.new (DictionaryEnds settings.only_utf8 settings.limit settings.binary input.new.left result) }
-    ensures encode { (settings : Settings) → request.now.command ≡ Run Encode settings →
-        Reports input.old output.old output.new (EncodeEnds settings (word_of request.now.null) input.new.left result) }
-    ensures join { (settings : Settings) → request.now.command ≡ Run Join settings →
-        Reports input.old output.old output.new (JoinEnds settings.only_utf8 settings.limit settings.binary input.new.left result) }
-    ensures merge { (settings : Settings) → request.now.command ≡ Run Merge settings →
-        Reports input.old output.old output.new (MergeEnds settings.only_utf8 settings.limit settings.binary input.new.left result) }
-    ensures recode { (settings : Settings) → request.now.command ≡ Run Recode settings →
-        Reports input.old output.old output.new (RecodeEnds settings.only_utf8 settings.limit settings.binary input.new.left result) }
+    ensures report { (verb : Verb) (settings : Settings) → request.now.command ≡ Run verb settings →
+        Reports input.old output.old output.new (VerbEnds verb settings (word_of request.now.null) input.new.left result) }
     ensures help { request.now.command ≡ Help → input.new ≡ input.old }
     ensures verb_help { (verb : Verb) → request.now.command ≡ VerbHelp verb → input.new ≡ input.old }
     ensures version { request.now.command ≡ Version → input.new ≡ input.old }
@@ -186,29 +139,48 @@ pub fn run_request<H: AllocGlobal + Threads + Sync, R: Read + Drop, W: Write + D
     ensures write_failed { ReportsFailure result input.old input.new output.old output.new
         (RequestEnds request.now.command (word_of request.now.null) input.new.left) }
 {
-    let null = request.null;
     match request.command {
         Command::Help => show(output, HELP),
         Command::VerbHelp(verb) => show(output, verb_help(verb)),
         Command::Version => show(output, VERSION),
         Command::Run(verb, settings) => {
-            let limits = MemoryLimits::new(settings.limit);
-            let rule = TextRule {
-                alloc: rt.alloc(),
-                only_utf8: settings.only_utf8,
-                hasher,
-            };
-            match verb {
-                Verb::Counts => counts(rt, input, output, settings, hasher),
-                Verb::Decode => decode(rule, input, output, limits, null),
-                Verb::Dictionary => dictionary(rule, input, output, limits, settings.binary),
-                Verb::Distinct => distinct(rule, input, output, limits),
-                Verb::Encode => encode(rt, input, output, settings, null, hasher),
-                Verb::Join => join(rule, input, output, limits, settings.binary),
-                Verb::Merge => merge(rule, input, output, limits, settings.binary),
-                Verb::Recode => recode(rule, input, output, limits, settings.binary),
-            }
+            let ended = run_verb(rt, verb, settings, request.null, input, output, hasher);
+            end_flushed(output, ended)
         }
+    }
+}
+
+// Runs the verb. The last bytes stay in the buffer.
+fn run_verb<H: AllocGlobal + Threads + Sync, R: Read + Drop, W: Write + Drop>(
+    rt: &H,
+    verb: Verb,
+    settings: Settings,
+    null: Option<&[u8]>,
+    input: &mut Input<R>,
+    output: &mut Output<W>,
+    hasher: TextState,
+) -> Result<(), RunError>
+    ensures report { Reports input.old output.old output.new (VerbEnds verb settings (word_of null.entry) input.new.left result) }
+    ensures reads { input.new.failures ≡ input.old.failures + failed_reads result }
+    ensures writes { output.new.failures ≡ output.old.failures + failed_writes result }
+    ensures gone { output.new.gone ≡ output.old.gone + gone_readers result }
+{
+    let limits = MemoryLimits::new(settings.limit);
+    let binary = settings.binary;
+    let rule = TextRule {
+        alloc: rt.alloc(),
+        only_utf8: settings.only_utf8,
+        hasher,
+    };
+    match verb {
+        Verb::Counts => write_counts(rt, input, output, settings, hasher),
+        Verb::Decode => write_decoded(rule, input, output, limits, null),
+        Verb::Dictionary => write_merged(rule, input, output, limits, binary, false),
+        Verb::Distinct => write_distinct(rule, input, output, limits),
+        Verb::Encode => write_encoded(rt, input, output, settings, null, hasher),
+        Verb::Join => write_recoded(rule, input, output, limits, binary, true),
+        Verb::Merge => write_merged(rule, input, output, limits, binary, true),
+        Verb::Recode => write_recoded(rule, input, output, limits, binary, false),
     }
 }
 

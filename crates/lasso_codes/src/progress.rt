@@ -45,11 +45,7 @@ pub fn shows_progress(command: Command, terminals: Terminals) -> bool
 fn writes_while_reading(verb: Verb) -> bool
     ensures { result ≡ writes_while_reading verb }
 {
-    match verb {
-        Verb::Decode | Verb::Distinct => true,
-        Verb::Counts | Verb::Dictionary | Verb::Encode | Verb::Join | Verb::Merge | Verb::Recode =>
-            false,
-    }
+    matches!(verb, Verb::Decode | Verb::Distinct)
 }
 
 /// The number of bytes that were read, and of whole seconds since the start. Its text is a progress line.

@@ -8,10 +8,10 @@ ghost use Rattle.lasso_single.specs.Interner.{made_with};
 ghost use Rattle.lasso_columns.specs.declared.faults.LineError.TheVariants.{Refused};
 ghost use Rattle.lasso_parts.specs.declared.util.LassoErrorKind.TheVariants.{FailedAllocation};
 ghost use Rattle.lasso_codes.specs.Columns.{entry_at};
-ghost use Rattle.lasso_codes.specs.Errors.{failed_reads, failed_writes, gone_readers, IsWriteEnd, IsInputError};
+ghost use Rattle.lasso_codes.specs.Errors.{failed_reads, failed_writes, gone_readers, IsInputError};
 ghost use Rattle.lasso_codes.specs.Limits.{line_texts, InternsOwn};
-ghost use Rattle.lasso_codes.specs.Recode.{AddsColumn, AddsColumns, DictionaryError, FindsCodes, JoinEnds, RecodeEnds, RecodedEnd, TakesDictionary, form_of};
-ghost use Rattle.lasso_codes.specs.Streams.{IfKnown, Reports, ReportsFailure};
+ghost use Rattle.lasso_codes.specs.Recode.{AddsColumn, AddsColumns, DictionaryError, FindsCodes, RecodedEnd, TakesDictionary, form_of};
+ghost use Rattle.lasso_codes.specs.Streams.{IfKnown, Reports};
 
 use crate::columns::{write_codes, write_column};
 use crate::error::{ColumnError, RunError};
@@ -19,7 +19,6 @@ use crate::interner::new_rodeo;
 use crate::line_table::LineTable;
 use crate::lines::TextRule;
 use crate::merge::add_numbers;
-use crate::output::end_flushed;
 use crate::reading::{Header, next_header, read_texts};
 use crate::streams::{Input, Output};
 use lasso_columns::{FindError, SpurRodeo, SpurRodeoReader, find_codes, own_codes};
@@ -27,55 +26,13 @@ use lasso_parts::util::MemoryLimits;
 use std::alloc::Global;
 use std::io::{Read, Write};
 
-/// Reads a dictionary and the columns after it, and then writes their entries by the codes of the dictionary, as a
-/// column without texts.
-///
-/// # Errors
-/// A dictionary with entries, no column after it, a damaged column, a text that the dictionary lacks, that is refused or
-/// not let in, a failed read, or out of memory: nothing is written. After a failed write, a prefix of the column was
-/// written.
-pub fn recode<R: Read + Drop, W: Write + Drop>(
-    rule: TextRule,
-    input: &mut Input<R>,
-    output: &mut Output<W>,
-    limits: MemoryLimits,
-    binary: bool,
-) -> Result<(), RunError>
-    ensures report { Reports input.old output.old output.new (RecodeEnds rule.only_utf8 limits binary input.new.left result) }
-    ensures flushed { ¬ (IsWriteEnd result) → output.new.pending ≡ [] }
-    ensures reads { ¬ (result ≡ Err RunError.WriteFailed) → input.new.failures ≡ input.old.failures + failed_reads result }
-    ensures writes { output.new.failures ≡ output.old.failures + failed_writes result }
-    ensures gone { ¬ (result ≡ Err RunError.WriteFailed) → output.new.gone ≡ output.old.gone + gone_readers result }
-    ensures write_failed { ReportsFailure result input.old input.new output.old output.new (RecodeEnds rule.only_utf8 limits binary input.new.left) }
-{
-    let result = write_recoded(rule, input, output, limits, binary, false);
-    end_flushed(output, result)
-}
-
-/// Reads what `recode` reads, and then writes one column of the dictionary and of the entries by its codes.
-///
-/// # Errors
-/// Those of `recode`.
-pub fn join<R: Read + Drop, W: Write + Drop>(
-    rule: TextRule,
-    input: &mut Input<R>,
-    output: &mut Output<W>,
-    limits: MemoryLimits,
-    binary: bool,
-) -> Result<(), RunError>
-    ensures report { Reports input.old output.old output.new (JoinEnds rule.only_utf8 limits binary input.new.left result) }
-    ensures flushed { ¬ (IsWriteEnd result) → output.new.pending ≡ [] }
-    ensures reads { ¬ (result ≡ Err RunError.WriteFailed) → input.new.failures ≡ input.old.failures + failed_reads result }
-    ensures writes { output.new.failures ≡ output.old.failures + failed_writes result }
-    ensures gone { ¬ (result ≡ Err RunError.WriteFailed) → output.new.gone ≡ output.old.gone + gone_readers result }
-    ensures write_failed { ReportsFailure result input.old input.new output.old output.new (JoinEnds rule.only_utf8 limits binary input.new.left) }
-{
-    let result = write_recoded(rule, input, output, limits, binary, true);
-    end_flushed(output, result)
-}
-
-// Rewrites the entries and writes them, and before them the dictionary if `with_texts`. The last bytes stay in the buffer.
-fn write_recoded<R: Read + Drop, W: Write + Drop>(
+// Reads a dictionary and the columns after it, and then writes their entries by the codes of the dictionary: as a
+// column without texts, or after the dictionary as one column if `with_texts`. The last bytes stay in the buffer.
+//
+// A dictionary with entries, no column after it, a damaged column, a text that the dictionary lacks, that is refused
+// or not let in, a failed read, or out of memory: nothing is written. After a failed write, a prefix of the column was
+// written.
+pub(crate) fn write_recoded<R: Read + Drop, W: Write + Drop>(
     rule: TextRule,
     input: &mut Input<R>,
     output: &mut Output<W>,

@@ -8,6 +8,7 @@
 -- follow. At a return only the remaining lines matter: none after the counts, or the line with the fault.
 use Rattle.std.proofs.Common.{ℕ, zero, suc, ◌≡◌, ◌+◌, ◌<◌, inl, inr, Bool, true, false, cond, List, [], ◌∷◌, ◌++◌, length, drop, Some, Result, Ok, Err, ap, sym, subst, ◌∙◌, refl, append_assoc, append-nil, arith}
 use Rattle.std.specs.Str.{is_utf8}
+use Rattle.std.proofs.Math.Seq.{drop-append_seam}
 use Rattle.lasso_parts.specs.Held.{Held}
 use Rattle.lasso_parts.specs.declared.util.LassoError.{LassoError}
 use Rattle.lasso_single.specs.Intern.{interned}
@@ -163,13 +164,9 @@ last_then held after number next line [] part more result none some end leads w 
     subst (λ ls. EndsFrom held number ls (part ++ more) result) (only_line line none some) (leads [] more result (counts_end after next result more w))
 last_then held after number next line (b ∷ left) part more result none some end leads w = absurd (omega (arith, end))
 
-drop_front : (front back : List ℕ) → drop (length front) (front ++ back) ≡ back
-drop_front [] back = refl
-drop_front (x ∷ front) back = drop_front front back
-
 -- the bytes left to read are those in the buffer and the rest
 pub all_shown : (buffer left : List ℕ) → Begins buffer left → left ≡ buffer ++ drop (length buffer) left
-all_shown buffer left begins = begins.1 ∙ ap (λ bs. buffer ++ bs) (sym (ap (λ bs. drop (length buffer) bs) begins.1 ∙ drop_front buffer begins.0))
+all_shown buffer left begins = begins.1 ∙ ap (λ bs. buffer ++ bs) (sym (ap (λ bs. drop (length buffer) bs) begins.1 ∙ drop-append_seam buffer begins.0))
 
 -- however a run over the held and the remaining bytes may end, so may the run over the whole input, with
 -- `part` in front

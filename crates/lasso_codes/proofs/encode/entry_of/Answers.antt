@@ -20,4 +20,4 @@ returns-in-Ok c =
     let null = word_of c.args.null in
     let other : is_null null line ≡ false = ap (is_null null) (sym c.bytes.ensures) ∙ sym c.is_null.ensures ∙ c.if-is_null.false in
     let told = c.in-Ok.ensures in
-    (c.in-Some.ensures.0, numbered null c.args.rodeo.now c.intern_code_next.new.rodeo line c.in-Some.text.now c.in-Ok.entry other c.in-Some.ensures.1 told.interns told.code told.range)
+    (c.in_ok-text.ensures.0, numbered null c.args.rodeo.now c.intern_code_next.new.rodeo line c.in_ok-text.text.now c.in-Ok.entry other c.in_ok-text.ensures.1 told.interns told.code told.range)

@@ -2,7 +2,7 @@ use Rattle.std.proofs.Common.{◌∙◌, sym, subst}
 use Rattle.hex.specs.Hex.{IsBytes}
 use Rattle.lasso_input.proofs.LineTexts.{own_is_text}
 use Rattle.lasso_input.proofs.LettingIn.{own_let_in}
-use Rattle.lasso_codes.proofs.lines.plain_text_in.Goals as goal
+use Rattle.lasso_codes.proofs.lines.any_text_in.Goals as goal
 
 pub returns-in-Some : goal.returns-in-Some
 returns-in-Some c =
