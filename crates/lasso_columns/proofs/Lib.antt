@@ -17,11 +17,14 @@ pub mod Rewritten
 pub mod LayoutLaws
 pub mod Written
 pub mod Readings
+pub mod ReadFaults
 pub mod Counted
 pub mod Rest
 pub mod Added
 pub mod Ranks
 pub mod Found
+pub mod Merged
+pub mod LineFaults
 -- the lemmas about codes and about lines
 pub use Rattle.lasso_single.proofs.Coded
 pub use Rattle.lasso_single.proofs.Encoded

@@ -33,6 +33,14 @@ fault_position (NotText at) = at
 fault_position (Doubled at) = at
 fault_position (Refused at _) = at
 
+-- the error is one of the layout, whatever the interner has
+abbrev pub IsOfLayout : ReadError → Type 0
+IsOfLayout (OffsetsFall at) = Unit {0}
+IsOfLayout (OffsetPastBytes at) = Unit {0}
+IsOfLayout (NotText at) = Unit {0}
+IsOfLayout (Doubled at) = ⊥
+IsOfLayout (Refused at _) = ⊥
+
 -- the layout has a text at this position and no fault up to that text's end, and `P` holds of the text
 abbrev pub IsGoodAnd : ℕ → List ℕ → List ℕ → ℕ → (Text → Type 0) → Type 0
 IsGoodAnd most bytes offsets n P =

@@ -38,6 +38,11 @@ read_error_text (read_faults.NotText at) = codes "text " ++ (decimal at ++ codes
 read_error_text (read_faults.Doubled at) = codes "text " ++ (decimal at ++ codes " is there already")
 read_error_text (read_faults.Refused at kind) = codes "text " ++ (decimal at ++ (codes ": " ++ kind_text kind))
 
+-- the number of the line that a fault is of
+abbrev pub fault_line : LineError → ℕ
+fault_line (Refused line _) = line
+fault_line (NotText line) = line
+
 -- the line of this number is refused, or it is not UTF-8
 abbrev pub IsFaultOf : InternerView → Text → ℕ → LineError → Type 0
 IsFaultOf now line number (Refused at error) = (at ≡ number) × IsUtf8 line × IsRefused now line error

@@ -3,7 +3,7 @@ use Rattle.std.specs.Prelude.{ℕ, ◌≡◌, ◌⊎◌, List, length, take, Ok,
 use Rattle.lasso_parts.specs.Texts.{Text}
 use Rattle.lasso_parts.specs.declared.util.LassoError.{LassoError}
 use Rattle.lasso_parts.specs.declared.util.LassoErrorKind.TheVariants.{FailedAllocation}
-use Rattle.lasso_single.specs.Filling.{extend}
+use Rattle.lasso_single.specs.Filling.{extend, with_all_new}
 use Rattle.lasso_single.specs.Interner.{InternerView}
 use Rattle.lasso_single.specs.Coding.{spur_at, IsAdmitted, IsRefused}
 
@@ -12,6 +12,10 @@ use Rattle.lasso_single.specs.Coding.{spur_at, IsAdmitted, IsRefused}
 abbrev pub MayLackMemoryWithRoom : InternerView → List ℕ → List Text → LassoError → Type 0
 MayLackMemoryWithRoom now codes list error =
     IsSomeAnd (slice_get list (length codes)) (λ text. error ≡ FailedAllocation → IsAdmitted now text)
+
+-- the texts before one of the list are in the interner, and P holds of that one
+abbrev pub MergesUpTo : (old now : InternerView) → List Text → (Text → Type 0) → Type 0
+MergesUpTo old now list P = (n : ℕ) × (now.texts ≡ with_all_new old.texts (take n list)) × IsSomeAnd (slice_get list n) P
 
 -- the texts before one of the list were interned, and that one was refused with this error
 abbrev pub StopsMerging : (old now : InternerView) → List Text → LassoError → Type 0

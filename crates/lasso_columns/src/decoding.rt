@@ -1,7 +1,8 @@
 //! Decodes codes to texts.
-ghost use Rattle.std.specs.Prelude.{◌≡◌, ◌+◌, ◌-◌, OnOk, IfErr, length, take, vec_len};
+ghost use Rattle.std.specs.Prelude.{◌≡◌, ℕ, ◌+◌, ◌-◌, ◌<◌, None, Some, Err, OnOk, IfErr, IsSomeAnd, length, slice_get, take, vec_len};
 ghost use Rattle.lasso_single.specs.Codes.{AddsTexts};
 ghost use Rattle.lasso_columns.specs.Faults.{IsFaultAt};
+ghost use Rattle.lasso_columns.specs.declared.faults.DecodeError.TheVariants.{NoMemory, NoText};
 
 use crate::faults::DecodeError;
 use lasso_parts::index::Texts;
@@ -35,7 +36,26 @@ pub fn decode<'r, S: BuildHasher, A: Allocator>(
     // On success these are all codes.
     ensures whole { OnOk result (vec_len out.new ≡ vec_len out.old + length codes.now) }
 
-    // On failure
+    // On failure the next code has no text; or it has one, and memory ran out.
+    ensures no_text { (position code : ℕ) → result ≡ Err (NoText position code)
+        → (position ≡ vec_len out.new - vec_len out.old) × (slice_get codes.now position ≡ Some code) × (slice_get reader.now code ≡ None) }
+    ensures memory { result ≡ Err NoMemory → IsSomeAnd (slice_get codes.now (vec_len out.new - vec_len out.old)) (λ code. code < length reader.now) }
+
+    // The same facts as one relation
+    ensures fault { IfErr result (IsFaultAt reader.now codes.now (vec_len out.new - vec_len out.old)) }
+{
+    decode_each(reader, codes, out)
+}
+
+// The call with its contract in relations.
+#[inline(always)]
+fn decode_each<'r, S: BuildHasher, A: Allocator>(
+    reader: &'r RodeoReader<Spur, S, A>,
+    codes: &[u32],
+    out: &mut Vec<&'r str>,
+) -> Result<(), DecodeError>
+    ensures texts { AddsTexts reader.now (take (vec_len out.new - vec_len out.old) codes.now) out.old.items out.new.items }
+    ensures whole { OnOk result (vec_len out.new ≡ vec_len out.old + length codes.now) }
     ensures fault { IfErr result (IsFaultAt reader.now codes.now (vec_len out.new - vec_len out.old)) }
 {
     // If there is no memory for all texts at once, each push asks for its own.

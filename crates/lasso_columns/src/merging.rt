@@ -1,9 +1,13 @@
 //! Merges the texts of one interner into another.
-ghost use Rattle.std.specs.Prelude.{◌≡◌, ◌≤◌, [], OnOk, IfOk, IfErr, IsSomeAnd, slice_get, take, length, vec_capacity};
-ghost use Rattle.lasso_single.specs.Filling.{InternsEach};
+ghost use Rattle.std.specs.Prelude.{◌≡◌, ◌≤◌, ◌+◌, ◌⊎◌, [], None, Some, Err, OnOk, IfOk, IfErr, IsSome, IsSomeAnd, slice_get, take, length, vec_capacity};
+ghost use Rattle.lasso_parts.specs.declared.util.LassoErrorKind.TheVariants.{FailedAllocation, KeySpaceExhaustion, MemoryLimitReached};
+ghost use Rattle.lasso_single.specs.Copies.{bytes_of};
+ghost use Rattle.lasso_single.specs.Filling.{InternsEach, account_with_all, added_texts, with_all_new};
+ghost use Rattle.lasso_single.specs.Intern.{IsAbsent, account_with, next_key};
+ghost use Rattle.lasso_single.specs.Interner.{KeepsOrigin};
 ghost use Rattle.lasso_single.specs.Codes.{AreCodes, StandFor};
 ghost use Rattle.lasso_single.specs.Coding.{spur_at, IsRefused};
-ghost use Rattle.lasso_columns.specs.Merging.{MayLackMemoryWithRoom, MayLackMemoryMerging, StopsMerging};
+ghost use Rattle.lasso_columns.specs.Merging.{MayLackMemoryWithRoom, MayLackMemoryMerging, MergesUpTo, StopsMerging};
 
 use lasso_parts::index::Texts;
 use lasso_parts::keys::Spur;
@@ -37,12 +41,43 @@ pub fn merge<S: BuildHasher, A: Allocator + Clone, T: BuildHasher, B: Allocator>
     into: &mut Rodeo<Spur, S, A>,
     from: &RodeoReader<Spur, T, B>,
 ) -> LassoResult<Vec<u32>>
-    // On success
+    // On success `into` has each text of `from`: the number at position n is the code there of the text with code n in `from`.
+    ensures codes { IfOk result (λ codes. AreCodes into.new.texts from.now codes.items) }
+    ensures resolved { IfOk result (λ codes. StandFor into.new.texts codes.items from.now) }
+    ensures texts { OnOk result (into.new.texts ≡ with_all_new into.old.texts from.now) }
+
+    // In each case texts are only added, and they alone take bytes.
+    ensures account { account_with_all into.old (added_texts into.old into.new) ≡ Some into.new.account }
+    ensures copied { into.new.copied ≡ into.old.copied + bytes_of (added_texts into.old into.new) }
+    ensures origin { KeepsOrigin into.old into.new }
+
+    // On failure the texts of `from` before the refused one are in `into`: no key left comes before the limit, and the limit before
+    // memory. Or there was no memory for the codes, and nothing changed.
+    ensures no_key { result ≡ Err KeySpaceExhaustion → MergesUpTo into.old into.new from.now
+        (λ text. IsAbsent into.new text × (next_key spur_at into.new ≡ None)) }
+    ensures limit { result ≡ Err MemoryLimitReached → MergesUpTo into.old into.new from.now
+        (λ text. IsAbsent into.new text × IsSome (next_key spur_at into.new) × (account_with into.new text ≡ None)) }
+    ensures memory { result ≡ Err FailedAllocation → (into.new ≡ into.old) ⊎ MergesUpTo into.old into.new from.now
+        (λ text. IsAbsent into.new text × IsSome (next_key spur_at into.new) × IsSome (account_with into.new text)) }
+
+    // The same facts as relations
+    ensures list { OnOk result (InternsEach spur_at into.old from.now into.new) }
+    ensures refused { IfErr result (λ error. StopsMerging into.old into.new from.now error) }
+    ensures lacking { IfErr result (MayLackMemoryMerging into.old into.new from.now) }
+{
+    merge_texts(alloc, into, from)
+}
+
+// The call with its contract in relations.
+#[inline(always)]
+fn merge_texts<S: BuildHasher, A: Allocator + Clone, T: BuildHasher, B: Allocator>(
+    alloc: Global,
+    into: &mut Rodeo<Spur, S, A>,
+    from: &RodeoReader<Spur, T, B>,
+) -> LassoResult<Vec<u32>>
     ensures list { OnOk result (InternsEach spur_at into.old from.now into.new) }
     ensures codes { IfOk result (λ codes. AreCodes into.new.texts from.now codes.items) }
     ensures texts { IfOk result (λ codes. StandFor into.new.texts codes.items from.now) }
-
-    // On failure
     ensures refused { IfErr result (λ error. StopsMerging into.old into.new from.now error) }
     ensures memory { IfErr result (MayLackMemoryMerging into.old into.new from.now) }
 {

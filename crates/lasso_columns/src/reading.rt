@@ -1,9 +1,14 @@
 //! Reads the texts of a layout into an interner.
-ghost use Rattle.std.specs.Prelude.{◌≡◌, ◌+◌, ◌<◌, ◌++◌, None, Ok, Err, OnOk, IfOk, IfErr, map, take};
+ghost use Rattle.std.specs.Prelude.{◌≡◌, ℕ, ◌+◌, ◌<◌, ◌++◌, None, Some, Ok, Err, OnOk, IfOk, IfErr, IsSome, map, take};
 ghost use Rattle.std.specs.List.{slice_range};
-ghost use Rattle.lasso_parts.specs.declared.util.LassoErrorKind.TheVariants.{FailedAllocation};
-ghost use Rattle.lasso_single.specs.Filling.{extend};
-ghost use Rattle.lasso_columns.specs.Dictionaries.{AppendsNew, AppendsUnless, InternsAppended, IsFaultAfter, IsRefusedReading, appended, first_bucket, made_to_read};
+ghost use Rattle.lasso_parts.specs.declared.util.LassoErrorKind.TheVariants.{FailedAllocation, KeySpaceExhaustion, MemoryLimitReached};
+ghost use Rattle.lasso_single.specs.Copies.{bytes_of};
+ghost use Rattle.lasso_single.specs.Filling.{InternsEach, account_with_all, added_texts};
+ghost use Rattle.lasso_single.specs.Intern.{IsAbsent, IsPresent, account_with, next_key};
+ghost use Rattle.lasso_single.specs.Interner.{KeepsOrigin};
+ghost use Rattle.lasso_columns.specs.Dictionaries.{AppendsNew, AppendsUnless, InternsAppended, IsFaultAfter, IsGoodAnd, IsOfLayout, IsRefusedReading};
+ghost use Rattle.lasso_columns.specs.Dictionaries.{appended, fault_position, first_bucket, made_to_read};
+ghost use Rattle.lasso_columns.specs.declared.faults.ReadError.TheVariants.{Doubled, Refused};
 ghost use Rattle.lasso_parts.specs.Layout.{layout_texts};
 ghost use Rattle.lasso_columns.specs.Layout.{layout_fault, text_fault};
 
@@ -40,7 +45,31 @@ pub fn read_dictionary<K: Key, S: BuildHasher + Drop, A: Allocator + Clone, O: O
     bytes: &[u8],
     offsets: &[O],
 ) -> Result<Rodeo<K, S, A>, ReadError>
-    ensures list { IfOk result (λ rodeo. extend K.key_at (made_to_read limits bytes.now) (layout_texts bytes.now (map O.number offsets.now)) (Ok tt) rodeo) }
+    // On success it has just the texts of the layout, which is good. They are all copied, under the limit.
+    ensures texts { IfOk result (λ rodeo. rodeo.texts ≡ layout_texts bytes.now (map O.number offsets.now)) }
+    ensures good { OnOk result (layout_fault O.GREATEST bytes.now (map O.number offsets.now) ≡ None) }
+    ensures account { IfOk result (λ rodeo. account_with_all (made_to_read limits bytes.now) rodeo.texts ≡ Some rodeo.account) }
+    ensures copied { IfOk result (λ rodeo. rodeo.copied ≡ bytes_of rodeo.texts) }
+    ensures origin { IfOk result (λ rodeo. KeepsOrigin (made_to_read limits bytes.now) rodeo) }
+
+    // On failure there was no memory for an interner, or the text after those that it had ended the reading, as of `append_dictionary`.
+    ensures fault { IfErr result (IsRefusedReading K.key_at O.GREATEST bytes.now (map O.number offsets.now) (made_to_read limits bytes.now)) }
+
+    // The same facts as a relation
+    ensures list { IfOk result (λ rodeo. InternsEach K.key_at (made_to_read limits bytes.now) (layout_texts bytes.now (map O.number offsets.now)) rodeo) }
+{
+    read_texts(alloc, limits, hasher, bytes, offsets)
+}
+
+// The call with its contract in relations.
+fn read_texts<K: Key, S: BuildHasher + Drop, A: Allocator + Clone, O: Offset>(
+    alloc: A,
+    limits: MemoryLimits,
+    hasher: S,
+    bytes: &[u8],
+    offsets: &[O],
+) -> Result<Rodeo<K, S, A>, ReadError>
+    ensures list { IfOk result (λ rodeo. InternsEach K.key_at (made_to_read limits bytes.now) (layout_texts bytes.now (map O.number offsets.now)) rodeo) }
     ensures texts { IfOk result (λ rodeo. rodeo.texts ≡ layout_texts bytes.now (map O.number offsets.now)) }
     ensures good { OnOk result (layout_fault O.GREATEST bytes.now (map O.number offsets.now) ≡ None) }
     ensures fault { IfErr result (IsRefusedReading K.key_at O.GREATEST bytes.now (map O.number offsets.now) (made_to_read limits bytes.now)) }
@@ -51,7 +80,7 @@ pub fn read_dictionary<K: Key, S: BuildHasher + Drop, A: Allocator + Clone, O: O
     ) else {
         return Err(ReadError::Refused(0, LassoErrorKind::FailedAllocation));
     };
-    match append_dictionary(&mut rodeo, bytes, offsets) {
+    match append_texts(&mut rodeo, bytes, offsets) {
         Ok(()) => Ok(rodeo),
         Err(error) => Err(error),
     }
@@ -81,6 +110,43 @@ fn first_bucket(bytes: &[u8], limits: MemoryLimits) -> usize
 /// assert!(rt; rodeo.contains("green"));
 /// ```
 pub fn append_dictionary<K: Key, S: BuildHasher, A: Allocator + Clone, O: Offset>(
+    rodeo: &mut Rodeo<K, S, A>,
+    bytes: &[u8],
+    offsets: &[O],
+) -> Result<(), ReadError>
+    // Either way the first texts of the layout are appended and copied; none of them was present.
+    ensures texts { rodeo.new.texts ≡ rodeo.old.texts ++ take (appended rodeo.old.texts rodeo.new.texts) (layout_texts bytes.now (map O.number offsets.now)) }
+    ensures account { account_with_all rodeo.old (added_texts rodeo.old rodeo.new) ≡ Some rodeo.new.account }
+    ensures copied { rodeo.new.copied ≡ rodeo.old.copied + bytes_of (added_texts rodeo.old rodeo.new) }
+
+    // What stays in each case: the first bucket's size, and the record of clears
+    ensures origin { KeepsOrigin rodeo.old rodeo.new }
+
+    // On success these are all texts, and the layout has no fault.
+    ensures whole { OnOk result (rodeo.new.texts ≡ rodeo.old.texts ++ layout_texts bytes.now (map O.number offsets.now)) }
+    ensures good { OnOk result (layout_fault O.GREATEST bytes.now (map O.number offsets.now) ≡ None) }
+
+    // On failure the error has the position of the text after them: it has the layout's first fault; or up to its end the layout is good, and
+    // it is present, or refused: no key left comes before the limit, and the limit before memory.
+    ensures position { IfErr result (λ error. fault_position error ≡ appended rodeo.old.texts rodeo.new.texts) }
+    ensures layout { IfErr result (λ error. IsOfLayout error → layout_fault O.GREATEST bytes.now (map O.number offsets.now) ≡ Some error) }
+    ensures doubled { (at : ℕ) → result ≡ Err (Doubled at) → IsGoodAnd O.GREATEST bytes.now (map O.number offsets.now) at (λ text. IsPresent rodeo.new text) }
+    ensures no_key { (at : ℕ) → result ≡ Err (Refused at KeySpaceExhaustion) → IsGoodAnd O.GREATEST bytes.now (map O.number offsets.now) at
+        (λ text. IsAbsent rodeo.new text × (next_key K.key_at rodeo.new ≡ None)) }
+    ensures limit { (at : ℕ) → result ≡ Err (Refused at MemoryLimitReached) → IsGoodAnd O.GREATEST bytes.now (map O.number offsets.now) at
+        (λ text. IsAbsent rodeo.new text × IsSome (next_key K.key_at rodeo.new) × (account_with rodeo.new text ≡ None)) }
+    ensures memory { (at : ℕ) → result ≡ Err (Refused at FailedAllocation) → IsGoodAnd O.GREATEST bytes.now (map O.number offsets.now) at
+        (λ text. IsAbsent rodeo.new text × IsSome (next_key K.key_at rodeo.new) × IsSome (account_with rodeo.new text)) }
+
+    // The same facts as relations
+    ensures list { InternsAppended K.key_at rodeo.old (layout_texts bytes.now (map O.number offsets.now)) rodeo.new }
+    ensures fault { IfErr result (IsFaultAfter K.key_at O.GREATEST bytes.now (map O.number offsets.now) (appended rodeo.old.texts rodeo.new.texts) rodeo.new) }
+{
+    append_texts(rodeo, bytes, offsets)
+}
+
+// The call with its contract in relations.
+fn append_texts<K: Key, S: BuildHasher, A: Allocator + Clone, O: Offset>(
     rodeo: &mut Rodeo<K, S, A>,
     bytes: &[u8],
     offsets: &[O],

@@ -80,7 +80,7 @@ map_some_push f xs ys x y e here = rw (map_push f xs x, map_push Some ys y) cc
 map_some_length : {X Y : Type 0} (f : X → Option Y) (xs : List X) (ys : List Y) → map f xs ≡ map Some ys → length xs ≡ length ys
 map_some_length f xs ys e = sym (length-map xs f) ∙ ap length e ∙ length-map ys Some
 
-keys_stay : {K : Type 0} (key_at : ℕ → Option K) (list : List Text) (last : Text) (there : Bool) (texts : List Text) (keys : List K) → AreKeys key_at list texts keys → AreKeys key_at (cond there list (list ++ last ∷ [])) texts keys
+pub keys_stay : {K : Type 0} (key_at : ℕ → Option K) (list : List Text) (last : Text) (there : Bool) (texts : List Text) (keys : List K) → AreKeys key_at list texts keys → AreKeys key_at (cond there list (list ++ last ∷ [])) texts keys
 keys_stay key_at list last true texts keys are = are
 keys_stay key_at list last false texts keys are =
     map_some_more (key_of key_at list) (key_of key_at (list ++ last ∷ [])) (λ t k e. key_stays_of key_at list last t k (position_of list t) refl e) texts keys are

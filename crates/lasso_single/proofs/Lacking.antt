@@ -18,7 +18,7 @@ stored held text None there = absurd (cc)
 stored held text (Some account) there = refl
 
 module _ {K : Type 0} (key_at : ℕ → Option K) where
-  admitted : (first : ℕ) (held : Held) (text : Text) (k : K) → position_of held.texts text ≡ None → Some k ≡ key_at (length held.texts) → IsSome (store first held.account (length text)) → IsOk (interned key_at first held text)
+  pub admitted : (first : ℕ) (held : Held) (text : Text) (k : K) → position_of held.texts text ≡ None → Some k ≡ key_at (length held.texts) → IsSome (store first held.account (length text)) → IsOk (interned key_at first held text)
   admitted first held text k absent keyed place =
       subst (λ (found : Option ℕ). IsOk (found_or_new key_at first held text found)) (sym absent)
       (subst (λ (key : Option K). IsOk (keyed_or_refused first held text key)) keyed (stored held text (store first held.account (length text)) place))

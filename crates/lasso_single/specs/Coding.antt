@@ -1,5 +1,5 @@
 -- What encoding texts returns and leaves.
-use Rattle.std.specs.Prelude.{ℕ, ◌≡◌, ◌+◌, ◌-◌, ◌≤◌, ◌⊎◌, List, length, take, Option, None, Result, Ok, Err, MatchResult, IsOk, IsSomeAnd, Vec, slice_get, vec_capacity, vec_len}
+use Rattle.std.specs.Prelude.{ℕ, ◌≡◌, ◌+◌, ◌-◌, ◌≤◌, ◌⊎◌, List, [], ◌∷◌, ◌++◌, length, take, Option, None, Some, Result, Ok, Err, MatchResult, IsOk, IsSomeAnd, Vec, slice_get, vec_capacity, vec_len}
 use Rattle.lasso_parts.specs.Kept.{kept_at}
 use Rattle.lasso_parts.specs.Held.{Held}
 use Rattle.lasso_parts.specs.Texts.{Text, position_of}
@@ -50,3 +50,13 @@ MayLackMemory now codes text error = error ≡ FailedAllocation → (vec_capacit
 abbrev pub MayLackMemoryNext : {A : Type 0} → InternerView → List ℕ → Vec ℕ A → List Text → LassoError → Type 0
 MayLackMemoryNext now before codes texts error =
     IsSomeAnd (slice_get texts (length codes.items - length before)) (λ text. MayLackMemory now codes text error)
+
+-- the text is interned, and its code goes last; or it is refused, and nothing changes. The codes lose no room
+abbrev pub EncodesText : {A : Type 0} → (old : InternerView) → Text → (codes : Vec ℕ A) → Result (Unit {0}) LassoError → (new : InternerView) → (codes' : Vec ℕ A) → Type 0
+EncodesText old text codes reply new codes' =
+    MatchResult reply
+    (λ _. ((key : ℕ) × InternsIn {K = ℕ} spur_at old text (Ok key) new)
+    × ((code : ℕ) × (position_of new.texts text ≡ Some code) × (codes'.items ≡ codes.items ++ code ∷ []))
+    × (vec_capacity codes ≤ vec_capacity codes'))
+    (λ error. (new ≡ old) × (codes'.items ≡ codes.items) × IsRefused old text error
+    × MayLackMemory old codes' text error × (vec_capacity codes ≤ vec_capacity codes'))

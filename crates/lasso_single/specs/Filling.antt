@@ -1,10 +1,29 @@
 -- Interning one text after another.
-use Rattle.std.specs.Prelude.{◌≡◌, ℕ, List, [], ◌∷◌, ◌++◌, map, Option, Result, Ok, Err, MatchResult}
+use Rattle.std.specs.Prelude.{◌≡◌, ℕ, List, [], ◌∷◌, ◌++◌, length, drop, map, is_some, if◌then◌else◌, Option, Result, Ok, Err, MatchResult}
 use Rattle.std.specs.Iterator.{Drains, Yields}
-use Rattle.lasso_parts.specs.Texts.{Text}
+use Rattle.lasso_parts.specs.Account.{Account}
+use Rattle.lasso_parts.specs.Texts.{Text, position_of}
 use Rattle.lasso_parts.specs.declared.util.LassoError.{LassoError}
+use Rattle.lasso_single.specs.Copies.{store_all}
 use Rattle.lasso_single.specs.Intern.{InternsIn}
 use Rattle.lasso_single.specs.Interner.{InternerView}
+
+-- the list with the text last, unless it is present
+abbrev pub with_new : List Text → Text → List Text
+with_new texts text = if is_some (position_of texts text) then texts else texts ++ text ∷ []
+
+-- the list with each of these texts last, in order, unless it is present by then
+abbrev pub with_all_new : List Text → List Text → List Text
+with_all_new texts [] = texts
+with_all_new texts (text ∷ more) = with_all_new (with_new texts text) more
+
+-- the texts that were put after the old ones
+abbrev pub added_texts : (old new : InternerView) → List Text
+added_texts old new = drop (length old.texts) new.texts
+
+-- the account once the bytes of these texts are stored too, in order, or none if the limit refuses one of them
+abbrev pub account_with_all : InternerView → List Text → Option Account
+account_with_all now texts = store_all now.first now.account texts
 
 -- interning the texts in order, up to the first refusal, which is the result
 abbrev pub extend : {K : Type 0} → (ℕ → Option K) → InternerView → List Text → Result (Unit {0}) LassoError → InternerView → Type 0

@@ -10,6 +10,10 @@ use Rattle.lasso_single.specs.Interner.{InternerView}
 abbrev pub keyed_texts : {K : Type 0} → List K → List K → List Text → List Text
 keyed_texts before after texts = take (length after - length before) texts
 
+-- P holds of the text after those that have a key or a code: `before` are the keys that were there, and `after` those that are
+abbrev pub NextIs : {K : Type 0} → (before after : List K) → List Text → (Text → Type 0) → Type 0
+NextIs before after texts P = IsSomeAnd (slice_get texts (length after - length before)) P
+
 -- the keys are those that the texts have in the list, one for each text
 abbrev pub AreKeys : {K : Type 0} → (ℕ → Option K) → List Text → List Text → List K → Type 0
 AreKeys key_at list texts keys = map (key_of key_at list) texts ≡ map Some keys

@@ -10,4 +10,6 @@ pub mod KeyLists
 pub mod KeywordLists
 pub mod Codes
 pub mod Coding
+pub mod FillingFacts
+pub mod RefusalFacts
 pub mod Hashes

@@ -1,5 +1,7 @@
 //! Laws of the contracts, each as the contract of a function that does nothing.
+ghost use Rattle.lasso_single.specs.FillingFacts.{FillingFactsSayAll};
 ghost use Rattle.lasso_single.specs.InternFacts.{CopiedFactsSayAll, StaticFactsSayAll};
+ghost use Rattle.lasso_single.specs.RefusalFacts.{RefusalFactsSayAll};
 
 use lasso_parts::keys::Key;
 
@@ -13,4 +15,16 @@ pub fn copied_facts_say_all<K: Key>()
 #[tactic(auto, using(crate::proofs::InternFacts::static_facts_say_all))]
 pub fn static_facts_say_all<K: Key>()
     ensures { StaticFactsSayAll K.key_at }
+{}
+
+/// The clauses `keys`, `texts`, `account`, `copied` and `origin` of a call that interns several texts hold exactly if its clause `list` does.
+#[tactic(auto, using(crate::proofs::FillingFacts::filling_facts_say_all))]
+pub fn filling_facts_say_all<K: Key>()
+    ensures { FillingFactsSayAll K.key_at }
+{}
+
+/// The clauses `no_key`, `limit` and `memory` of a call with codes hold exactly if its clauses `refused` and `lacking` do.
+#[tactic(auto, using(crate::proofs::RefusalFacts::refusal_facts_say_all))]
+pub fn refusal_facts_say_all()
+    ensures { RefusalFactsSayAll }
 {}

@@ -1,6 +1,7 @@
 //! The calls of a `Rodeo` that take a list of texts or of keys and read.
-ghost use Rattle.std.specs.Prelude.{◌≡◌, ◌+◌, ◌<◌, ◌≤◌, ◌↔◌, length, map, IsTrue, OnOk, OnErr, IfErr, vec_len};
+ghost use Rattle.std.specs.Prelude.{◌≡◌, ◌+◌, ◌++◌, ◌<◌, ◌≤◌, ◌↔◌, length, map, IsTrue, OnOk, OnErr, IfErr, vec_len};
 ghost use Rattle.std.specs.Vec.{vec_capacity};
+ghost use Rattle.lasso_parts.specs.Texts.{key_of};
 ghost use Rattle.lasso_parts.specs.declared.util.LassoErrorKind.TheVariants.{FailedAllocation};
 ghost use Rattle.lasso_single.specs.KeyLists.{AddsFound, AddsTexts, HaveTexts};
 
@@ -40,7 +41,7 @@ impl<K: Key, S: BuildHasher, A: Allocator> Rodeo<K, S, A> {
         keys: &mut Vec<Option<K>, B>,
     ) -> LassoResult<()>
         // On success `keys` has at its end each text's key in order, or `None` of an absent one.
-        ensures keys { OnOk result (AddsFound K.key_at self.now.texts (map (λ t. t.now) texts.now) keys.old.items keys.new.items) }
+        ensures keys { OnOk result (keys.new.items ≡ keys.old.items ++ map (key_of K.key_at self.now.texts) (map (λ t. t.now) texts.now)) }
 
         // On failure memory ran out for `keys`, which has the same items. With room for all it can't.
         ensures unchanged { OnErr result (keys.new.items ≡ keys.old.items) }

@@ -1,12 +1,14 @@
 //! Filling a `Rodeo`: from the items of an iterator, and from a list of texts, with their keys.
 ghost use Rattle.std.specs.Prelude.{◌≡◌, ◌+◌, ◌-◌, ◌^◌, ◌<◌, ◌⊎◌, ℕ, List, map};
-ghost use Rattle.std.specs.Prelude.{None, IfOk, IfErr, OnOk, length, vec_len};
+ghost use Rattle.std.specs.Prelude.{None, Some, Err, IfOk, IfErr, OnOk, IsSome, length, vec_len};
 ghost use Rattle.std.specs.Iterator.{IsFinite, Yields, YieldsThen};
 ghost use Rattle.std.specs.Vec.{vec_capacity};
-ghost use Rattle.lasso_parts.specs.declared.util.LassoErrorKind.TheVariants.{FailedAllocation};
-ghost use Rattle.lasso_single.specs.Filling.{InternsEach, InternsItems, StopsAtItem, StopsAtRefusal};
-ghost use Rattle.lasso_single.specs.Interner.{InternerView, made_with};
-ghost use Rattle.lasso_single.specs.KeyLists.{AddsKeysOfFirst, IsNextRefused, keyed_texts};
+ghost use Rattle.lasso_parts.specs.declared.util.LassoErrorKind.TheVariants.{FailedAllocation, KeySpaceExhaustion, MemoryLimitReached};
+ghost use Rattle.lasso_single.specs.Copies.{bytes_of};
+ghost use Rattle.lasso_single.specs.Filling.{InternsEach, InternsItems, StopsAtItem, StopsAtRefusal, account_with_all, added_texts, with_all_new};
+ghost use Rattle.lasso_single.specs.Intern.{IsAbsent, account_with, next_key};
+ghost use Rattle.lasso_single.specs.Interner.{InternerView, KeepsOrigin, made_with};
+ghost use Rattle.lasso_single.specs.KeyLists.{AddsKeysOfFirst, IsNextRefused, NextIs, keyed_texts};
 
 use super::Rodeo;
 use crate::batch::{Batch, intern_next, look_ahead};
@@ -98,14 +100,44 @@ impl<K: Key, S: BuildHasher, A: Allocator + Clone> Rodeo<K, S, A> {
         texts: &[&str],
         keys: &mut Vec<K, B>,
     ) -> LassoResult<()>
-        // Either way the first texts are interned, and their keys appended: one for each added key.
-        ensures list { InternsEach K.key_at self.old (keyed_texts keys.old.items keys.new.items (map (λ t. t.now) texts.now)) self.new }
+        // Either way the first texts are interned, one for each added key, which is the text's.
         ensures keys { AddsKeysOfFirst K.key_at self.new.texts (map (λ t. t.now) texts.now) keys.old.items keys.new.items }
+        ensures texts { self.new.texts ≡ with_all_new self.old.texts (keyed_texts keys.old.items keys.new.items (map (λ t. t.now) texts.now)) }
+        ensures account { account_with_all self.old (added_texts self.old self.new) ≡ Some self.new.account }
+        ensures copied { self.new.copied ≡ self.old.copied + bytes_of (added_texts self.old self.new) }
+
+        // What stays in each case: the first bucket's size, and the record of clears
+        ensures origin { KeepsOrigin self.old self.new }
 
         // On success these are all texts.
         ensures whole { OnOk result (vec_len keys.new ≡ vec_len keys.old + length texts.now) }
 
-        // On failure there was no memory for the keys, and nothing changed; or the next text was refused.
+        // On failure the text after them was refused: no key left comes before the limit, and the limit before memory. Or there was no
+        // memory for the keys, and nothing changed.
+        ensures no_key { result ≡ Err KeySpaceExhaustion → NextIs keys.old.items keys.new.items (map (λ t. t.now) texts.now)
+            (λ text. IsAbsent self.new text × (next_key K.key_at self.new ≡ None)) }
+        ensures limit { result ≡ Err MemoryLimitReached → NextIs keys.old.items keys.new.items (map (λ t. t.now) texts.now)
+            (λ text. IsAbsent self.new text × IsSome (next_key K.key_at self.new) × (account_with self.new text ≡ None)) }
+        ensures memory { result ≡ Err FailedAllocation
+            → ((self.new ≡ self.old) × (keys.new.items ≡ keys.old.items) × (vec_capacity keys.old < vec_len keys.old + length texts.now))
+            ⊎ NextIs keys.old.items keys.new.items (map (λ t. t.now) texts.now)
+            (λ text. IsAbsent self.new text × IsSome (next_key K.key_at self.new) × IsSome (account_with self.new text)) }
+
+        // The same facts as relations
+        ensures list { InternsEach K.key_at self.old (keyed_texts keys.old.items keys.new.items (map (λ t. t.now) texts.now)) self.new }
+        ensures refused { IfErr result (λ error.
+            ((error ≡ FailedAllocation) × (self.new ≡ self.old) × (keys.new.items ≡ keys.old.items) × (vec_capacity keys.old < vec_len keys.old + length texts.now))
+            ⊎ IsNextRefused K.key_at self.new keys.old.items keys.new.items (map (λ t. t.now) texts.now) error) }
+    {
+        self.intern_list(texts, keys)
+    }
+
+    // The call with its contract in relations.
+    #[inline(always)]
+    fn intern_list<B: Allocator>(&mut self, texts: &[&str], keys: &mut Vec<K, B>) -> LassoResult<()>
+        ensures list { InternsEach K.key_at self.old (keyed_texts keys.old.items keys.new.items (map (λ t. t.now) texts.now)) self.new }
+        ensures keys { AddsKeysOfFirst K.key_at self.new.texts (map (λ t. t.now) texts.now) keys.old.items keys.new.items }
+        ensures whole { OnOk result (vec_len keys.new ≡ vec_len keys.old + length texts.now) }
         ensures refused { IfErr result (λ error.
             ((error ≡ FailedAllocation) × (self.new ≡ self.old) × (keys.new.items ≡ keys.old.items) × (vec_capacity keys.old < vec_len keys.old + length texts.now))
             ⊎ IsNextRefused K.key_at self.new keys.old.items keys.new.items (map (λ t. t.now) texts.now) error) }

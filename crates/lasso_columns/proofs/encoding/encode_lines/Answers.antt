@@ -1,56 +1,49 @@
-use Rattle.std.proofs.Common.{length, ap, arith}
-use Rattle.std.proofs.lemmas.Result.{err_from_is_err_and}
-use Rattle.lasso_single.proofs.Encoded.{told_list, told_codes}
-use Rattle.lasso_columns.proofs.EncodedLines.{LinesSoFar, lines_begin, lines_push, lines_still, told_texts, told_next, told_fault}
+use Rattle.std.proofs.Common.{◌-◌, ℕ, List, length}
+use Rattle.std.specs.Vec.{vec_capacity, vec_len}
+use Rattle.lasso_input.specs.Lines.{lines_of}
+use Rattle.lasso_parts.specs.Texts.{Text}
+use Rattle.lasso_single.specs.Coding.{spur_at, encoded_texts}
+use Rattle.lasso_single.proofs.FillingFacts.{Added, filled_added, filled_texts}
 use Rattle.lasso_columns.specs.Faults.{LineMayLackMemory}
+use Rattle.lasso_columns.proofs.LineFaults.{line_limit, line_memory, line_no_key, line_not_text, line_number}
 use Rattle.lasso_columns.proofs.encoding.encode_lines.Given.{Over}
 use Rattle.lasso_columns.proofs.encoding.encode_lines.Goals as goal
 
--- encoding ended at a line
-stopped : (g : Over) (c : goal.After-from_residual g) → LinesSoFar c.args.rodeo.now c.args.bytes.now c.args.codes.now.items c.loop-line.number c.loop-line.lines c.encode_line.new.rodeo c.encode_line.new.codes.items
-stopped g c =
-    let told = c.in_err-encode_line.ensures in
-    lines_still c.args.rodeo.now c.loop-line.rodeo c.encode_line.new.rodeo c.args.bytes.now c.args.codes.now.items c.loop-line.number c.loop-line.lines c.loop-line.codes.items c.encode_line.new.codes.items c.loop-line.invariant.lines told.0 told.1
+-- the lines that were encoded, and how many they are
+abbrev done : (g : Over) (c : goal.After-encode_each_line g) → List Text
+done g c = encoded_texts c.args.codes.now.items c.encode_each_line.new.codes.items (lines_of c.args.bytes.now)
 
-pub returns-in_err-encode_line-clause-list : goal.returns-in_err-encode_line-clause-list
-returns-in_err-encode_line-clause-list g c = let lines = stopped g c in told_list _ _ _ lines.split _ _ _ _ lines.so_far
+abbrev count : (g : Over) (c : goal.After-encode_each_line g) → ℕ
+count g c = length c.encode_each_line.new.codes.items - length c.args.codes.now.items
 
-pub returns-in_err-encode_line-clause-codes : goal.returns-in_err-encode_line-clause-codes
-returns-in_err-encode_line-clause-codes g c = let lines = stopped g c in told_codes _ _ _ lines.split _ _ _ _ lines.so_far
-
-pub returns-in_err-encode_line-clause-texts : goal.returns-in_err-encode_line-clause-texts
-returns-in_err-encode_line-clause-texts g c = told_texts _ _ _ _ _ _ _ (stopped g c)
-
-pub returns-in_err-encode_line-clause-fault : goal.returns-in_err-encode_line-clause-fault
-returns-in_err-encode_line-clause-fault g c =
-    let p = err_from_is_err_and c.from_residual.result c.from_residual.ensures.1 in
-    let told = c.in_err-encode_line.ensures in
-    rw (p.1, p.2) (told_fault _ _ _ _ _ _ _ (stopped g c) c.in-Some.line c.next_line.new.self _ c.in-Some.ensures.lines (rw (told.0) told.2))
-
-pub returns-in_err-encode_line-clause-memory : goal.returns-in_err-encode_line-clause-memory
-returns-in_err-encode_line-clause-memory g c =
-    let p = err_from_is_err_and c.from_residual.result c.from_residual.ensures.1 in
-    let told = c.in_err-encode_line.ensures in
-    rw (p.1, p.2) (told_next _ _ _ _ _ _ _ (stopped g c) (λ line. LineMayLackMemory c.encode_line.new.rodeo c.encode_line.new.codes line c.in_err-encode_line.field-0.0) c.in-Some.line c.next_line.new.self c.in-Some.ensures.lines (rw (told.0) told.3))
-
-pub loop-line-init : goal.loop-line-init
-loop-line-init g c = record {
-  lines = lines_begin c.args.rodeo.now c.args.bytes.now c.args.codes.now.items c.new-lines.result c.new-lines.ensures;
-  fits = omega (arith, ap length c.new-lines.ensures);
-}
-
-pub loop-line-preserved : goal.loop-line-preserved
-loop-line-preserved g c =
-    let told = c.in_ok-encode_line.ensures in record {
-      lines = lines_push c.args.rodeo.now c.loop-line.rodeo c.encode_line.new.rodeo c.args.bytes.now c.args.codes.now.items c.loop-line.number c.loop-line.lines c.loop-line.codes.items c.in-Some.line c.next_line.new.self told.1.0 told.2.0 c.encode_line.new.codes.items c.loop-line.invariant.lines c.in-Some.ensures.lines told.0 told.1.1 told.2.1 told.2.2;
-      fits = omega (arith, c.in-Some.ensures.less, c.loop-line.invariant.fits);
-    }
-
-pub returns-clause-list : goal.returns-clause-list
-returns-clause-list g c = let lines = c.loop-line.invariant.lines in told_list _ _ _ lines.split _ _ _ _ lines.so_far
-
-pub returns-clause-codes : goal.returns-clause-codes
-returns-clause-codes g c = let lines = c.loop-line.invariant.lines in told_codes _ _ _ lines.split _ _ _ _ lines.so_far
+added : (g : Over) (c : goal.After-encode_each_line g) → Added c.args.rodeo.now c.encode_each_line.new.rodeo
+added g c = filled_added spur_at (done g c) c.args.rodeo.now c.encode_each_line.new.rodeo c.encode_each_line.ensures.list
 
 pub returns-clause-texts : goal.returns-clause-texts
-returns-clause-texts g c = told_texts _ _ _ _ _ _ _ c.loop-line.invariant.lines
+returns-clause-texts g c = filled_texts spur_at (done g c) c.args.rodeo.now c.encode_each_line.new.rodeo c.encode_each_line.ensures.list
+
+pub returns-clause-account : goal.returns-clause-account
+returns-clause-account g c = (added g c).account
+
+pub returns-clause-copied : goal.returns-clause-copied
+returns-clause-copied g c = (added g c).copied
+
+pub returns-clause-origin : goal.returns-clause-origin
+returns-clause-origin g c = (added g c).origin
+
+pub returns-clause-number : goal.returns-clause-number
+returns-clause-number g c = line_number c.encode_each_line.new.rodeo (lines_of c.args.bytes.now) (count g c) c.encode_each_line.result c.encode_each_line.ensures.fault
+
+pub returns-clause-not_text : goal.returns-clause-not_text
+returns-clause-not_text g c = line_not_text c.encode_each_line.new.rodeo (lines_of c.args.bytes.now) (count g c) c.encode_each_line.result c.encode_each_line.ensures.fault
+
+pub returns-clause-no_key : goal.returns-clause-no_key
+returns-clause-no_key g c = line_no_key c.encode_each_line.new.rodeo (lines_of c.args.bytes.now) (count g c) c.encode_each_line.result c.encode_each_line.ensures.fault
+
+pub returns-clause-limit : goal.returns-clause-limit
+returns-clause-limit g c = line_limit c.encode_each_line.new.rodeo (lines_of c.args.bytes.now) (count g c) c.encode_each_line.result c.encode_each_line.ensures.fault
+
+pub returns-clause-memory : goal.returns-clause-memory
+returns-clause-memory g c =
+    let codes = c.encode_each_line.new.codes in
+    line_memory c.encode_each_line.new.rodeo (lines_of c.args.bytes.now) (count g c) (vec_capacity codes) (vec_len codes) c.encode_each_line.result (λ line fault. LineMayLackMemory c.encode_each_line.new.rodeo codes line fault) (λ line at may. may) c.encode_each_line.ensures.memory

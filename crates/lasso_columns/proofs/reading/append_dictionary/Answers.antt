@@ -1,54 +1,40 @@
-use Rattle.std.proofs.Common.{ℕ, ◌≡◌, ◌∷◌, None, List, map, ap, sym, subst, ◌∙◌}
-use Rattle.std.proofs.lemmas.Result.{err_from_is_err_and}
-use Rattle.lasso_columns.specs.Layout.{start_fault}
-use Rattle.lasso_columns.proofs.Readings.{Reading, Told, none_read, moved, ended, all_told, all_texts, no_fault}
+use Rattle.std.proofs.Common.{map, take}
+use Rattle.lasso_parts.specs.Layout.{layout_texts}
+use Rattle.lasso_single.proofs.FillingFacts.{Added, filled_added}
+use Rattle.lasso_columns.specs.Dictionaries.{appended}
+use Rattle.lasso_columns.proofs.ReadFaults.{read_doubled, read_layout, read_limit, read_memory, read_no_key, read_position}
 use Rattle.lasso_columns.proofs.reading.append_dictionary.Given.{Over}
 use Rattle.lasso_columns.proofs.reading.append_dictionary.Goals as goal
 
-pub loop-at-init : goal.loop-at-init
-loop-at-init g c =
-    let from = c.into_usize-from.result in
-    let rest = map g.O.Offset.number c.in-Some.rest.now in
-    let cut : map g.O.Offset.number c.args.offsets.now ≡ from ∷ rest = ap (map g.O.Offset.number) c.in-Some.ensures.cases.0 ∙ ap (λ (n : ℕ). n ∷ rest) (sym c.into_usize-from.ensures) in
-    let good : start_fault g.O.Offset.GREATEST c.args.bytes.now from ≡ None = subst (λ (n : ℕ). start_fault n c.args.bytes.now from ≡ None) c.GREATEST.ensures c.in_ok-check_start.ensures in
-    subst (λ (os : List ℕ). Reading g.K.Key.key_at g.O.Offset.GREATEST c.args.bytes.now os c.args.rodeo.now 0 from rest c.args.rodeo.now) (sym cut) (none_read g.K.Key.key_at g.O.Offset.GREATEST c.args.bytes.now from rest c.args.rodeo.now good)
+added : (g : Over) (c : goal.After-append_texts g) → Added c.args.rodeo.now c.append_texts.new.rodeo
+added g c =
+    let old = c.args.rodeo.now in
+    let new = c.append_texts.new.rodeo in
+    filled_added g.K.Key.key_at (take (appended old.texts new.texts) (layout_texts c.args.bytes.now (map g.O.Offset.number c.args.offsets.now))) old new c.append_texts.ensures.list
 
-pub loop-at-preserved : goal.loop-at-preserved
-loop-at-preserved g c =
-    moved g.K.Key.key_at g.O.Offset.number g.O.Offset.GREATEST c.args.bytes.now (map g.O.Offset.number c.args.offsets.now) c.args.rodeo.now c.in-Some.rest.now c.loop-at.at c.loop-at.from c.into_usize-to.result c.GREATEST-in-loop-at.result c.index-rest-at.result c.loop-at.rodeo c.append_text.new.rodeo c.loop-at.invariant c.loop-at-test.true c.index-rest-at.is c.into_usize-to.ensures c.GREATEST-in-loop-at.ensures c.in_ok-append_text.ensures
+pub returns-clause-account : goal.returns-clause-account
+returns-clause-account g c = (added g c).account
 
-pub returns-in_err-append_text-clause-list : goal.returns-in_err-append_text-clause-list
-returns-in_err-append_text-clause-list g c =
-    (ended g.K.Key.key_at g.O.Offset.number g.O.Offset.GREATEST c.args.bytes.now (map g.O.Offset.number c.args.offsets.now) c.args.rodeo.now c.in-Some.rest.now c.loop-at.at c.loop-at.from c.into_usize-to.result c.GREATEST-in-loop-at.result c.index-rest-at.result c.loop-at.rodeo c.append_text.new.rodeo c.loop-at.invariant c.loop-at-test.true c.index-rest-at.is c.into_usize-to.ensures c.GREATEST-in-loop-at.ensures c.in_err-append_text.field-0.0 c.in_err-append_text.ensures).0.list
+pub returns-clause-copied : goal.returns-clause-copied
+returns-clause-copied g c = (added g c).copied
 
-pub returns-in_err-append_text-clause-texts : goal.returns-in_err-append_text-clause-texts
-returns-in_err-append_text-clause-texts g c =
-    (ended g.K.Key.key_at g.O.Offset.number g.O.Offset.GREATEST c.args.bytes.now (map g.O.Offset.number c.args.offsets.now) c.args.rodeo.now c.in-Some.rest.now c.loop-at.at c.loop-at.from c.into_usize-to.result c.GREATEST-in-loop-at.result c.index-rest-at.result c.loop-at.rodeo c.append_text.new.rodeo c.loop-at.invariant c.loop-at-test.true c.index-rest-at.is c.into_usize-to.ensures c.GREATEST-in-loop-at.ensures c.in_err-append_text.field-0.0 c.in_err-append_text.ensures).0.texts
+pub returns-clause-origin : goal.returns-clause-origin
+returns-clause-origin g c = (added g c).origin
 
-pub returns-in_err-append_text-clause-fault : goal.returns-in_err-append_text-clause-fault
-returns-in_err-append_text-clause-fault g c =
-    let p = err_from_is_err_and c.from_residual-in_err-append_text.result c.from_residual-in_err-append_text.ensures.1 in
-    let why = (ended g.K.Key.key_at g.O.Offset.number g.O.Offset.GREATEST c.args.bytes.now (map g.O.Offset.number c.args.offsets.now) c.args.rodeo.now c.in-Some.rest.now c.loop-at.at c.loop-at.from c.into_usize-to.result c.GREATEST-in-loop-at.result c.index-rest-at.result c.loop-at.rodeo c.append_text.new.rodeo c.loop-at.invariant c.loop-at-test.true c.index-rest-at.is c.into_usize-to.ensures c.GREATEST-in-loop-at.ensures c.in_err-append_text.field-0.0 c.in_err-append_text.ensures).1 in
-    rw (p.1, p.2) why
+pub returns-clause-position : goal.returns-clause-position
+returns-clause-position g c = read_position g.K.Key.key_at g.O.Offset.GREATEST c.args.bytes.now (map g.O.Offset.number c.args.offsets.now) (appended c.args.rodeo.now.texts c.append_texts.new.rodeo.texts) c.append_texts.new.rodeo c.append_texts.result c.append_texts.ensures.fault
 
--- the texts after the last offset
-whole : (g : Over) (c : goal.After-loop-at g) → Told g.K.Key.key_at g.O.Offset.GREATEST c.args.bytes.now (map g.O.Offset.number c.args.offsets.now) c.args.rodeo.now c.loop-at.rodeo
-whole g c =
-    let at = c.loop-at in
-    all_told g.K.Key.key_at g.O.Offset.number g.O.Offset.GREATEST c.args.bytes.now (map g.O.Offset.number c.args.offsets.now) c.args.rodeo.now c.in-Some.rest.now at.at at.from at.rodeo at.invariant c.loop-at-test.false
+pub returns-clause-layout : goal.returns-clause-layout
+returns-clause-layout g c = read_layout g.K.Key.key_at g.O.Offset.GREATEST c.args.bytes.now (map g.O.Offset.number c.args.offsets.now) (appended c.args.rodeo.now.texts c.append_texts.new.rodeo.texts) c.append_texts.new.rodeo c.append_texts.result c.append_texts.ensures.fault
 
-pub returns-clause-list : goal.returns-clause-list
-returns-clause-list g c = (whole g c).list
+pub returns-clause-doubled : goal.returns-clause-doubled
+returns-clause-doubled g c = read_doubled g.K.Key.key_at g.O.Offset.GREATEST c.args.bytes.now (map g.O.Offset.number c.args.offsets.now) (appended c.args.rodeo.now.texts c.append_texts.new.rodeo.texts) c.append_texts.new.rodeo c.append_texts.result c.append_texts.ensures.fault
 
-pub returns-clause-texts : goal.returns-clause-texts
-returns-clause-texts g c = (whole g c).texts
+pub returns-clause-no_key : goal.returns-clause-no_key
+returns-clause-no_key g c = read_no_key g.K.Key.key_at g.O.Offset.GREATEST c.args.bytes.now (map g.O.Offset.number c.args.offsets.now) (appended c.args.rodeo.now.texts c.append_texts.new.rodeo.texts) c.append_texts.new.rodeo c.append_texts.result c.append_texts.ensures.fault
 
-pub returns-clause-whole : goal.returns-clause-whole
-returns-clause-whole g c =
-    let at = c.loop-at in
-    all_texts g.K.Key.key_at g.O.Offset.number g.O.Offset.GREATEST c.args.bytes.now (map g.O.Offset.number c.args.offsets.now) c.args.rodeo.now c.in-Some.rest.now at.at at.from at.rodeo at.invariant c.loop-at-test.false
+pub returns-clause-limit : goal.returns-clause-limit
+returns-clause-limit g c = read_limit g.K.Key.key_at g.O.Offset.GREATEST c.args.bytes.now (map g.O.Offset.number c.args.offsets.now) (appended c.args.rodeo.now.texts c.append_texts.new.rodeo.texts) c.append_texts.new.rodeo c.append_texts.result c.append_texts.ensures.fault
 
-pub returns-clause-good : goal.returns-clause-good
-returns-clause-good g c =
-    let at = c.loop-at in
-    no_fault g.K.Key.key_at g.O.Offset.number g.O.Offset.GREATEST c.args.bytes.now (map g.O.Offset.number c.args.offsets.now) c.args.rodeo.now c.in-Some.rest.now at.at at.from at.rodeo at.invariant c.loop-at-test.false
+pub returns-clause-memory : goal.returns-clause-memory
+returns-clause-memory g c = read_memory g.K.Key.key_at g.O.Offset.GREATEST c.args.bytes.now (map g.O.Offset.number c.args.offsets.now) (appended c.args.rodeo.now.texts c.append_texts.new.rodeo.texts) c.append_texts.new.rodeo c.append_texts.result c.append_texts.ensures.fault

@@ -1,48 +1,39 @@
-use Rattle.std.proofs.Common.{List, map, take, sym, subst}
-use Rattle.std.proofs.lemmas.List.{take-append-drop}
-use Rattle.std.proofs.lemmas.Result.{err_from_is_err_and}
+use Rattle.std.proofs.Common.{List, map, length, ◌-◌}
+use Rattle.std.specs.Vec.{vec_capacity, vec_len}
 use Rattle.lasso_parts.specs.Texts.{Text}
-use Rattle.lasso_single.specs.Coding.{IsRefused, MayLackMemory}
-use Rattle.lasso_single.proofs.Encoded.{Encoded, encoded_push, encoded_still, told_list, told_codes, next_at, texts_more, texts_split}
+use Rattle.lasso_single.specs.Coding.{spur_at, encoded_texts}
+use Rattle.lasso_single.proofs.FillingFacts.{Added, filled_added, filled_texts}
+use Rattle.lasso_single.proofs.RefusalFacts.{next_limit, next_memory, next_no_key}
 use Rattle.lasso_single.proofs.coding.encode.Given.{Over}
 use Rattle.lasso_single.proofs.coding.encode.Goals as goal
 
--- a text was refused
-stopped : (g : Over) (c : goal.After-from_residual g) → Encoded c.args.rodeo.now (take c.loop-i.i (map (λ t. t.now) c.args.texts.now)) c.args.codes.now.items c.encode_next.new.rodeo c.encode_next.new.codes.items
-stopped g c =
-    let told = c.in_err-encode_next.ensures in
-    encoded_still c.args.rodeo.now c.loop-i.rodeo c.encode_next.new.rodeo _ c.args.codes.now.items c.loop-i.codes.items c.encode_next.new.codes.items c.loop-i.invariant told.0 told.1
+-- the texts that were encoded
+abbrev done : (g : Over) (c : goal.After-encode_each g) → List Text
+done g c = encoded_texts c.args.codes.now.items c.encode_each.new.codes.items (map (λ t. t.now) c.args.texts.now)
 
-pub returns-in_err-encode_next-clause-list : goal.returns-in_err-encode_next-clause-list
-returns-in_err-encode_next-clause-list g c =
-    told_list _ _ _ (sym (take-append-drop c.loop-i.i _)) _ _ _ _ (stopped g c)
+added : (g : Over) (c : goal.After-encode_each g) → Added c.args.rodeo.now c.encode_each.new.rodeo
+added g c = filled_added spur_at (done g c) c.args.rodeo.now c.encode_each.new.rodeo c.encode_each.ensures.list
 
-pub returns-in_err-encode_next-clause-codes : goal.returns-in_err-encode_next-clause-codes
-returns-in_err-encode_next-clause-codes g c =
-    told_codes _ _ _ (sym (take-append-drop c.loop-i.i _)) _ _ _ _ (stopped g c)
+pub returns-clause-texts : goal.returns-clause-texts
+returns-clause-texts g c = filled_texts spur_at (done g c) c.args.rodeo.now c.encode_each.new.rodeo c.encode_each.ensures.list
 
-pub returns-in_err-encode_next-clause-refused : goal.returns-in_err-encode_next-clause-refused
-returns-in_err-encode_next-clause-refused g c =
-    let p = err_from_is_err_and c.from_residual.result c.from_residual.ensures.1 in
-    let told = c.in_err-encode_next.ensures in
-    let here = next_at _ _ _ _ (texts_split c.args.texts.now c.loop-i.i _ c.loop-i-test.true) _ _ _ _ (stopped g c) (λ text. IsRefused c.loop-i.rodeo text c.in_err-encode_next.field-0.0) told.2 in
-    rw (p.1, p.2, told.0) here
+pub returns-clause-account : goal.returns-clause-account
+returns-clause-account g c = (added g c).account
 
-pub returns-in_err-encode_next-clause-memory : goal.returns-in_err-encode_next-clause-memory
-returns-in_err-encode_next-clause-memory g c =
-    let p = err_from_is_err_and c.from_residual.result c.from_residual.ensures.1 in
-    let told = c.in_err-encode_next.ensures in
-    let here = next_at _ _ _ _ (texts_split c.args.texts.now c.loop-i.i _ c.loop-i-test.true) _ _ _ _ (stopped g c) (λ text. MayLackMemory c.loop-i.rodeo c.encode_next.new.codes text c.in_err-encode_next.field-0.0) told.3 in
-    rw (p.1, p.2, told.0) here
+pub returns-clause-copied : goal.returns-clause-copied
+returns-clause-copied g c = (added g c).copied
 
-pub loop-i-preserved : goal.loop-i-preserved
-loop-i-preserved g c =
-    let told = c.in_ok-encode_next.ensures in
-    let more = encoded_push c.args.rodeo.now c.loop-i.rodeo c.encode_next.new.rodeo _ _ told.0.0 told.1.0 c.args.codes.now.items c.loop-i.codes.items c.encode_next.new.codes.items c.loop-i.invariant told.0.1 told.1.1 told.1.2 in
-    subst (λ (ts : List Text). Encoded c.args.rodeo.now ts c.args.codes.now.items c.encode_next.new.rodeo c.encode_next.new.codes.items) (sym (texts_more c.args.texts.now c.loop-i.i _ c.loop-i-test.true)) more
+pub returns-clause-origin : goal.returns-clause-origin
+returns-clause-origin g c = (added g c).origin
 
-pub returns-clause-list : goal.returns-clause-list
-returns-clause-list g c = told_list _ _ _ (sym (take-append-drop c.loop-i.i _)) _ _ _ _ c.loop-i.invariant
+pub returns-clause-no_key : goal.returns-clause-no_key
+returns-clause-no_key g c =
+    next_no_key c.encode_each.new.rodeo (map (λ t. t.now) c.args.texts.now) (length c.encode_each.new.codes.items - length c.args.codes.now.items) c.encode_each.result c.encode_each.ensures.refused
 
-pub returns-clause-codes : goal.returns-clause-codes
-returns-clause-codes g c = told_codes _ _ _ (sym (take-append-drop c.loop-i.i _)) _ _ _ _ c.loop-i.invariant
+pub returns-clause-limit : goal.returns-clause-limit
+returns-clause-limit g c =
+    next_limit c.encode_each.new.rodeo (map (λ t. t.now) c.args.texts.now) (length c.encode_each.new.codes.items - length c.args.codes.now.items) c.encode_each.result c.encode_each.ensures.refused
+
+pub returns-clause-memory : goal.returns-clause-memory
+returns-clause-memory g c =
+    next_memory c.encode_each.new.rodeo (map (λ t. t.now) c.args.texts.now) (length c.encode_each.new.codes.items - length c.args.codes.now.items) c.encode_each.result (vec_capacity c.encode_each.new.codes) (vec_len c.encode_each.new.codes) c.encode_each.ensures.memory

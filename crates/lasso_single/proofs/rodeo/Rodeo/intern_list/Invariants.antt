@@ -1,7 +1,7 @@
 use Rattle.std.proofs.Common.{◌+◌, ◌-◌, ◌≤◌, length, map, take, vec_len}
 use Rattle.std.specs.Vec.{vec_capacity}
 use Rattle.lasso_single.proofs.KeyLists.{Keyed}
-use Rattle.lasso_single.proofs.rodeo.Rodeo.try_get_or_intern_all.Given as goal
+use Rattle.lasso_single.proofs.rodeo.Rodeo.intern_list.Given as goal
 
 -- the texts before the index were interned, and there is room for the keys of the others
 abbrev pub invariant-loop-i : goal.invariant-loop-i

@@ -1,6 +1,6 @@
 use Rattle.std.proofs.Common.{◌+◌, ◌≤◌, length}
 use Rattle.lasso_columns.proofs.EncodedLines.{LinesSoFar}
-use Rattle.lasso_columns.proofs.encoding.encode_lines.Given as goal
+use Rattle.lasso_columns.proofs.encoding.encode_each_line.Given as goal
 
 -- the lines before the rest were encoded, at most one for each byte before the rest
 abbrev pub invariant-loop-line : goal.invariant-loop-line

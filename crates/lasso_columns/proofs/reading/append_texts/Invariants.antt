@@ -1,6 +1,6 @@
 use Rattle.std.proofs.Common.{drop, map}
 use Rattle.lasso_columns.proofs.Readings.{Reading}
-use Rattle.lasso_columns.proofs.reading.append_dictionary.Given as goal
+use Rattle.lasso_columns.proofs.reading.append_texts.Given as goal
 
 -- the texts before `at` were appended
 abbrev pub invariant-loop-at : goal.invariant-loop-at
