@@ -88,6 +88,9 @@ impl<K: Key, S: BuildHasher + Drop> ThreadedRodeo<K, S> {
         // On failure
         ensures unchanged { OnErr result ((pass.new ≡ pass.old) × (keys.new.items ≡ keys.old.items)) }
         ensures refused { IfErr result (λ error. (error ≡ FailedAllocation) × (vec_capacity keys.old < vec_len keys.old + length texts.now)) }
+
+        // What stays, and what the pass has then seen
+        ensures same { IsSamePass pass.new pass.old }
         ensures opening { IsOpening K.key_at self.now.opening }
         ensures legal { IsLegal K.key_at self.now.opening (seen pass.new) }
     {
