@@ -8,11 +8,12 @@ const MOST = 40;
 const SHOWN = 90;
 const KEYS = Object.keys(WORDS);
 
-// How well an entry fits: 0 is best, from NONE on it does not fit. Of several words each has to fit.
+// How well an entry fits: 0 is best, from NONE on it does not fit. Of several words each has to fit, and a crate's name fits what its
+// page has, as in lasso_columns::merge.
 const NONE = 4;
 
 function rank(entry, asked) {
-  const words = asked.split(/\s+/);
+  const words = asked.split(/\s+|(?<=^lasso\w*)::/);
   if (words.length === 1) return rankWord(entry, asked);
   const worst = Math.max(...words.map((word) => rankWord(entry, word)));
   return worst + words.reduce((sum, word) => sum + rankWord(entry, word), 0) / (NONE * words.length + 1);
@@ -30,6 +31,7 @@ function rankForm(entry, asked) {
   if (last.startsWith(asked)) return 1;
   if (entry.length > 4 && entry[4].toLowerCase().split(/\W+/).some((word) => word.startsWith(asked))) return 1.5;
   if (name.includes(asked)) return 2;
+  if (asked.startsWith("lasso_") && entry[2].split(".").includes(asked)) return 2.5;
   return entry[3].toLowerCase().includes(asked) ? 3 : NONE;
 }
 
