@@ -143,6 +143,7 @@ impl<K: Key> Log<K> {
         requires { first.size ≢ 0 }
         ensures opening { IfOk result (λ r. r.0.opening ≡ opened [] first.size 0 first.limit) }
         ensures spine { IfOk result (λ r. (r.1.of ≡ r.0) × (r.1.notes ≡ []) × (r.1.kept ≡ 0)) }
+        ensures turns { IfOk result (λ r. (r.1.turns.of ≡ r.0) × (r.1.turns.notes ≡ []) × (r.1.turns.count ≡ 1)) }
         ensures refused { IfErr result (λ error. error ≡ FailedAllocation) }
     {
         let texts = OpeningTexts::new(alloc, first.size as usize)?;

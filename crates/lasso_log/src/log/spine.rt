@@ -220,7 +220,7 @@ impl<K: Key> Log<K> {
     }
 
     /// Puts the text last as `append` does, without waiting. If `append` would wait, it returns false, nothing is
-    /// appended, and the cell is given back.
+    /// appended, and the cell is given back. Either way the spine keeps one cell less.
     pub fn append_now(
         &self,
         spine: &mut Spine<K>,
@@ -233,6 +233,7 @@ impl<K: Key> Log<K> {
         requires may { MayFollow K.key_at (state self.now.opening spine.old.notes) (Append text.text) }
         ensures same { IsSamePass pass.new pass.old × (spine.new.of ≡ spine.old.of) }
         ensures turns { spine.new.turns ≡ spine.old.turns }
+        ensures kept { spine.new.kept ≡ spine.old.kept - 1 }
         ensures done { IsTrue result → IsAppended self.now pass.old pass.new spine.old spine.new text.text }
         ensures refused { IsFalse result → (pass.new ≡ pass.old) × IsSameSpine spine.new spine.old }
     {
