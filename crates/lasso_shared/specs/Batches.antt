@@ -2,6 +2,7 @@
 use Rattle.std.specs.Prelude.{◌≡◌, ◌⊎◌, ◌<◌, ◌+◌, ℕ, List, [], ◌∷◌, ◌++◌, map, length, Option, Result, Ok, Err}
 use Rattle.lasso_parts.specs.Texts.{Text}
 use Rattle.lasso_parts.specs.declared.util.LassoErrorKind.{LassoErrorKind}
+use Rattle.lasso_single.specs.KeyLists.{AddsKeys}
 use Rattle.lasso_log.specs.History.{History, Totals}
 use Rattle.lasso_log.specs.Replies.{Copied, Question, Intern, Get, Reply, Interned, Found}
 use Rattle.lasso_log.specs.Calls.{IsCall}
@@ -26,6 +27,11 @@ StopsAtText {K} key_at opening before after pass texts old new error =
     (done : List Text) × (text : Text) × (rest : List Text) × (mid : History) × (texts ≡ done ++ text ∷ rest)
     × AddsInterned key_at opening before mid pass done old new
     × IsCall {K = K} key_at opening mid after pass (Intern Copied text) (Interned (Err error))
+
+-- the texts before one of the list have these keys in `known`, which were put after the earlier ones
+abbrev pub KeysUpTo : {K : Type 0} → (ℕ → Option K) → (known : List Text) → List Text → List K → List K → Type 0
+KeysUpTo {K} key_at known texts old new =
+    (done : List Text) × (text : Text) × (rest : List Text) × (texts ≡ done ++ text ∷ rest) × AddsKeys key_at known done old new
 
 -- the texts were looked up in order, each by a call, and what the calls returned was put after the earlier
 -- ones

@@ -1,9 +1,12 @@
 //! Interning and looking up the texts of a list in an interner that threads share, with a pass.
+ghost use mathlib.Core.List.{IsPrefix};
 ghost use Rattle.std.specs.Prelude.{◌≡◌, ◌+◌, ◌<◌, ◌⊎◌, length, map, OnOk, OnErr, IfErr, vec_len};
 ghost use Rattle.std.specs.Vec.{vec_capacity};
 ghost use Rattle.lasso_parts.specs.declared.util.LassoErrorKind.TheVariants.{FailedAllocation};
 ghost use Rattle.lasso_log.specs.History.{IsLegal, IsOpening};
-ghost use Rattle.lasso_log.specs.Views.{PassView, InternerId, IsSamePass, seen};
+ghost use Rattle.lasso_log.specs.Views.{PassView, InternerId, IsSamePass, list_of, seen};
+ghost use Rattle.lasso_single.specs.KeyLists.{AddsKeys};
+ghost use Rattle.lasso_shared.specs.Batches.{KeysUpTo};
 ghost use Rattle.lasso_shared.specs.PassCalls.{PassInterns, PassGets, PassStopsAt};
 
 use crate::threaded::ThreadedRodeo;
@@ -40,16 +43,23 @@ impl<K: Key, S: BuildHasher + Drop> ThreadedRodeo<K, S> {
         keys: &mut Vec<K, B>,
     ) -> LassoResult<()>
         requires { pass.old.of ≡ self.now }
-        // On success
-        ensures interned { OnOk result (PassInterns K.key_at self.now pass.old pass.new (map (λ t. t.now) texts.now) keys.old.items keys.new.items) }
+        // On success the key of each text is appended: it is the text's, in what the pass has then seen.
+        ensures keys { OnOk result (AddsKeys K.key_at (list_of self.now pass.new.notes) (map (λ t. t.now) texts.now) keys.old.items keys.new.items) }
 
-        // On failure there was no memory for the keys, and nothing changed; or the next text was refused.
+        // On failure there was no memory for the keys, and they are as before; or a text was refused, and those before it have keys.
+        ensures stopped { OnErr result ((keys.new.items ≡ keys.old.items)
+            ⊎ KeysUpTo K.key_at (list_of self.now pass.new.notes) (map (λ t. t.now) texts.now) keys.old.items keys.new.items) }
+
+        // The pass stays the same one, and what it has seen only grows.
+        ensures same { IsSamePass pass.new pass.old }
+        ensures kept { IsPrefix (seen pass.old) (seen pass.new) }
+
+        // One list of all threads explains the calls and their events, at moments one after another: those of all texts; or those before
+        // the refused one, and that one's. Without memory for the keys there was no call.
+        ensures interned { OnOk result (PassInterns K.key_at self.now pass.old pass.new (map (λ t. t.now) texts.now) keys.old.items keys.new.items) }
         ensures refused { IfErr result (λ error.
             ((error ≡ FailedAllocation) × (pass.new ≡ pass.old) × (keys.new.items ≡ keys.old.items) × (vec_capacity keys.old < vec_len keys.old + length texts.now))
             ⊎ PassStopsAt K.key_at self.now pass.old pass.new (map (λ t. t.now) texts.now) keys.old.items keys.new.items error) }
-
-        // What stays, and what the pass has then seen
-        ensures same { IsSamePass pass.new pass.old }
         ensures opening { IsOpening K.key_at self.now.opening }
         ensures legal { IsLegal K.key_at self.now.opening (seen pass.new) }
     {
@@ -82,12 +92,16 @@ impl<K: Key, S: BuildHasher + Drop> ThreadedRodeo<K, S> {
         keys: &mut Vec<Option<K>, B>,
     ) -> LassoResult<()>
         requires { pass.old.of ≡ self.now }
-        // On success
+        // On success what `get_as` returns of each text is appended, by one look-up after another.
         ensures found { OnOk result (PassGets K.key_at self.now pass.old pass.new (map (λ t. t.now) texts.now) keys.old.items keys.new.items) }
 
-        // On failure
+        // On failure there was no memory for `keys`, and nothing changed. With room for all it can't fail.
         ensures unchanged { OnErr result ((pass.new ≡ pass.old) × (keys.new.items ≡ keys.old.items)) }
         ensures refused { IfErr result (λ error. (error ≡ FailedAllocation) × (vec_capacity keys.old < vec_len keys.old + length texts.now)) }
+
+        // The pass stays the same one, and what it has seen only grows.
+        ensures same { IsSamePass pass.new pass.old }
+        ensures kept { IsPrefix (seen pass.old) (seen pass.new) }
         ensures opening { IsOpening K.key_at self.now.opening }
         ensures legal { IsLegal K.key_at self.now.opening (seen pass.new) }
     {
