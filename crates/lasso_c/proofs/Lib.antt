@@ -15,3 +15,4 @@ pub mod Ascii
 pub mod Seeds
 pub mod SeededLaws
 pub mod SharedSeats
+pub mod TextFacts
