@@ -88,43 +88,23 @@ argument_text NotText = codes "an argument is not UTF-8"
 
 abbrev pub takes_top : Verb → Bool
 takes_top Counts = true
-takes_top Decode = false
-takes_top Dictionary = false
-takes_top Distinct = false
-takes_top Encode = false
-takes_top Join = false
-takes_top Merge = false
-takes_top Recode = false
+takes_top _ = false
 
 abbrev pub takes_null : Verb → Bool
-takes_null Counts = false
 takes_null Decode = true
-takes_null Dictionary = false
-takes_null Distinct = false
 takes_null Encode = true
-takes_null Join = false
-takes_null Merge = false
-takes_null Recode = false
+takes_null _ = false
 
 abbrev pub takes_binary : Verb → Bool
 takes_binary Counts = false
 takes_binary Decode = false
-takes_binary Dictionary = true
 takes_binary Distinct = false
-takes_binary Encode = true
-takes_binary Join = true
-takes_binary Merge = true
-takes_binary Recode = true
+takes_binary _ = true
 
 abbrev pub takes_workers : Verb → Bool
 takes_workers Counts = true
-takes_workers Decode = false
-takes_workers Dictionary = false
-takes_workers Distinct = false
 takes_workers Encode = true
-takes_workers Join = false
-takes_workers Merge = false
-takes_workers Recode = false
+takes_workers _ = false
 
 -- the verb's setting of this name
 abbrev pub setting_of : Verb → Text → Option Setting

@@ -13,18 +13,9 @@ use Rattle.lasso_codes.specs.declared.error.RunError.TheVariants.{Line, TooManyL
 
 -- the exit status of an error of a column
 abbrev pub column_status : ColumnError → ℕ
-column_status NoHeader = 2
-column_status (NoText number) = 2
-column_status (NotUtf8 number) = 2
-column_status (Doubled number) = 2
 column_status (TextRefused number error) = 1
-column_status (NoEntry number) = 2
-column_status (NotEntry number) = 2
-column_status (PastTexts number) = 2
-column_status (IsNull number) = 2
 column_status (NotMerged error) = 1
-column_status HasEntries = 2
-column_status (Absent number) = 2
+column_status _ = 2
 
 -- what such an error prints
 abbrev pub column_fault_text : ColumnError → List ℕ
@@ -62,12 +53,9 @@ run_error_text (Column number error) = codes "column " ++ (decimal number ++ (co
 
 -- a write failed
 abbrev pub IsWriteError : RunError → Type 0
-IsWriteError (Line error) = ⊥
-IsWriteError TooManyLines = ⊥
-IsWriteError ReadFailed = ⊥
 IsWriteError WriteFailed = Unit {0}
 IsWriteError ReaderGone = Unit {0}
-IsWriteError (Column number error) = ⊥
+IsWriteError _ = ⊥
 
 -- the run ended because a write failed
 abbrev pub IsWriteEnd : {X : Type 0} → Result X RunError → Type 0
@@ -77,38 +65,26 @@ IsWriteEnd (Err error) = IsWriteError error
 -- a read failed, or there was no memory for the line of this number
 abbrev pub IsReadError : ℕ → RunError → Type 0
 IsReadError number (Line error) = error ≡ Refused number FailedAllocation
-IsReadError number TooManyLines = ⊥
 IsReadError number ReadFailed = Unit {0}
-IsReadError number WriteFailed = ⊥
-IsReadError number ReaderGone = ⊥
-IsReadError number (Column column error) = ⊥
+IsReadError number _ = ⊥
 
 -- the error of a call that only reads: no write failed
 abbrev pub IsInputError : RunError → Type 0
-IsInputError (Line error) = Unit {0}
-IsInputError TooManyLines = Unit {0}
-IsInputError ReadFailed = Unit {0}
 IsInputError WriteFailed = ⊥
 IsInputError ReaderGone = ⊥
-IsInputError (Column number error) = Unit {0}
+IsInputError _ = Unit {0}
 
 -- the error of a call that only writes: no read failed
 abbrev pub IsOutputError : RunError → Type 0
-IsOutputError (Line error) = Unit {0}
-IsOutputError TooManyLines = Unit {0}
 IsOutputError ReadFailed = ⊥
-IsOutputError WriteFailed = Unit {0}
-IsOutputError ReaderGone = Unit {0}
-IsOutputError (Column number error) = Unit {0}
+IsOutputError _ = Unit {0}
 
 -- the error of a call that does neither: lines or columns are at fault, or memory ran out
 abbrev pub IsDataError : RunError → Type 0
-IsDataError (Line error) = Unit {0}
-IsDataError TooManyLines = Unit {0}
 IsDataError ReadFailed = ⊥
 IsDataError WriteFailed = ⊥
 IsDataError ReaderGone = ⊥
-IsDataError (Column number error) = Unit {0}
+IsDataError _ = Unit {0}
 
 -- ---- how many calls failed
 

@@ -1,7 +1,7 @@
 -- When a progress line is shown, and its text.
 use Rattle.std.specs.Prelude.{ℕ, ◌/◌, Bool, true, false, ◌&&◌, not, List, ◌++◌, codes, decimal}
 use Rattle.lasso_codes.specs.declared.arguments.Verb.{Verb}
-use Rattle.lasso_codes.specs.declared.arguments.Verb.TheVariants.{Counts, Decode, Dictionary, Distinct, Encode, Join, Merge, Recode}
+use Rattle.lasso_codes.specs.declared.arguments.Verb.TheVariants.{Decode, Distinct}
 use Rattle.lasso_codes.specs.declared.arguments.Command.{Command}
 use Rattle.lasso_codes.specs.declared.arguments.Command.TheVariants.{Help, VerbHelp, Version, Run}
 use Rattle.lasso_codes.specs.declared.progress.Terminals.{Terminals}
@@ -9,14 +9,9 @@ use Rattle.lasso_codes.specs.declared.progress.Tally.{Tally}
 
 -- the verb writes before all of the input was read
 abbrev pub writes_while_reading : Verb → Bool
-writes_while_reading Counts = false
 writes_while_reading Decode = true
-writes_while_reading Dictionary = false
 writes_while_reading Distinct = true
-writes_while_reading Encode = false
-writes_while_reading Join = false
-writes_while_reading Merge = false
-writes_while_reading Recode = false
+writes_while_reading _ = false
 
 -- a verb is run without --quiet, standard error is a terminal, standard input is not, and the verb does not
 -- write to a terminal while it reads
