@@ -495,7 +495,7 @@ def some_steps(random):
     if kind < 0.2:
         return [("new", 0, random.choice([0, 20000, ENDLESS, ENDLESS]), None, None)] + [some_filling(random) for _ in range(40)]
     if kind < 0.3:
-        return [("shared_new", 0)] + [some_sharing(random) for _ in range(40)]
+        return [("shared_new", 0, None, None)] + [some_sharing(random) for _ in range(40)]
     return [("new", 0, ENDLESS, None, None)] + [some_step(random) for _ in range(random.choice([1, 5, 40]))]
 
 
