@@ -11,10 +11,12 @@ static PyObject *seat_new(PyTypeObject *type, PyObject *words, PyObject *named)
     return (PyObject *)seat;
 }
 
-static PyObject *seat_open(Core *seat, PyObject *none)
+static PyObject *seat_open(Core *seat, PyObject *words)
 {
-    (void)none;
-    uint32_t status = lasso_shared_new(&seat->interner.shared);
+    unsigned long long seed0, seed1;
+    if (!PyArg_ParseTuple(words, "KK", &seed0, &seed1))
+        return NULL;
+    uint32_t status = lasso_shared_new_seeded(&seat->interner.shared, seed0, seed1);
     if (status != LASSO_DONE)
         return raise_status(status, -1);
     Py_RETURN_NONE;
@@ -55,7 +57,7 @@ static PyObject *seat_close(Core *seat, PyObject *none)
 }
 
 static PyMethodDef methods[] = {
-    {"open", (PyCFunction)seat_open, METH_NOARGS, "open($self, /)\n--\n\nMakes an interner without texts."},
+    {"open", (PyCFunction)seat_open, METH_VARARGS, "open($self, seed0, seed1, /)\n--\n\nMakes an interner without texts."},
     {"join", (PyCFunction)seat_join, METH_NOARGS, "join($self, /)\n--\n\nAnother handle of the same interner. Raises InternerClosed or OutOfMemory."},
     {"close", (PyCFunction)seat_close, METH_NOARGS, "close($self, /)\n--\n\nCloses the interner for all of its handles."},
     {"intern", (PyCFunction)core_intern, METH_O, "intern($self, text, /)\n--\n\nThe code of a text, which is appended if it is absent."},

@@ -27,7 +27,7 @@ class Interner(Core):
     """
 
     def __init__(self, limit: int | None = None, *, seed: int | None = None) -> None:
-        self._open(limit, *_halves(seed))
+        self._open(limit, *halves(seed))
 
     def __enter__(self: _Kind) -> _Kind:
         return self
@@ -112,7 +112,7 @@ def _distinct(texts: Any) -> Any:
     return texts
 
 
-def _halves(seed: int | None) -> tuple[int, int]:
+def halves(seed: int | None) -> tuple[int, int]:
     """A seed, or a new one, as two numbers of 64 bits."""
     whole = int.from_bytes(os.urandom(16), "little") if seed is None else operator.index(seed)
     if not 0 <= whole < 2**128:
@@ -123,7 +123,7 @@ def _halves(seed: int | None) -> tuple[int, int]:
 def _loaded(kind: type[_Kind], texts: list[str], limit: int | None) -> _Kind:
     """An interner of a class, with these texts under the codes of their order, and with that limit."""
     made = Core.__new__(kind)
-    made._open(None, *_halves(None))
+    made._open(None, *halves(None))
     encode_into(made, texts, None, array("I"), True)
     made.limit = limit
     return made

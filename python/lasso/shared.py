@@ -10,7 +10,7 @@ from typing import Any, TypeVar
 
 from lasso._core import Seat
 from lasso.codes import NULL, Codes
-from lasso.interner import Interner
+from lasso.interner import Interner, halves
 from lasso.sources import ArrowArray, ArrowStream, ArrowStrings, encode_into
 
 _Kind = TypeVar("_Kind", bound="SharedInterner")
@@ -28,16 +28,16 @@ class SharedInterner:
     threads, from 0.
 
     Each thread has a handle of its own, which is made when the thread uses the interner first, and freed when the thread ends. ``encode`` and
-    ``get_many`` let other threads run meanwhile, also those that encode into the same interner. There is no limit, and texts are hashed by a fixed
-    seed: strangers can choose texts that collide. The memory is given back at the end of a ``with`` block, by ``close``, or when the interner is
-    garbage. It is not for a child that ``os.fork`` made while other threads ran.
+    ``get_many`` let other threads run meanwhile, also those that encode into the same interner. There is no limit. ``seed`` is a number below 2^128 by
+    which texts are hashed, or None for a random one; no code depends on it. The memory is given back at the end of a ``with`` block, by ``close``,
+    or when the interner is garbage. It is not for a child that ``os.fork`` made while other threads ran.
     """
 
     __slots__ = ("__dict__", "__weakref__", "_first", "_seats")
 
-    def __init__(self) -> None:
+    def __init__(self, *, seed: int | None = None) -> None:
         self._first = Seat()
-        self._first.open()
+        self._first.open(*halves(seed))
         self._seats = _Seats(self._first)
 
     def __enter__(self: _Kind) -> _Kind:

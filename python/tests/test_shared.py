@@ -43,6 +43,15 @@ class Columns:
         return self.length
 
 
+def test_codes_are_the_same_whatever_the_seed() -> None:
+    for seed in (None, 0, 1, 2**64, 2**128 - 1):
+        with SharedInterner(seed=seed) as made:
+            assert list(made.encode([f"text {row % 700}" for row in range(2000)])) == [row % 700 for row in range(2000)]
+    for wrong in (-1, 2**128):
+        with pytest.raises(ValueError, match="a seed of"):
+            SharedInterner(seed=wrong)
+
+
 @pytest.fixture
 def shared() -> Iterator[SharedInterner]:
     with SharedInterner() as made:

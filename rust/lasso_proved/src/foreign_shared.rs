@@ -10,7 +10,7 @@
 //!    library covers a lent text until the next call with its handle.
 
 use crate::error::or_panic;
-use crate::foreign::{outcome, unexpected, LassoText};
+use crate::foreign::{outcome, unexpected, LassoText, Seed};
 use crate::iter::TextList;
 use crate::LassoResult;
 use std::cell::Cell;
@@ -28,7 +28,7 @@ struct Shared {
 }
 
 extern "C" {
-    fn lasso_shared_new(shared: *mut Shared) -> u32;
+    fn lasso_shared_new_seeded(shared: *mut Shared, seed0: u64, seed1: u64) -> u32;
     fn lasso_shared_join(shared: *mut Shared, other: *mut Shared) -> u32;
     fn lasso_shared_intern(shared: *mut Shared, text: *const u8, len: usize, code: *mut u32)
         -> u32;
@@ -100,13 +100,16 @@ pub(crate) struct Users {
 impl RefUnwindSafe for Users {}
 
 impl Users {
-    /// An interner without texts. The only error is `FailedAllocation`.
-    pub(crate) fn new() -> LassoResult<Self> {
+    /// An interner without texts, which hashes by the seed. The only error is `FailedAllocation`.
+    pub(crate) fn new(seed: Seed) -> LassoResult<Self> {
         let users = Self {
             seats: (0..=SEATS).map(|_| Seat(Mutex::new(User::NONE))).collect(),
         };
         // SAFETY: a handle of this function's (1, 2).
-        outcome(unsafe { lasso_shared_new(&mut lock(&users.seats[SEATS]).0) })?;
+        let status = unsafe {
+            lasso_shared_new_seeded(&mut lock(&users.seats[SEATS]).0, seed.0, seed.1)
+        };
+        outcome(status)?;
         Ok(users)
     }
 

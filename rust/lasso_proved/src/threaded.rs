@@ -19,8 +19,9 @@ use std::sync::{Mutex, MutexGuard, PoisonError};
 
 /// An interner that threads share by reference: each distinct text once, and a small key for each.
 ///
-/// `K` is the type of its keys. The hasher `S` is kept for the reader that it becomes, and not used:
-/// the library hashes texts by a fixed seed, so whoever chooses them can make them collide.
+/// `K` is the type of its keys. The hasher `S` is kept for the reader that it becomes, and not used: the
+/// library hashes texts by its own, with a random seed for each interner, or that of
+/// [`with_seed`](Self::with_seed).
 ///
 /// Calls of different threads go on at once. Only an absent text takes a lock of the whole interner,
 /// and only if a limit was set or the key type has fewer keys than the library.
@@ -88,6 +89,24 @@ impl<K: Key> ThreadedRodeo<K, RandomState> {
     ) -> Self {
         Self::with_capacity_memory_limits_and_hasher(capacity, memory_limits, RandomState::new())
     }
+
+    /// An interner without texts and without a limit, whose table hashes by this seed. Whoever knows the
+    /// seed can choose texts that collide. Keys don't depend on it.
+    ///
+    /// ```rust
+    /// use lasso_proved::{Key, ThreadedRodeo};
+    ///
+    /// let rodeo: ThreadedRodeo = ThreadedRodeo::with_seed(7, 9);
+    /// assert_eq!(rodeo.get_or_intern("red").into_usize(), 0);
+    /// ```
+    pub fn with_seed(seed0: u64, seed1: u64) -> Self {
+        Self::seeded(
+            Capacity::default(),
+            MemoryLimits::default(),
+            RandomState::new(),
+            Seed(seed0, seed1),
+        )
+    }
 }
 
 impl<K: Key, S: BuildHasher> ThreadedRodeo<K, S> {
@@ -111,8 +130,17 @@ impl<K: Key, S: BuildHasher> ThreadedRodeo<K, S> {
         memory_limits: MemoryLimits,
         hash_builder: S,
     ) -> Self {
+        Self::seeded(capacity, memory_limits, hash_builder, Seed::random())
+    }
+
+    fn seeded(
+        capacity: Capacity,
+        memory_limits: MemoryLimits,
+        hash_builder: S,
+        seed: Seed,
+    ) -> Self {
         Self {
-            users: or_panic(Users::new()),
+            users: or_panic(Users::new(seed)),
             first: capacity.bytes().get(),
             limit: AtomicUsize::new(memory_limits.max_memory_usage()),
             counted: Mutex::default(),
