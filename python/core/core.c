@@ -384,8 +384,7 @@ static PyMethodDef methods[] = {
      "Raises ValueError for a code below 0."},
     {"clear", (PyCFunction)core_clear, METH_NOARGS, "clear($self, /)\n--\n\nForgets every text. Codes begin from 0 again."},
     {"close", (PyCFunction)core_close, METH_NOARGS,
-     "close($self, /)\n--\n\nGives the memory back. len, memory and limit are 0 then, interner[code] raises IndexError, this call does nothing,\n"
-     "and every other raises InternerClosed."},
+     "close($self, /)\n--\n\nGives the memory back. len, memory and limit are 0 then, this call does nothing, and every other raises InternerClosed."},
     {"_open", (PyCFunction)core_open, METH_VARARGS, "_open(limit, seed0, seed1): makes an interner without texts, with a limit or None."},
     {"_clone", (PyCFunction)core_clone, METH_O, "Makes a copy of the interner in another Core."},
     {"_check_rows", (PyCFunction)core_check_rows, METH_VARARGS,

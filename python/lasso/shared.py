@@ -58,7 +58,7 @@ class SharedInterner:
 
     def close(self) -> None:
         """Gives the memory back, whichever thread calls it. A call of another thread ends as without it, or raises InternerClosed: each later one
-        does, but this one, ``len``, which is 0, and ``interner[code]``, which raises IndexError."""
+        does, but this one, and ``len``, which is 0."""
         self._first.close()
 
     def intern(self, text: str) -> int:
