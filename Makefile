@@ -25,14 +25,16 @@ PROGRESS = sed -unE -e '1{x;s/^.*$$/$(1) and the libraries below it/;x}' \
 # Of what rt try says, the program's own lines on standard error.
 OWN_LINES = grep -vE '^(interpreter|checked|races): |^run=[a-z-]+ .*proved=no$$'
 
-# Proves and builds a crate by a command of rt, and by as many jobs as memory allows: rt alone plans on more memory.
+# Proves and builds a crate by a command of rt with words into a file, and by as many jobs as memory allows: rt alone plans on more
+# memory. The file gets the time at which this began, so that a source that is saved meanwhile is newer.
 define build
 	@$(MAKE) -s toolchain
 	@echo "proving and building $(1) and the libraries below it; what is proved is kept for the next time" >&2
-	@jobs=$$(.ci/jobs); cd crates/$(1) && touch out.failed && \
+	@jobs=$$(.ci/jobs); cd crates/$(1) && touch out.begun out.failed && \
 	{ rt $(2) $${jobs:+--jobs "$$jobs"} $(3) < /dev/null 2>&1 && rm out.failed; } | tee out.log | $(PROGRESS) >&2
-	@cd crates/$(1) && if [ -e out.failed ]; then cat out.log >&2; rm -f out.failed out.log; exit 1; fi
-	@rm -f crates/$(1)/out.log
+	@cd crates/$(1) && if [ -e out.failed ]; then cat out.log >&2; rm -f out.begun out.failed out.log; exit 1; fi
+	@touch -r crates/$(1)/out.begun $(4)
+	@rm -f crates/$(1)/out.begun crates/$(1)/out.log
 endef
 
 .PHONY: help try run codes c check test verify docs fmt bench examples reference all install uninstall deb clean input crate toolchain python
@@ -65,8 +67,7 @@ run: input $(PROGRAM)
 $(PROGRAM): $(SOURCES) | input
 	@$(MAKE) -s toolchain
 	@.ci/libraries >&2
-	$(call build,lasso_lines,run)
-	@touch $(PROGRAM)
+	$(call build,lasso_lines,run,,$(PROGRAM))
 
 #:
 #: Build:
@@ -75,20 +76,19 @@ codes: $(CODES)
 	@printf '%s\n' "program: $$PWD/$(CODES)"
 
 $(CODES): $(SOURCES)
-	$(call build,lasso_codes,run,-- --version)
-	@touch $(CODES)
+	$(call build,lasso_codes,run,-- --version,$(CODES))
 
 #: make c                            proves the library for C if the sources changed, builds it, and prints its paths
 c: $(JOINED)
-	@install/pc "$$PWD/out" "$$PWD/crates/lasso_c/include" "$$PWD/out" '"$${libdir}/liblasso.a"' > out/lasso.pc
+	@install/pc "$$PWD/out" "$$PWD/crates/lasso_c/include" "$$PWD/out" '"$${libdir}/liblasso.a"' > out/lasso.pc.new || { rm -f out/lasso.pc.new; exit 1; }
+	@mv -f out/lasso.pc.new out/lasso.pc
 	@printf '%s\n' "header:     $$PWD/crates/lasso_c/include/lasso.h" \
 		"library:    $$PWD/$(JOINED)" \
 		"shared:     $$PWD/out/liblasso.so.0" \
 		"pkg-config: PKG_CONFIG_PATH=$$PWD/out pkg-config --cflags --libs lasso"
 
 $(LIBRARY): $(SOURCES)
-	$(call build,lasso_c,lib)
-	@touch $(LIBRARY)
+	$(call build,lasso_c,lib,,$(LIBRARY))
 
 # The library for C with the toolchain's part that calls malloc in it, and the same as a shared library.
 $(JOINED): $(LIBRARY) VERSION install/link
@@ -127,7 +127,7 @@ check: crate toolchain
 	*" yes") cd "crates/$$CRATE" && rt check && rt test ;; \
 	*) cd "crates/$$CRATE" && rt check ;; \
 	esac
-	@if [ -d "cases/$$CRATE/modules" ]; then (cd "crates/$$CRATE" && { rt run < /dev/null > /dev/null || [ -e "out/$$CRATE.stamp" ]; }) && cases/run "$$CRATE"; fi
+	@if [ -d "cases/$$CRATE/modules" ]; then (cd "crates/$$CRATE" && rt run -- --version < /dev/null > /dev/null) && cases/run "$$CRATE"; fi
 	@if [ -d "cases/$$CRATE/modules" ]; then cases/modules "$$CRATE"; fi
 
 #: make test                         all that needs no proof, in 3 minutes on four cores: the checks of documents and layout, all tests,
@@ -179,7 +179,7 @@ fmt: toolchain
 
 #: make clean                        removes what was proved and built in this folder; what rt ci keeps stays
 clean:
-	rm -rf out crates/*/out crates/*/out.log crates/*/out.failed
+	rm -rf out crates/*/out crates/*/out.log crates/*/out.failed crates/*/out.begun
 
 # The file can be read, or the command ends before anything is built.
 input:

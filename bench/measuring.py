@@ -9,7 +9,7 @@ import time
 
 HERE = os.path.dirname(os.path.dirname(os.path.abspath(__file__)))
 sys.path.append(f"{HERE}/trials")
-from common import said_of  # noqa: E402 pylint: disable=wrong-import-position
+from common import run_of, said_of  # noqa: E402 pylint: disable=wrong-import-position
 
 OUT = "bench/out"
 INPUTS = f"{OUT}/inputs"
@@ -51,7 +51,7 @@ def end_with(log):
 
 def build(crate):
     """Proves and builds the program of a crate."""
-    if not is_built(crate, ["rt", "run"], cwd=f"crates/{crate}") and not os.path.exists(f"crates/{crate}/out/{crate}.stamp"):
+    if not is_built(crate, run_of(crate), cwd=f"crates/{crate}"):
         end_with(crate)
 
 

@@ -47,13 +47,16 @@ def need(command, package=None):
         said_of(["apt-get", "install", "-y", package or command])
 
 
+def run_of(crate):
+    """The words that prove, build and run a program so that it ends well: a status of 0 says that it is built of the sources as they are."""
+    return ["rt", "run", *(["--", "--version"] if crate.startswith("lasso_") else [])]
+
+
 def program_of(crate):
     """The proved program of a crate, which is proved and built if it is missing."""
     path = f"{HERE}/crates/{crate}/out/{crate}"
     if not os.access(path, os.X_OK):
-        done = subprocess.run(["rt", "run"], cwd=f"{HERE}/crates/{crate}", stdin=subprocess.DEVNULL, stdout=subprocess.PIPE, stderr=subprocess.STDOUT, check=False)
-        if not os.path.exists(f"{path}.stamp"):
-            sys.exit(f"{done.stdout.decode('utf-8', 'replace')}{crate} was not built")
+        said_of(run_of(crate), cwd=f"{HERE}/crates/{crate}")
     return path
 
 

@@ -47,7 +47,9 @@ static uint32_t gather(struct chunk *chunk, int64_t from, int64_t to)
         if (wrong != LASSO_DONE)
             return refuse(chunk, wrong, row);
     }
-    return refuse(chunk, batch_end(batch), (int64_t)batch->refused);
+    /* First: it says which row is refused. */
+    uint32_t status = batch_end(batch);
+    return refuse(chunk, status, (int64_t)batch->refused);
 }
 
 /* Rows from one up to the end as they are, without a copy. Of a bitmap the first of these rows has the first bit of a byte. */
