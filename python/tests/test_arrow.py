@@ -248,6 +248,23 @@ def test_keeps_the_texts_before_a_refused_one(interner: Interner) -> None:
     assert caught.value.position == 2
 
 
+# Rows that are copied one by one, of which the last is no UTF-8.
+GATHERED: dict[str, Callable[[], Column]] = {
+    "a slice within a byte of its bitmap": lambda: Column("u", [b"\x0f", struct.pack("<5i", 0, 1, 4, 7, 8), b"xredred\xff"], 3, 1),
+    "views": lambda: Column("vu", [None, struct.pack("<i12si12si12s", 3, b"red", 3, b"red", 1, b"\xff"), b"", struct.pack("<q", 0)], 3),
+    "a column of a struct with nulls": lambda: table(3, validity=b"\x07", words=small(b"redred\xff", 0, 3, 6, 7)),
+}
+
+
+@pytest.mark.parametrize("kind", GATHERED)
+def test_says_which_of_the_rows_that_are_copied_is_refused(interner: Interner, kind: str) -> None:
+    name = ["words"] if "struct" in kind else []
+    for call in (interner.encode, interner.get_many):
+        with pytest.raises(NotUtf8) as caught:
+            call(GATHERED[kind](), *name)
+        assert (caught.value.position, interner.texts()) == (2, ["red"])
+
+
 def test_reads_a_stream_chunk_by_chunk(interner: Interner) -> None:
     columns = [strings(["red", None]), strings([]), strings(["u", "blue", "red"], 1)]
     stream = Chunks(columns)
