@@ -98,8 +98,11 @@ def main():
     folder.mkdir(parents=True, exist_ok=True)
     for name in sys.argv[2:] or list(INPUTS)[:6]:
         lines = INPUTS[name](random.Random(f"{SEED} {name}"))
+        # The tenth comes last: what is cut short has none, and is made again.
         for suffix, part in (("", lines), (".tenth", lines[: len(lines) // 10])):
-            (folder / f"{name}{suffix}").write_text("\n".join(part) + "\n", encoding="ascii")
+            written = folder / f"{name}{suffix}.part"
+            written.write_text("\n".join(part) + "\n", encoding="ascii")
+            written.rename(folder / f"{name}{suffix}")
 
 
 main()

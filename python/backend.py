@@ -50,26 +50,37 @@ def build_sdist(sdist_directory: str, config_settings: Any = None) -> str:
 
 
 def build_core(path: Path) -> Path:
-    """Compiles the extension module, with the library in it, to this path."""
+    """Compiles the extension module, with the library in it, to this path. One that is there stays unless the new one can be loaded."""
     if sysconfig.get_config_var("Py_GIL_DISABLED"):
         sys.exit("lasso needs a Python with its global lock: this one is free-threaded")
     headers = sysconfig.get_paths()["include"]
     if not (Path(headers) / "Python.h").is_file():
         sys.exit(f"{headers}/Python.h is missing: install the headers of Python, as Debian's python3-dev")
     library, header = _library()
-    command = [
-        *shlex.split(os.environ.get("CC", "cc")), "-O2", "-fPIC", "-shared", "-fvisibility=hidden", "-std=c11", f"-I{headers}", f"-I{header}",
-        *sorted(map(str, (HERE / "core").glob("*.c"))), str(library), "-Wl,--exclude-libs,ALL", "-Wl,-z,now,-z,relro", "-o", str(path),
-    ]
-    run = subprocess.run(command, stdout=subprocess.PIPE, stderr=subprocess.STDOUT, text=True, check=False)
-    if run.returncode != 0:
-        sys.exit(f"the extension module can't be built with {library}:\n{run.stdout}")
-    try:
-        ctypes.PyDLL(str(path), os.RTLD_NOW)
-    except OSError as fault:
-        path.unlink()
-        sys.exit(f"{library} is no library of lasso: {fault}")
+    with tempfile.TemporaryDirectory(dir=path.parent) as folder:
+        made = Path(folder) / CORE
+        status, said = _run_compiler([
+            "-O2", "-fPIC", "-shared", "-fvisibility=hidden", "-std=c11", f"-I{headers}", f"-I{header}",
+            *sorted(map(str, (HERE / "core").glob("*.c"))), str(library), "-Wl,--exclude-libs,ALL", "-Wl,-z,now,-z,relro", "-o", str(made),
+        ])
+        if status != 0 or not made.is_file():
+            sys.exit(f"the extension module can't be built with {library}: the compiler ended with status {status}\n{said}")
+        try:
+            ctypes.PyDLL(str(made), os.RTLD_NOW)
+        except OSError as fault:
+            sys.exit(f"{library} is no library of lasso: {fault}")
+        os.replace(made, path)
     return path
+
+
+def _run_compiler(words: list[str]) -> tuple[int, str]:
+    """The status of the compiler that CC names, and what it said."""
+    named = os.environ.get("CC") or "cc"
+    try:
+        run = subprocess.run([*shlex.split(named), *words], stdout=subprocess.PIPE, stderr=subprocess.STDOUT, text=True, errors="replace", check=False)
+    except (OSError, ValueError) as fault:
+        sys.exit(f"CC={named}: this compiler can't be run: {fault}")
+    return run.returncode, run.stdout
 
 
 def _library() -> tuple[Path, Path]:
@@ -91,7 +102,7 @@ def _library() -> tuple[Path, Path]:
 def _variable(name: str) -> str:
     """A folder that lasso.pc names."""
     try:
-        run = subprocess.run(["pkg-config", f"--variable={name}", "lasso"], stdout=subprocess.PIPE, stderr=subprocess.STDOUT, text=True, check=False)
+        run = subprocess.run(["pkg-config", f"--variable={name}", "lasso"], stdout=subprocess.PIPE, stderr=subprocess.STDOUT, text=True, errors="replace", check=False)
         found, said = run.stdout.strip() if run.returncode == 0 else "", run.stdout
     except OSError as fault:
         found, said = "", str(fault)

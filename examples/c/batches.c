@@ -96,7 +96,7 @@ int main(int argc, char **argv)
     if (lasso_new(&lasso, LASSO_NO_LIMIT) != LASSO_DONE)
         fail("out of memory");
 
-    struct lines lines = {NULL, 0, 0, NULL, NULL, 0, 0};
+    struct lines lines = {grown(NULL, BATCH), 0, BATCH, NULL, NULL, 0, 0};
     static uint8_t batch[BATCH];
     size_t length, written = 0;
     while ((length = fread(batch, 1, sizeof batch, file)) > 0) {
