@@ -2,6 +2,7 @@
 import ctypes
 import os
 import pickle
+import signal
 import struct
 
 import guarded
@@ -11,6 +12,8 @@ from library import Refused
 from programs import shorter
 
 HANDLES = 3
+# How many seconds the calls of a process may take.
+LONGEST = 600
 STATUS, SIZE = ctypes.c_uint32, ctypes.c_size_t
 LENGTHS = [0, 0, 1, 1, 2, 3, 5, 14, 15, 16, 100, 2047, 2048, 4095, 4096, 4097, 8192, 9000]
 PIECES = ["a", "b", "c", "é", "漢", "\U0001f40e", "\0"]
@@ -461,6 +464,8 @@ def in_a_child(work):
     child = os.fork()
     if child == 0:
         try:
+            # A call that never returns ends the process, and so the wait for it.
+            signal.alarm(LONGEST)
             os.close(ends[0])
             with os.fdopen(ends[1], "wb") as pipe:
                 pickle.dump(work(), pipe)
