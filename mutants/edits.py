@@ -14,7 +14,7 @@ TYPE_OR_CRATE = re.compile(r"(?<![\w:])(?:([A-Z]\w*)(?=::|\(| \{)|(lasso\w*)::)"
 KNOWN_EVERYWHERE = ("Some", "Ok", "Err", "Vec", "String", "Box", "Option")
 EDITED = re.compile(r"(src|specs|proofs)/[\w/+-]+\.(rt|antt)")
 EXAMPLES = "lasso_shared"
-KEYS = ("file", "function", "old", "new", "test", "case", "example", "gate")
+KEYS = ("file", "function", "old", "new", "test", "case", "example", "gate", "ends")
 # What has to refuse a mutant that the gate gives to the prover.
 BY_A_GOAL, BY_THE_PROVER = "a goal", "the prover"
 GATE = re.compile(rf"(\w+)(?:, ({BY_A_GOAL}|{BY_THE_PROVER}))?")
@@ -42,6 +42,7 @@ class Edit:
     tests: list = field(default_factory=list)
     cases: list = field(default_factory=list)
     examples: list = field(default_factory=list)
+    ends: bool = True  # whether its test or its case is to end: it may wait for ever
     gate: str = ""  # what the gate asks of it: `a goal` or `the prover`, or `a run`; nothing if it doesn't try it
 
 
@@ -82,7 +83,9 @@ def edit_of(crate, name, lines):
     if any(len(words) != 2 for words in tests + cases + examples):
         raise Unfit(f"{crate}/{name}: a test, a case and an example have two words each")
     gate = gate_of(f"{crate}/{name}", values["gate"], bool(tests or cases))
-    return Edit(crate, name, values["file"][0], function, list(zip(values["old"], values["new"])), tests, cases, examples, gate)
+    if values["ends"] not in ([], ["never"]) or values["ends"] and not tests and not cases:
+        raise Unfit(f"{crate}/{name}: a line `ends:` says `never`, of a mutant with a test or a case")
+    return Edit(crate, name, values["file"][0], function, list(zip(values["old"], values["new"])), tests, cases, examples, not values["ends"], gate)
 
 
 def gate_of(name, lines, is_run):

@@ -18,7 +18,9 @@ ERROR_AT = re.compile(r"^(?:\./)?(src/\S+\.rt):(\d+):\d+: error", re.MULTILINE)
 REPLAY = "tool_replay"
 # A program without proof is slow: a run of a case may take longer than its minute.
 CASE_SECONDS = "300"
-RAN = re.compile(r"^test (\S+) \.\.\. (ok|FAILED)$", re.MULTILINE)
+# A test that was ended at the time limit, which rt calls failed, is late.
+RAN = re.compile(r"^test (\S+) \.\.\. (?:(ok|FAILED)$(?!\n\s*checked: no-answer)|FAILED$(?=\n\s*checked: no-answer))", re.MULTILINE)
+LATE = "had not ended in time"
 
 
 class Unjudged(Unfit):
@@ -175,7 +177,7 @@ def test_results(copy, crate):
         words = [f"{copy}/cases/modules", crate]
     done = subprocess.run(words, cwd=folder, stdin=subprocess.DEVNULL, capture_output=True, check=False)
     said = (done.stdout + done.stderr).decode("utf-8", "replace")
-    results = dict(RAN.findall(said))
+    results = {name: result or LATE for name, result in RAN.findall(said)}
     if not results:
         raise Unfit(f"no test of {crate} ran:\n{end_of(said)}")
     return results
@@ -193,7 +195,14 @@ def try_tests(edit, copy, as_it_is):
             raise Unfit(f"{edit.crate}/{edit.name}: the test {name} of {crate} does not pass as it is, or did not run with the mutant")
         if with_edit[name] == "ok":
             return Outcome.LET_THROUGH
+        refuse_late(edit, name, with_edit[name])
     return Outcome.BY_A_TEST
+
+
+def refuse_late(edit, name, result):
+    """Counts as not tried what ran out of time, as on a machine with more to do, unless the mutant waits for ever."""
+    if result == LATE and edit.ends:
+        raise Unfit(f"{edit.crate}/{edit.name}: {name} {LATE}, and no line of it says `ends: never`")
 
 
 def needs_proof(copy, program, cases):
@@ -219,24 +228,27 @@ def program_of(copy, program, cases, room):
 
 
 def replays(copy, file, name):
-    """Whether the replies of tool_replay, in this file, to the stored script of this name are stored ones."""
+    """How it ends whether the replies of tool_replay, in this file, to the stored script of this name are stored ones."""
     folder = os.path.join(copy, "crates", REPLAY)
     with open(f"{folder}/stdin", "rb") as scripts, open(f"{folder}/stdout", "rb") as replies:
         script = re.search(rb"^script %s .*?(?=^script |\Z)" % re.escape(name.encode()), scripts.read(), re.MULTILINE | re.DOTALL)
-        done = subprocess.run([file], input=script.group(), capture_output=True, check=False)
-        return done.returncode == 0 and b"\n" + done.stdout in b"\n" + replies.read()
+        try:
+            done = subprocess.run([file], input=script.group(), capture_output=True, timeout=float(CASE_SECONDS), check=False)
+        except subprocess.TimeoutExpired:
+            return LATE
+        return "ok" if done.returncode == 0 and b"\n" + done.stdout in b"\n" + replies.read() else "FAILED"
 
 
-def passes(copy, program, file, case):
-    """Whether the program in this file passes the case."""
+def result_of(copy, program, file, case):
+    """How the case ends with the program in this file."""
     if program == REPLAY:
         return replays(copy, file, case)
     words = [f"{copy}/cases/run", "--program", f"{program}={file}", f"{program}/{case}"]
     done = subprocess.run(words, capture_output=True, env={**os.environ, "CASE_SECONDS": CASE_SECONDS}, check=False)
-    said = done.stdout.decode("utf-8", "replace")
+    said = (done.stdout + done.stderr).decode("utf-8", "replace")
     if not re.search(r"^\d+ passed, \d+ failed$", said, re.MULTILINE):
-        raise Unfit(f"the cases {case} of {program} did not run:\n{end_of(said + done.stderr.decode('utf-8', 'replace'))}")
-    return done.returncode == 0
+        raise Unfit(f"the cases {case} of {program} did not run:\n{end_of(said)}")
+    return "ok" if done.returncode == 0 else LATE if LATE in said else "FAILED"
 
 
 def try_cases(edit, copy, built, room):
@@ -249,10 +261,12 @@ def try_cases(edit, copy, built, room):
         with applied([edit], os.path.join(copy, "crates", edit.crate)):
             with_edit = program_of(copy, program, cases, room)
         for case in cases:
-            if built is not None and not passes(copy, program, built[kind], case):
+            if built is not None and result_of(copy, program, built[kind], case) != "ok":
                 raise Unfit(f"{edit.crate}/{edit.name}: the case {case} of {program} does not pass as it is")
-            if passes(copy, program, with_edit, case):
+            result = result_of(copy, program, with_edit, case)
+            if result == "ok":
                 return Outcome.LET_THROUGH
+            refuse_late(edit, case, result)
     return Outcome.BY_A_TEST
 
 
