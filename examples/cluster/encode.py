@@ -58,8 +58,14 @@ def run_all(client, words, steps):
     start = time.monotonic()
     # No future outlives its answer: a lost worker's finished tasks are not done again, since their files are there.
     done = as_completed([client.submit(run, PROGRAM, words, sources, target, pure=False) for target, sources in steps], with_results=True)
-    count = sum(1 for _ in done)
-    print(f"{words[0]}: {count} runs, {time.monotonic() - start:.1f} seconds", flush=True)
+    for future, _ in done:
+        # Without the scheduler all futures are cancelled, and none raises an error.
+        if future.status != "finished":
+            raise RuntimeError(f"{words[0]}: a run was {future.status}: is the scheduler there?")
+    missing = [str(target) for target, _ in steps if not target.is_file()]
+    if missing:
+        raise RuntimeError(f"{words[0]}: {missing[0]} was not written")
+    print(f"{words[0]}: {len(steps)} runs, {time.monotonic() - start:.1f} seconds", flush=True)
 
 
 def merge_all(client, files, folder, dictionary):
