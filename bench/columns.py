@@ -5,7 +5,7 @@ import shutil
 from statistics import median
 
 from measuring import CALLS as OURS
-from measuring import INPUTS, OUT, build_library, complain, has_package, is_built, keep, least_by_key, make_input, make_long_inputs, priority, said_lines, said_of, start, times_by_key
+from measuring import INPUTS, OUT, build_library, complain, has_package, is_built, keep, least_by_key, make_input, make_long_inputs, priority, replaced, said_lines, said_of, start, times_by_key
 
 RUST = f"{OUT}/best/release/columns"
 SHARED = f"{OUT}/interners/release/columns"
@@ -112,7 +112,7 @@ def make_codes(name):
     if os.path.exists(f"{INPUTS}/{name}.codes"):
         return
     codes = {}
-    with open(f"{INPUTS}/{name}", "rb") as source, open(f"{INPUTS}/{name}.codes", "w", encoding="ascii") as target:
+    with open(f"{INPUTS}/{name}", "rb") as source, replaced(f"{INPUTS}/{name}.codes", encoding="ascii") as target:
         for line in source:
             target.write(f"{codes.setdefault(line.removesuffix(END), len(codes))}\n")
 

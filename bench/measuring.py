@@ -9,7 +9,7 @@ import time
 
 HERE = os.path.dirname(os.path.dirname(os.path.abspath(__file__)))
 sys.path.append(f"{HERE}/trials")
-from common import run_of, said_of  # noqa: E402 pylint: disable=wrong-import-position
+from common import replaced, run_of, said_of  # noqa: E402 pylint: disable=wrong-import-position
 
 OUT = "bench/out"
 INPUTS = f"{OUT}/inputs"

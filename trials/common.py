@@ -1,5 +1,6 @@
 """What trials and timings share: built programs, packages of the system, libraries in C that are loaded first, runs under valgrind, and runs
 with requests for memory refused in turn."""
+import contextlib
 import os
 import re
 import shutil
@@ -45,6 +46,19 @@ def need(command, package=None):
     if not shutil.which(command):
         said_of(["apt-get", "update"])
         said_of(["apt-get", "install", "-y", package or command])
+
+
+@contextlib.contextmanager
+def replaced(path, **options):
+    """A new file to write into. It takes the place of the file at the path if all of it was written, and else goes."""
+    part = f"{path}.part"
+    try:
+        with open(part, "w", **options) as target:
+            yield target
+        os.replace(part, path)
+    finally:
+        with contextlib.suppress(FileNotFoundError):
+            os.remove(part)
 
 
 def run_of(crate):
