@@ -63,7 +63,8 @@ def replaced(path, **options):
 
 def run_of(crate):
     """The words that prove, build and run a program so that it ends well: a status of 0 says that it is built of the sources as they are."""
-    return ["rt", "run", *(["--", "--version"] if crate.startswith("lasso_") else [])]
+    words = {"lasso_codes": "--version", "lasso_lines": "--version", "tool_soak": "0"}.get(crate)
+    return ["rt", "run", *(["--", words] if words else [])]
 
 
 def program_of(crate):
