@@ -2,6 +2,7 @@
 import contextlib
 import os
 import re
+import signal
 import subprocess
 import tempfile
 
@@ -18,9 +19,11 @@ ERROR_AT = re.compile(r"^(?:\./)?(src/\S+\.rt):(\d+):\d+: error", re.MULTILINE)
 REPLAY = "tool_replay"
 # A program without proof is slow: a run of a case may take longer than its minute.
 CASE_SECONDS = "300"
-# A test that was ended at the time limit, which rt calls failed, is late.
-RAN = re.compile(r"^test (\S+) \.\.\. (?:(ok|FAILED)$(?!\n\s*checked: no-answer)|FAILED$(?=\n\s*checked: no-answer))", re.MULTILINE)
-LATE = "had not ended in time"
+# What rt says of a test, and on the line after a failed one why.
+RAN = re.compile(r"^test (\S+) \.\.\. (?:(ok)|FAILED)$(?:\n\s*checked: (.*))?", re.MULTILINE)
+# What says nothing of a mutant, though rt and cases/run call it failed: it took too long, or memory was short and the system killed it.
+LATE, KILLED = "had not ended in time", "was killed"
+SAID_OF_KILLED = "signal 9 (SIGKILL)"
 
 
 class Unjudged(Unfit):
@@ -177,10 +180,15 @@ def test_results(copy, crate):
         words = [f"{copy}/cases/modules", crate]
     done = subprocess.run(words, cwd=folder, stdin=subprocess.DEVNULL, capture_output=True, check=False)
     said = (done.stdout + done.stderr).decode("utf-8", "replace")
-    results = {name: result or LATE for name, result in RAN.findall(said)}
+    results = {name: result or failure(why) for name, result, why in RAN.findall(said)}
     if not results:
         raise Unfit(f"no test of {crate} ran:\n{end_of(said)}")
     return results
+
+
+def failure(why):
+    """How a test failed, by what rt says of it."""
+    return LATE if why.startswith("no-answer") else KILLED if SAID_OF_KILLED in why else "FAILED"
 
 
 def try_tests(edit, copy, as_it_is):
@@ -200,7 +208,9 @@ def try_tests(edit, copy, as_it_is):
 
 
 def refuse_late(edit, name, result):
-    """Counts as not tried what ran out of time, as on a machine with more to do, unless the mutant waits for ever."""
+    """Counts as not tried what was killed, or ran out of time, as on a machine with more to do, unless the mutant waits for ever."""
+    if result == KILLED:
+        raise Unfit(f"{edit.crate}/{edit.name}: {name} {KILLED}")
     if result == LATE and edit.ends:
         raise Unfit(f"{edit.crate}/{edit.name}: {name} {LATE}, and no line of it says `ends: never`")
 
@@ -236,6 +246,8 @@ def replays(copy, file, name):
             done = subprocess.run([file], input=script.group(), capture_output=True, timeout=float(CASE_SECONDS), check=False)
         except subprocess.TimeoutExpired:
             return LATE
+        if done.returncode == -signal.SIGKILL:
+            return KILLED
         return "ok" if done.returncode == 0 and b"\n" + done.stdout in b"\n" + replies.read() else "FAILED"
 
 
@@ -248,7 +260,7 @@ def result_of(copy, program, file, case):
     said = (done.stdout + done.stderr).decode("utf-8", "replace")
     if not re.search(r"^\d+ passed, \d+ failed$", said, re.MULTILINE):
         raise Unfit(f"the cases {case} of {program} did not run:\n{end_of(said)}")
-    return "ok" if done.returncode == 0 else LATE if LATE in said else "FAILED"
+    return "ok" if done.returncode == 0 else LATE if LATE in said else KILLED if "status -9" in said else "FAILED"
 
 
 def try_cases(edit, copy, built, room):
