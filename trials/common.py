@@ -1,6 +1,7 @@
 """What trials and timings share: built programs, packages of the system, libraries in C that are loaded first, runs under valgrind, and runs
 with requests for memory refused in turn."""
 import contextlib
+import glob
 import os
 import re
 import shutil
@@ -67,10 +68,17 @@ def run_of(crate):
     return ["rt", "run", *(["--", words] if words else [])]
 
 
+def is_built(path):
+    """Whether a file that is built is there, and no file of code, contracts or proofs is newer."""
+    parts = (glob.iglob(f"{glob.escape(HERE)}/crates/*/{part}/**", recursive=True) for part in ("src", "specs", "proofs"))
+    sources = [f"{HERE}/crates.txt", *(name for names in parts for name in names if os.path.isfile(name))]
+    return os.path.isfile(path) and os.path.getmtime(path) >= max(map(os.path.getmtime, sources))
+
+
 def program_of(crate):
-    """The proved program of a crate, which is proved and built if it is missing."""
+    """The proved program of a crate, which is proved and built if it is missing or older than a source."""
     path = f"{HERE}/crates/{crate}/out/{crate}"
-    if not os.access(path, os.X_OK):
+    if not is_built(path):
         said_of(run_of(crate), cwd=f"{HERE}/crates/{crate}")
     return path
 
