@@ -16,6 +16,7 @@ from programs import STANDARD
 from threads import STANDARD as STANDARD_SHARED
 
 LASSO = f"{OUT}/lasso/release"
+FIGURES = ("lasso-calls", "lasso-threads", "lasso-lines", "lasso-occasion")
 CALL_ROUNDS = 5
 THREAD_ROUNDS = 4
 LINE_ROUNDS = 7
@@ -222,6 +223,10 @@ def measure_lasso():
     for name in (*NAMES, *REAL_NAMES):
         path = f"{INPUTS}/{name}"
         test_alike({program: lambda words=words: without_bytes(output_of(words, path)) for program, words in programs().items()}, path)
+    # A run that is cut short leaves no figures beside those of another one.
+    for name in FIGURES:
+        if os.path.exists(f"{OUT}/{name}"):
+            os.remove(f"{OUT}/{name}")
     first = priority()
     told = list(occasion())
     print("\n".join(told), flush=True)

@@ -12,8 +12,10 @@ def install(packages):
     names = " ".join(packages)
     if os.geteuid() == 0 and shutil.which("apt-get"):
         print(f"installing {names} by apt-get", file=sys.stderr, flush=True)
-        quiet = {"env": {**os.environ, "DEBIAN_FRONTEND": "noninteractive"}, "stdout": subprocess.DEVNULL, "stderr": subprocess.DEVNULL, "check": False}
-        subprocess.run(["apt-get", "update", "-q"], **quiet)
-        if subprocess.run(["apt-get", "install", "-q", "-y", "--no-install-recommends", *packages], **quiet).returncode == 0:
+        kept = {"env": {**os.environ, "DEBIAN_FRONTEND": "noninteractive"}, "stdout": subprocess.PIPE, "stderr": subprocess.STDOUT, "text": True, "errors": "replace", "check": False}
+        told = subprocess.run(["apt-get", "update", "-q"], **kept).stdout
+        ran = subprocess.run(["apt-get", "install", "-q", "-y", "--no-install-recommends", *packages], **kept)
+        if ran.returncode == 0:
             return
+        print(told + ran.stdout, end="", file=sys.stderr)
     sys.exit(f"missing: {names}: on Debian, apt-get install {names} as root")

@@ -125,5 +125,7 @@ def _loaded(kind: type[_Kind], texts: list[str], limit: int | None) -> _Kind:
     made = Core.__new__(kind)
     made._open(None, *halves(None))
     encode_into(made, texts, None, array("I"), True)
+    if len(made) != len(texts):
+        raise ValueError("a text comes twice, so that later ones would have other codes")
     made.limit = limit
     return made

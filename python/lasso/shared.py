@@ -131,4 +131,6 @@ def _loaded(kind: type[_Kind], texts: list[str]) -> _Kind:
     made = kind.__new__(kind)
     SharedInterner.__init__(made)
     encode_into(made._seats.seat, texts, None, array("I"), True)
+    if len(made) != len(texts):
+        raise ValueError("a text comes twice, so that later ones would have other codes")
     return made

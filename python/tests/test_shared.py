@@ -235,6 +235,13 @@ def test_gives_codes_as_a_dictionary_array(shared: SharedInterner) -> None:
         assert interner.texts() == ["red", "blue"]
 
 
+def test_refuses_a_pickle_in_which_a_text_comes_twice() -> None:
+    for made in (Interner(), SharedInterner()):
+        load, (kind, _, *rest), *_ = made.__reduce__()
+        with pytest.raises(ValueError, match="a text comes twice"):
+            load(kind, ["a", "a", "b"], *rest)
+
+
 def test_is_copied_and_pickled_by_its_texts(shared: SharedInterner) -> None:
     class Named(SharedInterner):
         name = ""
