@@ -8,6 +8,7 @@ import shutil
 import subprocess
 import sys
 import tempfile
+import time
 from dataclasses import dataclass
 
 HERE = os.path.dirname(os.path.dirname(os.path.abspath(__file__)))
@@ -69,17 +70,24 @@ def run_of(crate):
 
 
 def is_built(path):
-    """Whether a file that is built is there, and no file of code, contracts or proofs is newer."""
+    """Whether a file that is built is there, and no file of code, contracts or proofs is newer, nor a folder, which is newer if one was removed."""
     parts = (glob.iglob(f"{glob.escape(HERE)}/crates/*/{part}/**", recursive=True) for part in ("src", "specs", "proofs"))
-    sources = [f"{HERE}/crates.txt", *(name for names in parts for name in names if os.path.isfile(name))]
+    sources = [f"{HERE}/crates.txt", f"{HERE}/HANDLES", *(name for names in parts for name in names)]
     return os.path.isfile(path) and os.path.getmtime(path) >= max(map(os.path.getmtime, sources))
+
+
+def build(path, words, **options):
+    """Runs what proves and builds a file. It gets the time at which this began, so that a source that is saved meanwhile is newer."""
+    begun = time.time()
+    said_of(words, **options)
+    os.utime(path, (begun, begun))
 
 
 def program_of(crate):
     """The proved program of a crate, which is proved and built if it is missing or older than a source."""
     path = f"{HERE}/crates/{crate}/out/{crate}"
     if not is_built(path):
-        said_of(run_of(crate), cwd=f"{HERE}/crates/{crate}")
+        build(path, run_of(crate), cwd=f"{HERE}/crates/{crate}")
     return path
 
 
