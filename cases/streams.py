@@ -16,7 +16,7 @@ FULL = "a full device"
 GONE = "a pipe that nobody reads"
 
 # How long an answer to typed input may take.
-PATIENCE = 10
+PATIENCE = max(10, int(os.environ.get("CASE_SECONDS", "60")) // 6)
 
 
 @dataclass
