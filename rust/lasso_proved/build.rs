@@ -17,6 +17,9 @@ fn main() {
         "PKG_CONFIG",
         "PKG_CONFIG_PATH",
         "PKG_CONFIG_LIBDIR",
+        "PKG_CONFIG_SYSROOT_DIR",
+        "PKG_CONFIG_SYSTEM_LIBRARY_PATH",
+        "PKG_CONFIG_ALLOW_SYSTEM_LIBS",
     ] {
         println!("cargo:rerun-if-env-changed={name}");
     }
@@ -85,6 +88,10 @@ fn link_by_pkg_config() -> Result<(), String> {
         ));
     }
     let words = words_of(&String::from_utf8_lossy(&output.stdout));
+    // cargo takes each line that is printed for an order.
+    if let Some(word) = words.iter().find(|word| word.contains('\n')) {
+        return Err(format!("{command} names {word:?}, which has a line feed"));
+    }
     // The loader doesn't look into such a folder, and an rpath reaches no program of another crate.
     let unknown = words.iter().find_map(|word| word.strip_prefix("-Wl,-rpath,"));
     if let Some(folder) = unknown {
