@@ -1,8 +1,6 @@
 //! The `ThreadedRodeo` of `lasso_proved` over the lines of standard input, as `bench/baseline/interners` has others, in one round.
 #[path = "../interners/interner.rs"]
 mod interner;
-#[path = "../interners/lines.rs"]
-mod lines;
 #[path = "../opaque.rs"]
 mod opaque;
 #[path = "../interners/rounds.rs"]
