@@ -51,8 +51,11 @@ def end_with(log):
 
 def build(crate):
     """Proves and builds the program of a crate."""
+    begun = time.time()
     if not is_built(crate, run_of(crate), cwd=f"crates/{crate}"):
         end_with(crate)
+    # A source that was saved meanwhile is newer.
+    os.utime(f"crates/{crate}/out/{crate}", (begun, begun))
 
 
 def build_library():

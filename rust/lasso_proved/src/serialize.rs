@@ -68,8 +68,8 @@ impl<K: Key + Serialize, H> Serialize for ThreadedRodeo<K, H> {
     }
 }
 
-/// Each text has its key. The interner has no limit. It is an error if the keys are not those of the
-/// first positions, each once, and if memory is out.
+/// Each text has its key; of equal texts the last one counts. The interner has no limit. It is an
+/// error if the keys are not those of the first positions, each once, and if memory is out.
 impl<'de, K, S> Deserialize<'de> for ThreadedRodeo<K, S>
 where
     K: Key + Deserialize<'de>,
