@@ -351,11 +351,16 @@ pub extern "C" fn lasso_limit(lasso: &mut Lasso) -> usize
 /// `NO_INTERNER` without an interner.
 #[unsafe(no_mangle)]
 pub extern "C" fn lasso_set_limit(lasso: &mut Lasso, limit: usize) -> u32
-    ensures texts { texts_in lasso.new.seat.value ≡ texts_in lasso.old.seat.value }
+    // On success
+    ensures done { IsSome lasso.old.seat.value → result ≡ DONE }
     ensures account { IfSome (account_in lasso.old.seat.value) (λ account. account_in lasso.new.seat.value ≡ Some (with_limit account limit)) }
+
+    // What stays
+    ensures texts { texts_in lasso.new.seat.value ≡ texts_in lasso.old.seat.value }
     ensures first { first_in lasso.new.seat.value ≡ first_in lasso.old.seat.value }
     ensures seed { seed_in lasso.new.seat.value ≡ seed_in lasso.old.seat.value }
-    ensures done { IsSome lasso.old.seat.value → result ≡ DONE }
+
+    // On failure
     ensures none { lasso.old.seat.value ≡ None → (result ≡ NO_INTERNER) × (lasso.new.seat.value ≡ None) }
 {
     let Some(interner) = lasso.interner() else {
@@ -368,11 +373,16 @@ pub extern "C" fn lasso_set_limit(lasso: &mut Lasso, limit: usize) -> u32
 /// Forgets every text. The limit stays, and so do the buckets that are filled again. It returns `NO_INTERNER` without an interner.
 #[unsafe(no_mangle)]
 pub extern "C" fn lasso_clear(lasso: &mut Lasso) -> u32
+    // On success
+    ensures done { IsSome lasso.old.seat.value → result ≡ DONE }
     ensures texts { texts_in lasso.new.seat.value ≡ [] }
     ensures account { IfSome lasso.old.seat.value (λ interner. account_in lasso.new.seat.value ≡ Some (clear interner.rodeo.first interner.rodeo.account)) }
+
+    // What stays
     ensures first { first_in lasso.new.seat.value ≡ first_in lasso.old.seat.value }
     ensures seed { seed_in lasso.new.seat.value ≡ seed_in lasso.old.seat.value }
-    ensures done { IsSome lasso.old.seat.value → result ≡ DONE }
+
+    // On failure
     ensures none { lasso.old.seat.value ≡ None → (result ≡ NO_INTERNER) × (lasso.new.seat.value ≡ None) }
 {
     let Some(interner) = lasso.interner() else {
