@@ -21,11 +21,7 @@ use Rattle.lasso_c.specs.Seeded.{Interner}
 abbrev refused_status : LassoError → ℕ
 refused_status error = error_status (refusal_at 0 error)
 
--- ---- one text and the interner that was there: `reason` is why it was refused, or none
-
--- the outcome, and its status
-abbrev Ends : InternerView → Text → (status : ℕ) → InternerView → Type 0
-Ends old text status new = (outcome : Result ℕ CallError) × InternsCode 0 old text outcome new × (status ≡ outcome_status outcome)
+-- ---- one text and the interner that was there
 
 module _ (old new : InternerView) (text : Text) (status : ℕ) where
   ended_no_code : (outcome : Result ℕ CallError) → InternsCode 0 old text outcome new → status ≡ outcome_status outcome → (status ≡ NO_CODE_LEFT) ↔ (IsAbsent old text × (next_key key_of_code old ≡ None))
