@@ -15,6 +15,7 @@ ghost use Rattle.lasso_c.specs.Handles.{PutsNew, row_codes_in, seed_in, text_loo
 ghost use Rattle.lasso_c.specs.Interning.{ColumnEnds, TextEnds, key_of_code};
 ghost use Rattle.lasso_c.specs.Seeds.{IsFixed};
 ghost use Rattle.lasso_c.specs.Status.{Reports, outcome_status};
+ghost use Rattle.lasso_c.specs.declared.status.TheConstants.{LIMIT_REACHED, NO_CODE_LEFT};
 
 use crate::batches::{code_in, copy_text};
 use crate::error::{CallError, LassoReport, status_of};
