@@ -92,10 +92,8 @@ impl<K: Key> SharedBucket<K> {
         ensures legal { IsLegal K.key_at log.now.opening (seen pass.new) }
     {
         for _ in rt.forever() {
-            match self.try_reserve_now(log, pass, bytes) {
-                Some(Some(range)) => return Some(range),
-                Some(None) => return None,
-                None => {}
+            if let Some(found) = self.try_reserve_now(log, pass, bytes) {
+                return found;
             }
         }
         unreachable!()

@@ -57,11 +57,10 @@ impl<K: Key> Log<K> {
         ensures legal { IsLegal K.key_at self.now.opening (seen pass.new) }
     {
         for _ in rt.forever() {
-            match self.charge_now(alloc, list, spine, pass, bytes) {
-                Some(Ok(range)) => return Ok(range),
-                Some(Err(error)) => return Err(error),
-                None => spin_loop(),
+            if let Some(reply) = self.charge_now(alloc, list, spine, pass, bytes) {
+                return reply;
             }
+            spin_loop();
         }
         unreachable!()
     }
@@ -136,16 +135,18 @@ impl<K: Key> Log<K> {
         if spine.turns.count >= u64::MAX - 2 {
             return Some(Err(LassoError::new(LassoErrorKind::FailedAllocation)));
         }
-        match list.make_room(alloc, spine.turns.count) {
-            Ok(true) => {}
-            Ok(false) => return None,
-            Err(error) => return Some(Err(error)),
-        }
-        let mut bucket = match self.new_bucket(alloc, size) {
-            Ok(Some(bucket)) => bucket,
-            Ok(None) => return None,
+        let is_made = match list.make_room(alloc, spine.turns.count) {
+            Ok(is_made) => is_made,
             Err(error) => return Some(Err(error)),
         };
+        if !is_made {
+            return None;
+        }
+        let made = match self.new_bucket(alloc, size) {
+            Ok(made) => made,
+            Err(error) => return Some(Err(error)),
+        };
+        let mut bucket = made?;
         let Some(range) = bucket.reserve(bytes as usize) else {
             unreachable!()
         };
@@ -239,6 +240,9 @@ impl<K: Key> Log<K> {
         let len = self.len(pass);
         let is_at = self.is_at(&spine.turns, pass);
         pass.prove_legal();
-        is_at && len == spine.len()
+        if is_at && len == spine.len() {
+            return true;
+        }
+        false
     }
 }

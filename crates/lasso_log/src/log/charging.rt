@@ -120,20 +120,20 @@ impl<K: Key> Log<K> {
             offer: _,
             pen,
         } = tried;
-        if !done {
-            pass.ticket.take_back(pen);
-            return None;
+        if done {
+            let word = pass.ticket.use_up(next);
+            pass.seen = after;
+            return Some(SharedBucket {
+                word,
+                ptr,
+                size: size as u64,
+                base: 0,
+                position: turns.count,
+                site,
+                seen: pass.seen.again(),
+            });
         }
-        let word = pass.ticket.use_up(next);
-        pass.seen = after;
-        Some(SharedBucket {
-            word,
-            ptr,
-            size: size as u64,
-            base: 0,
-            position: turns.count,
-            site,
-            seen: pass.seen.again(),
-        })
+        pass.ticket.take_back(pen);
+        None
     }
 }

@@ -50,11 +50,10 @@ impl<K: Key> Log<K> {
         ensures legal { IsLegal K.key_at self.now.opening (seen pass.new) }
     {
         for _ in rt.forever() {
-            match self.reserve_now(list, spine, pass, bytes) {
-                Some(Some(range)) => return Some(range),
-                Some(None) => return None,
-                None => spin_loop(),
+            if let Some(found) = self.reserve_now(list, spine, pass, bytes) {
+                return found;
             }
+            spin_loop();
         }
         unreachable!()
     }
@@ -81,10 +80,8 @@ impl<K: Key> Log<K> {
         let count = spine.buckets();
         for newer in 0..count {
             let bucket = list.find_now(self, count - 1 - newer)?;
-            match bucket.try_reserve_now(self, pass, bytes) {
-                None => return None,
-                Some(Some(range)) => return Some(Some(range)),
-                Some(None) => {}
+            if let Some(range) = bucket.try_reserve_now(self, pass, bytes)? {
+                return Some(Some(range));
             }
         }
         Some(None)

@@ -148,12 +148,14 @@ impl<K: Key, S: BuildHasher + Drop> Shards<K, S> {
         ensures err { IfSome result (λ r. OnErr r (Since pass.old.number pass.old.notes pass.new.notes [])) }
         ensures busy { IsNone result → Since pass.old.number pass.old.notes pass.new.notes [] }
     {
-        match self.log.reserve_now(&self.buckets, &tally.spine, pass, bytes) {
-            None => return None,
-            Some(Some(range)) => return Some(Ok(range)),
-            Some(None) => {}
+        if let Some(range) = self
+            .log
+            .reserve_now(&self.buckets, &tally.spine, pass, bytes)?
+        {
+            return Some(Ok(range));
         }
-        self.log.charge_now(self.alloc, &self.buckets, &mut tally.spine, pass, bytes)
+        self.log
+            .charge_now(self.alloc, &self.buckets, &mut tally.spine, pass, bytes)
     }
 
     // Copies a text that the list lacks into a bucket of the history, as `store` does. The spine is locked, and its list is the
@@ -251,15 +253,15 @@ impl<K: Key, S: BuildHasher + Drop> Shards<K, S> {
         ensures held { IsLocked (hash_by S.BuildHasher S.Hasher.Hasher self.now.hasher) (shard_of hash) self.now.log shard.new }
         ensures tally { IsTally (hash_by S.BuildHasher S.Hasher.Hasher self.now.hasher) self.now.log tally.new.spine tally.new.counts }
     {
-        let piece = match self.store_now(tally, pass, text) {
-            Some(Ok(piece)) => piece,
-            Some(Err(error)) => {
+        let Some(stored) = self.store_now(tally, pass, text) else {
+            tally.spine.give_back(cell);
+            return None;
+        };
+        let piece = match stored {
+            Ok(piece) => piece,
+            Err(error) => {
                 tally.spine.give_back(cell);
                 return Some(Err(error));
-            }
-            None => {
-                tally.spine.give_back(cell);
-                return None;
             }
         };
         if !self.is_current(tally, shard, pass, number_of(hash)) {

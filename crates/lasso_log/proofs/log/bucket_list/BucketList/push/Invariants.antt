@@ -1,5 +1,5 @@
 use Rattle.std.proofs.Common.{◌≡◌}
-use Rattle.lasso_log.proofs.log.bucket_list.BucketList.push_front.Given as goal
+use Rattle.lasso_log.proofs.log.bucket_list.BucketList.push.Given as goal
 
 -- the bucket that is left to put in
 abbrev pub invariant-loop : goal.invariant-loop
