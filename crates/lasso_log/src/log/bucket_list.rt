@@ -2,7 +2,7 @@
 //!
 //! A bucket has the cell of its position in the history. Cells are in rows that double in length, as the texts' are, and
 //! a row is made before the step that adds the bucket: so nobody waits to put a bucket in.
-ghost use Rattle.std.specs.Prelude.{◌≡◌, IfOk, IfErr, IfSome};
+ghost use Rattle.std.specs.Prelude.{◌≡◌, ◌∷◌, IfOk, IfErr, IfSome};
 ghost use Rattle.lasso_parts.specs.declared.util.LassoErrorKind.TheVariants.{FailedAllocation};
 ghost use Rattle.lasso_log.specs.BucketRows.{AreTagged};
 ghost use Rattle.lasso_log.specs.SharedBuckets.{SharedView, names_with_book};
@@ -171,21 +171,6 @@ impl<K: Key> BucketList<K> {
         Ok(())
     }
 
-    /// Puts a later bucket in, for whose position `make_room` made the cell. It never fails; without a cell it waits.
-    pub fn push<R: Wait>(&self, rt: &R, bucket: SharedBucket<K>)
-        requires { names_with_book bucket.of ≡ self.now }
-    {
-        let mut bucket = bucket;
-        for _ in rt.forever() {
-            match self.try_push(bucket) {
-                Ok(()) => return,
-                Err(back) => bucket = back,
-            }
-            spin_loop();
-        }
-        unreachable!()
-    }
-
     /// The bucket that the interner opened with.
     pub fn first(&self) -> &SharedBucket<K>
         ensures { names_with_book result.now.of ≡ self.now }
@@ -196,6 +181,11 @@ impl<K: Key> BucketList<K> {
     /// The number of the bucket that was added last. This bucket mostly has the most room.
     pub fn newest(&self) -> u64 {
         self.later.load(Ordering::SeqCst)
+    }
+
+    /// The number of buckets.
+    pub fn len(&self) -> u64 {
+        self.later.load(Ordering::SeqCst).saturating_add(1)
     }
 
     /// The bucket of this number, from 0 on, in the order of their positions. Returns `None` if it is not in the list. It takes
