@@ -34,6 +34,6 @@ refused_after of list a b c n (Ok x) first refused = tt
 refused_after of list a b c n (Err e) first refused = elim refused [ inl want ↦ inl want | inr l ↦ inr (l.0, past_before of.opening a b c _ n first l.1) ]
 
 -- no event was added in the whole time
-pub none_charged : {A E X : Type 0} (p q : ℕ) (a b c : List NoteView) (r : Result A E) → q ≡ p → Since p a b [] → OnErr r (Since q b c [] × X) → OnErr r (Since p a c [] × X)
-none_charged p q a b c (Ok x) is before none = tt
-none_charged p q a b c (Err e) is before none = (since_trans p a b c [] before (subst (λ (i : ℕ). Since i b c []) is none.0), none.1)
+pub none_charged : {A E : Type 0} (X : Type 0) (p q : ℕ) (a b c : List NoteView) (r : Result A E) → q ≡ p → Since p a b [] → OnErr r (Since q b c [] × X) → OnErr r (Since p a c [] × X)
+none_charged X p q a b c (Ok x) is before none = tt
+none_charged X p q a b c (Err e) is before none = (since_trans p a b c [] before (subst (λ (i : ℕ). Since i b c []) is none.0), none.1)

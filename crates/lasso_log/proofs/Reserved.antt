@@ -17,17 +17,16 @@ none_after None p q a b c is s t = none_longer p q a b c is s t
 none_after (Some r) p q a b c is s t = tt
 
 -- the reservation is the one event of the whole time
+reserved_whole : (s : SharedView) (p q : ℕ) (a b c : List NoteView) (r : RangeView) (bytes : ℕ) → q ≡ p → Since p a b [] → IsReserved s q b c r bytes → IsReserved s p a c r bytes
+reserved_whole s p q a b c r bytes is before e =
+    let own = Reserve s.position bytes in record {
+      event = since_trans p a b c (own ∷ []) before (subst (λ (n : ℕ). Since n b c (own ∷ [])) is e.event);
+      note = subst (λ (n : ℕ). IsNoteOf n c own s.site) is e.note;
+      range = e.range;
+    }
+
 pub reserved_later : (of : InternerId) (p q : ℕ) (a b c : List NoteView) (r : RangeView) (bytes : ℕ) → q ≡ p → Since p a b [] → ((s : SharedView) × (s.of ≡ of) × IsReserved s q b c r bytes) → (s : SharedView) × (s.of ≡ of) × IsReserved s p a c r bytes
-reserved_later of p q a b c r bytes is before taken =
-    let s = taken.0 in let e = taken.2 in let own = Reserve s.position bytes in (
-      s,
-      taken.1,
-      record {
-        event = since_trans p a b c (own ∷ []) before (subst (λ (n : ℕ). Since n b c (own ∷ [])) is e.event);
-        note = subst (λ (n : ℕ). IsNoteOf n c own s.site) is e.note;
-        range = e.range;
-      },
-    )
+reserved_later of p q a b c r bytes is before taken = (taken.0, taken.1, reserved_whole taken.0 p q a b c r bytes is before taken.2)
 
 pub reserved_after : (o : Option RangeView) (of : InternerId) (p q : ℕ) (a b c : List NoteView) (bytes : ℕ) → q ≡ p → Since p a b [] → IfSome o (λ r. (s : SharedView) × (s.of ≡ of) × IsReserved s q b c r bytes) → IfSome o (λ r. (s : SharedView) × (s.of ≡ of) × IsReserved s p a c r bytes)
 reserved_after None of p q a b c bytes is before taken = tt
@@ -48,5 +47,4 @@ pub among_after : (o : Option RangeView) (of : InternerId) (count : ℕ) (before
     → IfSome o (λ r. ReservesAmong of count before after r bytes)
 among_after None of count before mid after bytes is since taken = tt
 among_after (Some r) of count before mid after bytes is since taken =
-    let later = reserved_later of before.number mid.number before.notes mid.notes after.notes r bytes is since (taken.0, taken.1, taken.3) in
-    (taken.0, taken.1, taken.2, later.2)
+    (taken.0, taken.1, taken.2, reserved_whole taken.0 before.number mid.number before.notes mid.notes after.notes r bytes is since taken.3)

@@ -76,14 +76,15 @@ impl<K: Key> Log<K> {
         ensures full { IfSome result (λ r. IfNone r (NoneHasRoom (state self.now.opening pass.new.notes) spine.now.turns.count bytes)) }
         ensures legal { IsLegal K.key_at self.now.opening (seen pass.new) }
     {
-        pass.prove_legal();
         let count = spine.buckets();
         for newer in 0..count {
+            pass.prove_legal();
             let bucket = list.find_now(self, count - 1 - newer)?;
             if let Some(range) = bucket.try_reserve_now(self, pass, bytes)? {
                 return Some(Some(range));
             }
         }
+        pass.prove_legal();
         Some(None)
     }
 

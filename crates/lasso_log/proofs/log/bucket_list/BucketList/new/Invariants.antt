@@ -5,4 +5,4 @@ use Rattle.lasso_log.proofs.log.bucket_list.BucketList.new.Given as goal
 
 -- the rows' cells so far are tagged with their numbers
 abbrev pub invariant-loop-number : goal.invariant-loop-number
-invariant-loop-number g l = (l.number-counter ≤ 60) × (60 ≤ vec_capacity l.rows) × AreRows l.tag.numbers l.number-counter l.rows.items
+invariant-loop-number g l = (l.number ≤ 60) × (60 ≤ vec_capacity l.rows) × AreRows l.tag.numbers l.number l.rows.items

@@ -115,8 +115,8 @@ invariant_of-result g c =
       few = subst (λ (y : TurnsView). y.count + 2 < 2 ^ 64) (sym c.turns.view_is) c.requires.more.1;
     }
 
-pub returns-clause-turns : goal.returns-clause-turns
-returns-clause-turns g c =
+pub returns-then-done-clause-turns : goal.returns-then-done-clause-turns
+returns-then-done-clause-turns g c =
     let offer = c.add_bucket-offer.ensures in let e = c.add_bucket-offer.result.ask in
     let a = c.pass.inside.seen.log in let v = c.learn-2.new.self.log in let after = notes_of c.offer_once-tried.result.0.seen.log in let t = c.turns.inside in let b = c.bucket.inside in let n : ℕ = b.taken in let o : Totals = c.args.self.now.opening in
     let fact = rw c.if-done.true at c.offer_once-tried.ensures.done in
@@ -135,8 +135,8 @@ returns-clause-turns g c =
     subst (λ (y : TurnsView). IsTurned g.K.Key.key_at o after (y.turns + 1) (doubling_after y.doubling y.usage y.limit c.args.bucket.used) (y.usage + c.args.bucket.size) y.limit (y.count + 1)) c.turns.view_is
     (subst (λ (x : LentBucket). IsTurned g.K.Key.key_at o after (t.turns + 1) (doubling_after t.doubling t.usage t.limit x.used) (t.usage + x.size) t.limit (t.count + 1)) c.bucket.view_is found)
 
-pub returns-clause-note : goal.returns-clause-note
-returns-clause-note g c =
+pub returns-then-done-clause-note : goal.returns-then-done-clause-note
+returns-then-done-clause-note g c =
     let f = rw c.if-done.true at c.offer_once-tried.ensures.done in let d = f.done in let made = f.note ∙ c.add_bucket-offer.ensures.1 in record {
       before = d.mid;
       note = d.note;

@@ -1,20 +1,12 @@
-use Rattle.std.proofs.Common.{◌≡◌, ◌+◌, ◌<◌, ℕ, [], length, sym, ap, ◌∙◌, subst}
+use Rattle.std.proofs.Common.{rules, ◌≡◌, ◌+◌, ◌<◌, ℕ, length, sym, ap, ◌∙◌, subst}
 use mathlib.Core.List.{IsPrefix}
-use Rattle.lasso_log.specs.Notes.{Since, state}
+use Rattle.lasso_log.specs.Notes.{state}
 use Rattle.lasso_log.specs.Turns.{NoneHasRoom}
 use Rattle.lasso_log.specs.Views.{InternerId, SpineView, list_of}
 use Rattle.lasso_log.proofs.Histories.{prefix_trans}
 use Rattle.lasso_log.proofs.Reserved.{none_longer}
 use Rattle.lasso_log.proofs.TurnWords.{is_past_limit}
-use Rattle.lasso_log.proofs.log.shared_log.Log.is_past_limit.Given.{Over}
 use Rattle.lasso_log.proofs.log.shared_log.Log.is_past_limit.Goals as goal
-
--- the three looks are one
-looks : (g : Over) (c : goal.After-is_at-is_at g) → Since c.args.pass.now.number c.args.pass.now.notes c.len-len.new.pass.notes [] × Since c.args.pass.now.number c.args.pass.now.notes c.is_at-is_at.new.pass.notes []
-looks g c =
-    let p = c.args.pass.now.number in let s = c.learn_seen.ensures in let l = c.len-len.ensures in let u = c.is_at-is_at.ensures in
-    let first = none_longer p c.learn_seen.new.self.number c.args.pass.now.notes c.learn_seen.new.self.notes c.len-len.new.pass.notes s.same.0 s.since l.since in
-    (first, none_longer p c.len-len.new.pass.number c.args.pass.now.notes c.len-len.new.pass.notes c.is_at-is_at.new.pass.notes (l.same.0 ∙ s.same.0) first u.since)
 
 pub returns-then-len-clause-since : goal.returns-then-len-clause-since
 returns-then-len-clause-since g c =
