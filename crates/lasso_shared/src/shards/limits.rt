@@ -51,6 +51,7 @@ impl<K: Key, S: BuildHasher + Drop> Shards<K, S> {
     }
 
     /// The bytes that all buckets take, as `usage` does. It returns `None` if others are in the way. It does not wait.
+    #[tactic(auto, using(crate::proofs::Whole::since_self))]
     pub fn usage_now(&self, pass: &mut Pass<K>) -> Option<u64>
         requires { pass.old.of ≡ self.now.log }
         ensures same { IsSamePass pass.new pass.old }
@@ -65,6 +66,7 @@ impl<K: Key, S: BuildHasher + Drop> Shards<K, S> {
 
     /// The most bytes that all buckets may take, as `max_usage` does. It returns `None` if others are in the way. It does not
     /// wait.
+    #[tactic(auto, using(crate::proofs::Whole::since_self))]
     pub fn max_usage_now(&self, pass: &mut Pass<K>) -> Option<u64>
         requires { pass.old.of ≡ self.now.log }
         ensures same { IsSamePass pass.new pass.old }

@@ -179,7 +179,8 @@ impl<K: Key, S: BuildHasher + Drop> Shards<K, S> {
         if text.is_empty() {
             return Some(Ok(Piece::from_static("")));
         }
-        let range = match self.reserve_or_charge_now(tally, pass, text.len() as u64)? {
+        let reply = self.reserve_or_charge_now(tally, pass, text.len() as u64)?;
+        let range = match reply {
             Ok(range) => range,
             Err(error) => return Some(Err(error)),
         };

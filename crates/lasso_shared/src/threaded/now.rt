@@ -53,9 +53,12 @@ impl<K: Key, S: BuildHasher + Drop> ThreadedRodeo<K, S> {
         ensures opening { IsOpening K.key_at self.now.opening }
         ensures legal { IsLegal K.key_at self.now.opening (seen pass.new) }
     {
-        let usage = self.shards.usage_now(pass);
+        let Some(usage) = self.shards.usage_now(pass) else {
+            pass.prove_legal();
+            return None;
+        };
         pass.prove_legal();
-        Some(usage? as usize)
+        Some(usage as usize)
     }
 
     /// The most bytes that all buckets may take, as `max_memory_usage_as` does. It returns `None` if other calls are in the way. It
@@ -68,9 +71,12 @@ impl<K: Key, S: BuildHasher + Drop> ThreadedRodeo<K, S> {
         ensures opening { IsOpening K.key_at self.now.opening }
         ensures legal { IsLegal K.key_at self.now.opening (seen pass.new) }
     {
-        let limit = self.shards.max_usage_now(pass);
+        let Some(limit) = self.shards.max_usage_now(pass) else {
+            pass.prove_legal();
+            return None;
+        };
         pass.prove_legal();
-        Some(limit? as usize)
+        Some(limit as usize)
     }
 
     /// Sets the most bytes that all buckets may take, as `set_memory_limits_as` does, and returns whether it did. If other calls are

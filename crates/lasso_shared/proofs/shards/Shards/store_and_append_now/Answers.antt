@@ -15,46 +15,46 @@ use Rattle.lasso_shared.proofs.Now.{called_puts, since_then}
 use Rattle.lasso_shared.proofs.Whole.{still_lacks}
 use Rattle.lasso_shared.proofs.shards.Shards.store_and_append_now.Goals as goal
 
-pub store_now-stored-requires-clause-lacks : goal.store_now-stored-requires-clause-lacks
-store_now-stored-requires-clause-lacks g c =
+pub store_now-requires-clause-lacks : goal.store_now-requires-clause-lacks
+store_now-requires-clause-lacks g c =
     let hash_of = hash_by g.S.BuildHasher g.S.Hasher.Hasher c.args.self.now.hasher in
     still_lacks hash_of c.args.hash (shard_of c.args.hash) c.args.self.now.log c.args.shard.now.known.notes c.args.pass.now.notes c.args.text.now c.requires.whole c.requires.hashed refl c.requires.held.exact.distinct c.requires.lacks
 
 pub returns-in_default-clause-busy : goal.returns-in_default-clause-busy
-returns-in_default-clause-busy g c = λ none. ([], inl refl, c.store_now-stored.ensures.busy refl)
+returns-in_default-clause-busy g c = λ none. ([], inl refl, c.in_default.ensures.busy refl)
 
 pub is_current-requires-clause-begins : goal.is_current-requires-clause-begins
 is_current-requires-clause-begins g c =
-    let stored = c.in-Ok.ensures.event in
-    prefix_trans c.args.shard.now.known.notes c.args.pass.now.notes c.store_now-stored.new.pass.notes c.requires.whole.begins (stored.2.rest, stored.2.begins)
+    let stored = rw c.in-Ok.is at c.in-Some.ensures.event in
+    prefix_trans c.args.shard.now.known.notes c.args.pass.now.notes c.store_now.new.pass.notes c.requires.whole.begins (stored.2.rest, stored.2.begins)
 
 pub returns-then-not-is_current-clause-busy : goal.returns-then-not-is_current-clause-busy
 returns-then-not-is_current-clause-busy g c = λ none.
     let p = c.args.pass.now.number in
-    let stored = c.in-Ok.ensures.event in
-    let more = subst (λ (n : ℕ). Since n c.store_now-stored.new.pass.notes c.is_current.new.pass.notes []) c.store_now-stored.ensures.same.0 c.is_current.ensures.since in
-    (stored.0, inr stored.1, since_then p c.args.pass.now.notes c.store_now-stored.new.pass.notes c.is_current.new.pass.notes stored.0 stored.2 more)
+    let stored = rw c.in-Ok.is at c.in-Some.ensures.event in
+    let more = subst (λ (n : ℕ). Since n c.store_now.new.pass.notes c.is_current.new.pass.notes []) c.store_now.ensures.same.0 c.is_current.ensures.since in
+    (stored.0, inr stored.1, since_then p c.args.pass.now.notes c.store_now.new.pass.notes c.is_current.new.pass.notes stored.0 stored.2 more)
 
 pub returns-clause-call : goal.returns-clause-call
 returns-clause-call g c =
     let p = c.args.pass.now.number in
     let log = c.args.self.now.log in
-    let stored = c.in-Ok.ensures.event in
+    let stored = rw c.in-Ok.is at c.in-Some.ensures.event in
     let mid = c.is_current.new.pass.notes in
     let after = c.append_at_now.new.pass.notes in
     let o = c.append_at_now.result in
-    let more = subst (λ (n : ℕ). Since n c.store_now-stored.new.pass.notes mid []) c.store_now-stored.ensures.same.0 c.is_current.ensures.since in
-    let event : Since p c.args.pass.now.notes mid stored.0 = since_then p c.args.pass.now.notes c.store_now-stored.new.pass.notes mid stored.0 stored.2 more in
-    let same : c.is_current.new.pass.number ≡ p = c.is_current.ensures.same.0 ∙ c.store_now-stored.ensures.same.0 in
-    let put = subst (λ (x : Text). IfSome o (PutsLast g.K.Key.key_at log p mid after x)) c.in-Ok.ensures.piece.0
+    let more = subst (λ (n : ℕ). Since n c.store_now.new.pass.notes mid []) c.store_now.ensures.same.0 c.is_current.ensures.since in
+    let event : Since p c.args.pass.now.notes mid stored.0 = since_then p c.args.pass.now.notes c.store_now.new.pass.notes mid stored.0 stored.2 more in
+    let same : c.is_current.new.pass.number ≡ p = c.is_current.ensures.same.0 ∙ c.store_now.ensures.same.0 in
+    let put = subst (λ (x : Text). IfSome o (PutsLast g.K.Key.key_at log p mid after x)) (rw c.in-Ok.is at c.in-Some.ensures.piece).0
     (subst (λ (n : ℕ). IfSome o (PutsLast g.K.Key.key_at log n mid after c.in-Ok.piece.text)) same c.append_at_now.ensures.put) in
     called_puts g.K.Key.key_at log p c.args.pass.now.notes mid after stored.0 c.args.text.now o event stored.1 put
 
 pub returns-clause-busy : goal.returns-clause-busy
 returns-clause-busy g c = λ none.
     let p = c.args.pass.now.number in
-    let stored = c.in-Ok.ensures.event in
+    let stored = rw c.in-Ok.is at c.in-Some.ensures.event in
     let mid = c.is_current.new.pass in
-    let more = subst (λ (n : ℕ). Since n c.store_now-stored.new.pass.notes mid.notes []) c.store_now-stored.ensures.same.0 c.is_current.ensures.since in
-    let event : Since p c.args.pass.now.notes mid.notes stored.0 = since_then p c.args.pass.now.notes c.store_now-stored.new.pass.notes mid.notes stored.0 stored.2 more in
+    let more = subst (λ (n : ℕ). Since n c.store_now.new.pass.notes mid.notes []) c.store_now.ensures.same.0 c.is_current.ensures.since in
+    let event : Since p c.args.pass.now.notes mid.notes stored.0 = since_then p c.args.pass.now.notes c.store_now.new.pass.notes mid.notes stored.0 stored.2 more in
     (stored.0, inr stored.1, rw (c.append_at_now.ensures.busy none) event)

@@ -25,7 +25,7 @@ returns-then-is_empty-clause-piece g c =
 pub returns-clause-event : goal.returns-clause-event
 returns-clause-event g c =
     let some : c.args.text.now ≢ [] = λ none. let zero : length c.args.text.now ≡ 0 = ap (λ (t : Text). length t) none in grind (arith, nat_tests, c.if-is_empty.false, c.is_empty.ensures, zero) in
-    let taken = c.in-Ok.ensures.event in
+    let taken = rw c.in-Ok.is at c.in_ok-reply.ensures.event in
     (taken.0, stores_some c.args.text.now taken.0 some taken.1, taken.2)
 
 pub returns-in-Err-clause-refused : goal.returns-in-Err-clause-refused
@@ -36,4 +36,4 @@ returns-in-Err-clause-refused g c =
     let notes = c.args.pass.now.notes in
     let long = ap (λ (ts : List Text). length ts) c.requires.list in
     let r : Result RangeView LassoErrorKind = Err c.in-Err.error in
-    called_refused g.K.Key.key_at log p notes notes c.reserve_or_charge_now.new.pass.notes c.args.text.now (length (list_of log c.args.tally.now.spine.notes)) r some (since_self p notes) c.requires.lacks long c.in-Err.ensures.refused c.in-Err.ensures.err
+    called_refused g.K.Key.key_at log p notes notes c.reserve_or_charge_now-reply.new.pass.notes c.args.text.now (length (list_of log c.args.tally.now.spine.notes)) r some (since_self p notes) c.requires.lacks long (rw c.in-Err.is at c.in_ok-reply.ensures.refused) (rw c.in-Err.is at c.in_ok-reply.ensures.err)
