@@ -1,4 +1,4 @@
-use Rattle.std.proofs.Common.{ℕ, ◌≡◌, ◌+◌, ◌-◌, ◌<◌, List, [], ◌∷◌, ◌∙◌, subst, arith}
+use Rattle.std.proofs.Common.{rules, ℕ, ◌≡◌, ◌+◌, ◌-◌, ◌<◌, List, [], ◌∷◌, ◌∙◌, subst, arith}
 use Rattle.lasso_log.specs.History.{Reserve}
 use Rattle.lasso_log.specs.Notes.{NoteView, Since, state}
 use Rattle.lasso_log.specs.SharedBuckets.{SharedView, LacksRoom, IsNoteOf}
@@ -40,4 +40,5 @@ loop-newer-preserved g c =
 pub returns-in_err-range-clause-none : goal.returns-in_err-range-clause-none
 returns-in_err-range-clause-none g c =
     let i = c.loop-newer.invariant in
-    none_longer c.args.pass.now.number c.loop-newer.pass.number c.args.pass.now.notes c.loop-newer.pass.notes c.try_reserve_now.new.pass.notes i.0.0 i.1 c.in_err-range.ensures.none
+    let none = none_longer c.args.pass.now.number c.loop-newer.pass.number c.args.pass.now.notes c.loop-newer.pass.notes c.try_reserve_now.new.pass.notes i.0.0 i.1 c.in_err-range.ensures.none in
+    search (rules, none)
