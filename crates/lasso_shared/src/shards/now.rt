@@ -334,12 +334,7 @@ impl<K: Key, S: BuildHasher + Drop> Shards<K, S> {
     // Interns a text that the first look-up did not find, as `intern_new` does.
     #[inline(never)]
     #[tactic(auto, using(crate::proofs::Whole::since_self))]
-    fn intern_new_now(
-        &self,
-        pass: &mut Pass<K>,
-        hash: u64,
-        text: &str,
-    ) -> Option<LassoResult<K>>
+    fn intern_new_now(&self, pass: &mut Pass<K>, hash: u64, text: &str) -> Option<LassoResult<K>>
         requires of { pass.old.of ≡ self.now.log }
         requires hashed { hash ≡ hash_by S.BuildHasher S.Hasher.Hasher self.now.hasher text.now }
         ensures same { IsSamePass pass.new pass.old }
