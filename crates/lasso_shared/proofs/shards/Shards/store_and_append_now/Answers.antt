@@ -1,14 +1,10 @@
-use Rattle.std.proofs.Common.{◌≡◌, ℕ, List, [], inl, inr, refl, ◌∙◌, subst}
-use base.Fml.{Incl}
-use mathlib.Core.List.{IsPrefix}
+use Rattle.std.proofs.Common.{◌≡◌, ℕ, [], inl, inr, refl, ap, sym, ◌∙◌, subst}
 use Rattle.std.specs.Prelude.{IfSome}
 use Rattle.lasso_parts.specs.Texts.{Text}
 use Rattle.lasso_parts.specs.Hashing.{hash_by}
-use Rattle.lasso_log.specs.Calls.{Stores}
-use Rattle.lasso_log.specs.History.{Event, Lacks}
+use Rattle.lasso_log.specs.History.{Lacks}
 use Rattle.lasso_log.specs.Notes.{Since}
-use Rattle.lasso_log.specs.Replies.{Copied}
-use Rattle.lasso_log.specs.Views.{PassView, list_of}
+use Rattle.lasso_log.specs.Views.{list_of}
 use Rattle.lasso_shared.specs.Shards.{PutsLast, shard_of}
 use Rattle.lasso_log.proofs.Histories.{prefix_trans}
 use Rattle.lasso_shared.proofs.Now.{called_puts, since_then}
@@ -27,6 +23,19 @@ pub is_current-requires-clause-begins : goal.is_current-requires-clause-begins
 is_current-requires-clause-begins g c =
     let stored = rw c.in-Ok.is at c.in-Some.ensures.event in
     prefix_trans c.args.shard.now.known.notes c.args.pass.now.notes c.store_now.new.pass.notes c.requires.whole.begins (stored.2.rest, stored.2.begins)
+
+pub append_at_now-requires-clause-lasts : goal.append_at_now-requires-clause-lasts
+append_at_now-requires-clause-lasts g c = (rw c.in-Ok.is at c.in-Some.ensures.piece).1
+
+pub append_at_now-requires-clause-hashed : goal.append_at_now-requires-clause-hashed
+append_at_now-requires-clause-hashed g c =
+    let hash_of = hash_by g.S.BuildHasher g.S.Hasher.Hasher c.args.self.now.hasher in
+    c.requires.hashed ∙ ap hash_of (sym (rw c.in-Ok.is at c.in-Some.ensures.piece).0)
+
+pub append_at_now-requires-clause-lacks : goal.append_at_now-requires-clause-lacks
+append_at_now-requires-clause-lacks g c =
+    let known = list_of c.args.self.now.log c.args.shard.now.known.notes in
+    subst (λ (t : Text). Lacks known t) (sym (rw c.in-Ok.is at c.in-Some.ensures.piece).0) c.requires.lacks
 
 pub returns-then-not-is_current-clause-busy : goal.returns-then-not-is_current-clause-busy
 returns-then-not-is_current-clause-busy g c = λ none.

@@ -36,4 +36,4 @@ returns-in-Err-clause-refused g c =
     let notes = c.args.pass.now.notes in
     let long = ap (λ (ts : List Text). length ts) c.requires.list in
     let r : Result RangeView LassoErrorKind = Err c.in-Err.error in
-    called_refused g.K.Key.key_at log p notes notes c.reserve_or_charge_now-reply.new.pass.notes c.args.text.now (length (list_of log c.args.tally.now.spine.notes)) r some (since_self p notes) c.requires.lacks long (rw c.in-Err.is at c.in_ok-reply.ensures.refused) (rw c.in-Err.is at c.in_ok-reply.ensures.err)
+    called_refused g.K.Key.key_at log p notes notes c.reserve_or_charge_now.new.pass.notes c.args.text.now (length (list_of log c.args.tally.now.spine.notes)) r some (since_self p notes) c.requires.lacks long (rw c.in-Err.is at c.in_ok-reply.ensures.refused) (rw c.in-Err.is at c.in_ok-reply.ensures.err)
