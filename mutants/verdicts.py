@@ -19,8 +19,9 @@ ERROR_AT = re.compile(r"^(?:\./)?(src/\S+\.rt):(\d+):\d+: error", re.MULTILINE)
 REPLAY = "tool_replay"
 # A program without proof is slow: a run of a case may take longer than its minute.
 CASE_SECONDS = "300"
-# What rt says of a test, and on the line after a failed one why.
-RAN = re.compile(r"^test (\S+) \.\.\. (?:(ok)|FAILED)$(?:\n\s*checked: (.*))?", re.MULTILINE)
+# What rt says of a test; and below a failed one, after what that wrote, why.
+RAN = re.compile(r"^test (\S+) \.\.\. (ok|FAILED)$", re.MULTILINE)
+WHY = re.compile(r"^\s*checked: (.*)$", re.MULTILINE)
 # What says nothing of a mutant, though rt and cases/run call it failed: it took too long, or memory was short and the system killed it.
 LATE, KILLED = "had not ended in time", "was killed"
 SAID_OF_KILLED = "signal 9 (SIGKILL)"
@@ -180,15 +181,23 @@ def test_results(copy, crate):
         words = [f"{copy}/cases/modules", crate]
     done = subprocess.run(words, cwd=folder, stdin=subprocess.DEVNULL, capture_output=True, check=False)
     said = (done.stdout + done.stderr).decode("utf-8", "replace")
-    results = {name: result or failure(why) for name, result, why in RAN.findall(said)}
+    results = results_in(said)
     if not results:
         raise Unfit(f"no test of {crate} ran:\n{end_of(said)}")
     return results
 
 
-def failure(why):
-    """How a test failed, by what rt says of it."""
-    return LATE if why.startswith("no-answer") else KILLED if SAID_OF_KILLED in why else "FAILED"
+def results_in(said):
+    """How each test ended, by all that rt says."""
+    _, *parts = RAN.split(said)
+    return {name: result if result == "ok" else failure(more) for name, result, more in zip(*[iter(parts)] * 3)}
+
+
+def failure(more):
+    """How a test failed, by what stands below it."""
+    reasons = WHY.findall(more)
+    is_late, is_killed = (any(is_so(why) for why in reasons) for is_so in (lambda why: why.startswith("no-answer"), lambda why: SAID_OF_KILLED in why))
+    return LATE if is_late else KILLED if is_killed else "FAILED"
 
 
 def try_tests(edit, copy, as_it_is):
