@@ -91,7 +91,7 @@ def _library() -> tuple[Path, Path]:
     if named and library.suffix != ".a":
         sys.exit(f"LASSO_LIBRARY={named}: name the archive liblasso.a, which goes into the module")
     if not library.is_file():
-        sys.exit(f"LASSO_LIBRARY={named}: there is no such file" if named else f"{library}, which lasso.pc names, is missing")
+        sys.exit(f"LASSO_LIBRARY={named}: there is no such file: {library}" if named else f"{library}, which lasso.pc names, is missing")
     own = HERE.parent / "crates/lasso_c/include"
     header = own if named and own.is_dir() else library.parent.parent / "include" if named else Path(_variable("includedir"))
     if not (header / "lasso.h").is_file():
@@ -107,7 +107,8 @@ def _variable(name: str) -> str:
     except OSError as fault:
         found, said = "", str(fault)
     if not found:
-        sys.exit(f"no library of lasso: install it, name the folder of lasso.pc in PKG_CONFIG_PATH, or liblasso.a in LASSO_LIBRARY ({said.strip()})")
+        why = f" ({said.strip()})" if said.strip() else ""
+        sys.exit(f"no library of lasso: install it, name the folder of lasso.pc in PKG_CONFIG_PATH, or liblasso.a in LASSO_LIBRARY{why}")
     return found
 
 

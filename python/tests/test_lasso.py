@@ -313,7 +313,7 @@ def test_is_built_with_a_library_of_lasso_alone(tmp_path: Path, monkeypatch: pyt
     (tmp_path / "liblasso.so").write_bytes(b"")
     monkeypatch.setenv("PKG_CONFIG_LIBDIR", str(tmp_path))
     monkeypatch.setenv("PKG_CONFIG_PATH", "")
-    named = {"": "no library of lasso", "missing.a": "there is no such file", "liblasso.so": "name the archive liblasso.a"}
+    named = {"": "no library of lasso", "missing.a": "there is no such file: /", "liblasso.so": "name the archive liblasso.a"}
     for name, said in named.items():
         monkeypatch.setenv("LASSO_LIBRARY", str(tmp_path / name) if name else "")
         with pytest.raises(SystemExit, match=said):
