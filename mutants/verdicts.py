@@ -19,6 +19,8 @@ ERROR_AT = re.compile(r"^(?:\./)?(src/\S+\.rt):(\d+):\d+: error", re.MULTILINE)
 REPLAY = "tool_replay"
 # A program without proof is slow: a run of a case may take longer than its minute.
 CASE_SECONDS = "300"
+# So long a test may take, beside other proofs too, and one that is said to wait for ever.
+TEST_SECONDS, ENDLESS_SECONDS = 600, 120
 # What rt says of a test; and below a failed one, after what that wrote, why.
 RAN = re.compile(r"^test (\S+) \.\.\. (ok|FAILED)$", re.MULTILINE)
 WHY = re.compile(r"^\s*checked: (.*)$", re.MULTILINE)
@@ -173,10 +175,10 @@ def alone(copy, crate, name):
                 target.write(text)
 
 
-def test_results(copy, crate):
-    """How each test of the crate ends, or of a program's modules. Nothing is proved for it."""
+def test_results(copy, crate, seconds=TEST_SECONDS):
+    """How each test of the crate ends, or of a program's modules, within these seconds. Nothing is proved for it."""
     folder = os.path.join(copy, "crates", crate)
-    words = [f"{copy}/.ci/try", "--test", "--seconds", "180"]
+    words = [f"{copy}/.ci/try", "--test", "--seconds", str(seconds)]
     if os.path.isdir(f"{copy}/cases/{crate}/modules"):
         words = [f"{copy}/cases/modules", crate]
     done = subprocess.run(words, cwd=folder, stdin=subprocess.DEVNULL, capture_output=True, check=False)
@@ -207,7 +209,7 @@ def try_tests(edit, copy, as_it_is):
         if as_it_is is not None and crate not in as_it_is:
             as_it_is[crate] = test_results(copy, crate)
         with applied([edit], folder), alone(copy, crate, name):
-            with_edit = test_results(copy, crate)
+            with_edit = test_results(copy, crate, TEST_SECONDS if edit.ends else ENDLESS_SECONDS)
         if as_it_is is not None and as_it_is[crate].get(name) != "ok" or name not in with_edit:
             raise Unfit(f"{edit.crate}/{edit.name}: the test {name} of {crate} does not pass as it is, or did not run with the mutant")
         if with_edit[name] == "ok":
