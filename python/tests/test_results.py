@@ -338,7 +338,8 @@ def test_threads_close_and_clear_what_others_use() -> None:
             for _ in range(5):
                 interner.encode(rows)
                 interner.texts()
-                interner.to_categorical(array("q"))
+                if importlib.util.find_spec("pandas") is not None:
+                    interner.to_categorical(array("q"))
 
         faults = together(use, use, lambda: [change(interner) for _ in range(20)])
         assert all(isinstance(fault, LassoError) for fault in faults), faults
