@@ -198,8 +198,9 @@ def results_in(said):
 def failure(more):
     """How a test failed, by what stands below it."""
     reasons = WHY.findall(more)
-    is_late, is_killed = (any(is_so(why) for why in reasons) for is_so in (lambda why: why.startswith("no-answer"), lambda why: SAID_OF_KILLED in why))
-    return LATE if is_late else KILLED if is_killed else "FAILED"
+    if any(SAID_OF_KILLED in why for why in reasons):
+        return KILLED
+    return LATE if any(why.startswith("no-answer") for why in reasons) else "FAILED"
 
 
 def try_tests(edit, copy, as_it_is):

@@ -69,7 +69,7 @@ def run_of(crate):
     return ["rt", "run", *(["--", words] if words else [])]
 
 
-def is_built(path):
+def is_up_to_date(path):
     """Whether a file that is built is there, and no file of code, contracts or proofs is newer, nor a folder, which is newer if one was removed."""
     parts = (glob.iglob(f"{glob.escape(HERE)}/crates/*/{part}/**", recursive=True) for part in ("src", "specs", "proofs"))
     sources = [f"{HERE}/crates.txt", f"{HERE}/HANDLES", *(name for names in parts for name in names)]
@@ -86,7 +86,7 @@ def build(path, words, **options):
 def program_of(crate):
     """The proved program of a crate, which is proved and built if it is missing or older than a source."""
     path = f"{HERE}/crates/{crate}/out/{crate}"
-    if not is_built(path):
+    if not is_up_to_date(path):
         build(path, run_of(crate), cwd=f"{HERE}/crates/{crate}")
     return path
 
