@@ -60,6 +60,7 @@ pub use Rattle.lasso_log.specs.Replies
 pub use Rattle.lasso_log.specs.SharedBuckets
 pub use Rattle.lasso_log.specs.Turns
 pub use Rattle.lasso_log.specs.Views
+pub use Rattle.lasso_shared.specs.BatchKeys
 pub use Rattle.lasso_shared.specs.Batches
 pub use Rattle.lasso_shared.specs.CallerLaws
 pub use Rattle.lasso_shared.specs.Comparing

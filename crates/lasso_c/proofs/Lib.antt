@@ -16,3 +16,4 @@ pub mod Seeds
 pub mod SeededLaws
 pub mod SharedSeats
 pub mod SharedSteps
+pub mod TextFacts

@@ -2,18 +2,20 @@
 //!
 //! A call borrows the interner from its handle for as long as it works on it.
 ghost use denote.RawPtr.{null_ptr};
-ghost use Rattle.std.specs.Prelude.{◌≡◌, ◌≤◌, [], None, Some, length, slice_get, drop, IfSome, IsSome};
+ghost use Rattle.std.specs.Prelude.{◌≡◌, ◌≤◌, ◌↔◌, [], None, Some, false, length, slice_get, drop, IfSome, IsSome, IsSomeAnd, IsTrue};
 ghost use Rattle.std.specs.Str.{is_utf8};
 ghost use Rattle.lasso_parts.specs.Account.{clear, fresh, with_limit};
 ghost use Rattle.lasso_parts.specs.Texts.{position_of};
 ghost use Rattle.lasso_parts.specs.Layout.{greatest_offset, layout_texts};
+ghost use Rattle.lasso_single.specs.Intern.{IsAbsent, IsPresent, account_with, next_key};
 ghost use Rattle.lasso_c.specs.Layout.{bytes_over, CopiesFront, first_rows, first_texts, offsets_over, over, present_texts};
 ghost use Rattle.lasso_c.specs.Encoding.{codes_or, with_new};
 ghost use Rattle.lasso_c.specs.Handles.{account_in, code_lookup, codes_in, dictionary_outcome, first_in, lookup_outcome};
 ghost use Rattle.lasso_c.specs.Handles.{PutsNew, row_codes_in, seed_in, text_lookup, texts_in};
-ghost use Rattle.lasso_c.specs.Interning.{ColumnEnds, TextEnds};
+ghost use Rattle.lasso_c.specs.Interning.{ColumnEnds, TextEnds, key_of_code};
 ghost use Rattle.lasso_c.specs.Seeds.{IsFixed};
 ghost use Rattle.lasso_c.specs.Status.{Reports, outcome_status};
+ghost use Rattle.lasso_c.specs.declared.status.TheConstants.{LIMIT_REACHED, NO_CODE_LEFT};
 
 use crate::batches::{code_in, copy_text};
 use crate::error::{CallError, LassoReport, status_of};
@@ -49,17 +51,44 @@ pub extern "C" fn lasso_new(alloc: Global, lasso: &mut Lasso, limit: usize) -> u
 /// `NO_CODE_LEFT`, `LIMIT_REACHED`, `NO_MEMORY`; else `DONE`. If it is not `DONE`, the texts, their bytes and `code` are as before.
 #[unsafe(no_mangle)]
 pub extern "C" fn lasso_intern(lasso: &mut Lasso, text: &[u8], code: &mut u32) -> u32
-    // Which status
-    ensures outcome { TextEnds (is_utf8 text.now) lasso.old.seat.value text.now result lasso.new.seat.value }
-
-    // On success
+    // On success the interner has the text, and `code` is its position there. An absent text goes last, and its bytes are stored.
     ensures texts { result ≡ DONE → texts_in lasso.new.seat.value ≡ with_new (texts_in lasso.old.seat.value) text.now }
     ensures code { result ≡ DONE → position_of (texts_in lasso.new.seat.value) text.now ≡ Some code.new }
+    ensures account { result ≡ DONE → IsSomeAnd lasso.old.seat.value
+        (λ i. IsAbsent i.rodeo text.now → account_in lasso.new.seat.value ≡ account_with i.rodeo text.now) }
 
-    // What stays
+    // A present text changes nothing, and is never refused.
+    ensures present { IsTrue (is_utf8 text.now) → IsSomeAnd lasso.old.seat.value (λ i. IsPresent i.rodeo text.now)
+        → (result ≡ DONE) × (account_in lasso.new.seat.value ≡ account_in lasso.old.seat.value) }
+
+    // Which failure: bytes that are not UTF-8 come first, then no interner, no code left, the limit, and memory, which may run out at any time.
+    ensures not_utf8 { (result ≡ NOT_UTF8) ↔ (is_utf8 text.now ≡ false) }
+    ensures no_interner { (result ≡ NO_INTERNER) ↔ (IsTrue (is_utf8 text.now) × (lasso.old.seat.value ≡ None)) }
+    ensures no_code { (result ≡ NO_CODE_LEFT) ↔ (IsTrue (is_utf8 text.now)
+        × IsSomeAnd lasso.old.seat.value (λ i. IsAbsent i.rodeo text.now × (next_key key_of_code i.rodeo ≡ None))) }
+    ensures limit { (result ≡ LIMIT_REACHED) ↔ (IsTrue (is_utf8 text.now) × IsSomeAnd lasso.old.seat.value
+        (λ i. IsAbsent i.rodeo text.now × IsSome (next_key key_of_code i.rodeo) × (account_with i.rodeo text.now ≡ None))) }
+    ensures memory { result ≡ NO_MEMORY → IsTrue (is_utf8 text.now) × IsSomeAnd lasso.old.seat.value
+        (λ i. IsAbsent i.rodeo text.now × IsSome (next_key key_of_code i.rodeo) × IsSome (account_with i.rodeo text.now)) }
+
+    // What stays: how it hashes; on failure the interner and `code`
     ensures seed { seed_in lasso.new.seat.value ≡ seed_in lasso.old.seat.value }
+    ensures kept { ¬ (result ≡ DONE) → lasso.new.seat.value ≡ lasso.old.seat.value }
+    ensures code_kept { ¬ (result ≡ DONE) → code.new ≡ code.old }
 
-    // On failure
+    // The same facts as one relation
+    ensures outcome { TextEnds (is_utf8 text.now) lasso.old.seat.value text.now result lasso.new.seat.value }
+{
+    intern_text(lasso, text, code)
+}
+
+// The call with its contract in a relation.
+#[inline(always)]
+fn intern_text(lasso: &mut Lasso, text: &[u8], code: &mut u32) -> u32
+    ensures outcome { TextEnds (is_utf8 text.now) lasso.old.seat.value text.now result lasso.new.seat.value }
+    ensures texts { result ≡ DONE → texts_in lasso.new.seat.value ≡ with_new (texts_in lasso.old.seat.value) text.now }
+    ensures code { result ≡ DONE → position_of (texts_in lasso.new.seat.value) text.now ≡ Some code.new }
+    ensures seed { seed_in lasso.new.seat.value ≡ seed_in lasso.old.seat.value }
     ensures kept { ¬ (result ≡ DONE) → lasso.new.seat.value ≡ lasso.old.seat.value }
     ensures code_kept { ¬ (result ≡ DONE) → code.new ≡ code.old }
 {
@@ -91,19 +120,20 @@ pub extern "C" fn lasso_intern_batch(
     codes: &mut [u32],
     report: &mut LassoReport,
 ) -> u32
-    // How it ends: the status and the report
-    ensures outcome { ColumnEnds greatest_offset lasso.old.seat.value [] bytes.now offsets.now codes.old result report.new lasso.new.seat.value }
-
-    // The rows before a refused one are interned, and their codes written
+    // Either way the first texts are interned, as many as the report says, and have their codes.
     ensures texts { PutsNew lasso.old.seat.value lasso.new.seat.value (first_texts report.new.texts bytes.now offsets.now) }
     ensures codes { codes.new ≡ over (codes_in lasso.new.seat.value (first_texts report.new.texts bytes.now offsets.now)) codes.old }
+    ensures within { report.new.texts ≤ length (layout_texts bytes.now offsets.now) }
 
-    // What stays: how texts are hashed
+    // On success these are all texts. On failure the text after them was refused, and the report has its number.
+    ensures whole { result ≡ DONE → report.new.texts ≡ length (layout_texts bytes.now offsets.now) }
+    ensures at { ¬ (result ≡ DONE) → report.new.at ≡ report.new.texts }
+
+    // What stays
     ensures seed { seed_in lasso.new.seat.value ≡ seed_in lasso.old.seat.value }
 
-    // How many rows were done
-    ensures whole { result ≡ DONE → report.new.texts ≡ length (layout_texts bytes.now offsets.now) }
-    ensures within { report.new.texts ≤ length (layout_texts bytes.now offsets.now) }
+    // Which status, and the same facts as one relation
+    ensures outcome { ColumnEnds greatest_offset lasso.old.seat.value [] bytes.now offsets.now codes.old result report.new lasso.new.seat.value }
 {
     widths::intern_batch(lasso, bytes, offsets, codes, report)
 }
@@ -121,19 +151,20 @@ pub extern "C" fn lasso_intern_batch_nulls(
     codes: &mut [u32],
     report: &mut LassoReport,
 ) -> u32
-    // How it ends: the status and the report
-    ensures outcome { ColumnEnds greatest_offset lasso.old.seat.value present.now bytes.now offsets.now codes.old result report.new lasso.new.seat.value }
-
-    // The rows before a refused one are interned, and their codes written
+    // Either way the first rows are interned, as many as the report says, and have their codes.
     ensures texts { PutsNew lasso.old.seat.value lasso.new.seat.value (present_texts (first_rows report.new.texts present.now bytes.now offsets.now)) }
     ensures codes { codes.new ≡ over (row_codes_in null lasso.new.seat.value (first_rows report.new.texts present.now bytes.now offsets.now)) codes.old }
+    ensures within { report.new.texts ≤ length (layout_texts bytes.now offsets.now) }
 
-    // What stays: how texts are hashed
+    // On success these are all rows. On failure the row after them was refused, and the report has its number.
+    ensures whole { result ≡ DONE → report.new.texts ≡ length (layout_texts bytes.now offsets.now) }
+    ensures at { ¬ (result ≡ DONE) → report.new.at ≡ report.new.texts }
+
+    // What stays
     ensures seed { seed_in lasso.new.seat.value ≡ seed_in lasso.old.seat.value }
 
-    // How many rows were done
-    ensures whole { result ≡ DONE → report.new.texts ≡ length (layout_texts bytes.now offsets.now) }
-    ensures within { report.new.texts ≤ length (layout_texts bytes.now offsets.now) }
+    // Which status, and the same facts as one relation
+    ensures outcome { ColumnEnds greatest_offset lasso.old.seat.value present.now bytes.now offsets.now codes.old result report.new lasso.new.seat.value }
 {
     widths::intern_batch_nulls(lasso, bytes, offsets, present, null, codes, report)
 }
@@ -321,11 +352,16 @@ pub extern "C" fn lasso_limit(lasso: &mut Lasso) -> usize
 /// `NO_INTERNER` without an interner.
 #[unsafe(no_mangle)]
 pub extern "C" fn lasso_set_limit(lasso: &mut Lasso, limit: usize) -> u32
-    ensures texts { texts_in lasso.new.seat.value ≡ texts_in lasso.old.seat.value }
+    // On success
+    ensures done { IsSome lasso.old.seat.value → result ≡ DONE }
     ensures account { IfSome (account_in lasso.old.seat.value) (λ account. account_in lasso.new.seat.value ≡ Some (with_limit account limit)) }
+
+    // What stays
+    ensures texts { texts_in lasso.new.seat.value ≡ texts_in lasso.old.seat.value }
     ensures first { first_in lasso.new.seat.value ≡ first_in lasso.old.seat.value }
     ensures seed { seed_in lasso.new.seat.value ≡ seed_in lasso.old.seat.value }
-    ensures done { IsSome lasso.old.seat.value → result ≡ DONE }
+
+    // On failure
     ensures none { lasso.old.seat.value ≡ None → (result ≡ NO_INTERNER) × (lasso.new.seat.value ≡ None) }
 {
     let Some(interner) = lasso.interner() else {
@@ -338,11 +374,16 @@ pub extern "C" fn lasso_set_limit(lasso: &mut Lasso, limit: usize) -> u32
 /// Forgets every text. The limit stays, and so do the buckets that are filled again. It returns `NO_INTERNER` without an interner.
 #[unsafe(no_mangle)]
 pub extern "C" fn lasso_clear(lasso: &mut Lasso) -> u32
+    // On success
+    ensures done { IsSome lasso.old.seat.value → result ≡ DONE }
     ensures texts { texts_in lasso.new.seat.value ≡ [] }
     ensures account { IfSome lasso.old.seat.value (λ interner. account_in lasso.new.seat.value ≡ Some (clear interner.rodeo.first interner.rodeo.account)) }
+
+    // What stays
     ensures first { first_in lasso.new.seat.value ≡ first_in lasso.old.seat.value }
     ensures seed { seed_in lasso.new.seat.value ≡ seed_in lasso.old.seat.value }
-    ensures done { IsSome lasso.old.seat.value → result ≡ DONE }
+
+    // On failure
     ensures none { lasso.old.seat.value ≡ None → (result ≡ NO_INTERNER) × (lasso.new.seat.value ≡ None) }
 {
     let Some(interner) = lasso.interner() else {

@@ -22,12 +22,20 @@ pub extern "C" fn lasso_intern_batch_large(
     codes: &mut [u32],
     report: &mut LassoReport,
 ) -> u32
-    ensures outcome { ColumnEnds greatest_large_offset lasso.old.seat.value [] bytes.now offsets.now codes.old result report.new lasso.new.seat.value }
+    // Either way the first texts are interned, as many as the report says, and have their codes.
     ensures texts { PutsNew lasso.old.seat.value lasso.new.seat.value (first_texts report.new.texts bytes.now offsets.now) }
     ensures codes { codes.new ≡ over (codes_in lasso.new.seat.value (first_texts report.new.texts bytes.now offsets.now)) codes.old }
-    ensures seed { seed_in lasso.new.seat.value ≡ seed_in lasso.old.seat.value }
-    ensures whole { result ≡ DONE → report.new.texts ≡ length (layout_texts bytes.now offsets.now) }
     ensures within { report.new.texts ≤ length (layout_texts bytes.now offsets.now) }
+
+    // On success these are all texts. On failure the text after them was refused, and the report has its number.
+    ensures whole { result ≡ DONE → report.new.texts ≡ length (layout_texts bytes.now offsets.now) }
+    ensures at { ¬ (result ≡ DONE) → report.new.at ≡ report.new.texts }
+
+    // What stays
+    ensures seed { seed_in lasso.new.seat.value ≡ seed_in lasso.old.seat.value }
+
+    // Which status, and the same facts as one relation
+    ensures outcome { ColumnEnds greatest_large_offset lasso.old.seat.value [] bytes.now offsets.now codes.old result report.new lasso.new.seat.value }
 {
     widths::intern_batch(lasso, bytes, offsets, codes, report)
 }
@@ -43,12 +51,20 @@ pub extern "C" fn lasso_intern_batch_nulls_large(
     codes: &mut [u32],
     report: &mut LassoReport,
 ) -> u32
-    ensures outcome { ColumnEnds greatest_large_offset lasso.old.seat.value present.now bytes.now offsets.now codes.old result report.new lasso.new.seat.value }
+    // Either way the first rows are interned, as many as the report says, and have their codes.
     ensures texts { PutsNew lasso.old.seat.value lasso.new.seat.value (present_texts (first_rows report.new.texts present.now bytes.now offsets.now)) }
     ensures codes { codes.new ≡ over (row_codes_in null lasso.new.seat.value (first_rows report.new.texts present.now bytes.now offsets.now)) codes.old }
-    ensures seed { seed_in lasso.new.seat.value ≡ seed_in lasso.old.seat.value }
-    ensures whole { result ≡ DONE → report.new.texts ≡ length (layout_texts bytes.now offsets.now) }
     ensures within { report.new.texts ≤ length (layout_texts bytes.now offsets.now) }
+
+    // On success these are all rows. On failure the row after them was refused, and the report has its number.
+    ensures whole { result ≡ DONE → report.new.texts ≡ length (layout_texts bytes.now offsets.now) }
+    ensures at { ¬ (result ≡ DONE) → report.new.at ≡ report.new.texts }
+
+    // What stays
+    ensures seed { seed_in lasso.new.seat.value ≡ seed_in lasso.old.seat.value }
+
+    // Which status, and the same facts as one relation
+    ensures outcome { ColumnEnds greatest_large_offset lasso.old.seat.value present.now bytes.now offsets.now codes.old result report.new lasso.new.seat.value }
 {
     widths::intern_batch_nulls(lasso, bytes, offsets, present, null, codes, report)
 }

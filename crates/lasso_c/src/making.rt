@@ -149,14 +149,19 @@ pub extern "C" fn lasso_new_sized_keyed(
 /// returns `NO_INTERNER` without an interner to clone, `NO_MEMORY` out of memory, and `clone` is as it was then.
 #[unsafe(no_mangle)]
 pub extern "C" fn lasso_clone(alloc: Global, lasso: &mut Lasso, clone: &mut Lasso) -> u32
+    // On success
     ensures made { result ≡ DONE → IsSome clone.new.seat.value }
     ensures texts { result ≡ DONE → texts_in clone.new.seat.value ≡ texts_in lasso.old.seat.value }
     ensures account { result ≡ DONE → IfSome lasso.old.seat.value (λ interner. account_in clone.new.seat.value ≡ clone_account interner) }
     ensures first { result ≡ DONE → first_in clone.new.seat.value ≡ Some (clone_size (texts_in lasso.old.seat.value)) }
     ensures seed { result ≡ DONE → seed_in clone.new.seat.value ≡ seed_in lasso.old.seat.value }
+
+    // On failure
     ensures none { lasso.old.seat.value ≡ None → result ≡ NO_INTERNER }
     ensures refused { IsSome lasso.old.seat.value → ¬ (result ≡ DONE) → result ≡ NO_MEMORY }
     ensures clone_kept { ¬ (result ≡ DONE) → clone.new.seat.value ≡ clone.old.seat.value }
+
+    // What stays: the interner that is cloned
     ensures kept { lasso.new.seat.value ≡ lasso.old.seat.value }
 {
     let Some(interner) = lasso.interner() else {

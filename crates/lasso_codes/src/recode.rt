@@ -40,7 +40,8 @@ pub(crate) fn write_recoded<R: Read + Drop, W: Write + Drop>(
     binary: bool,
     with_texts: bool,
 ) -> Result<(), RunError>
-    ensures report { Reports input.old output.old output.new (λ bytes part. RecodedEnd bytes rule.only_utf8 limits (form_of with_texts binary) input.new.left part result) }
+    ensures report { Reports input.old output.old output.new
+        (λ bytes part. RecodedEnd bytes rule.only_utf8 limits (form_of with_texts binary) input.new.left part result) }
     ensures reads { input.new.failures ≡ input.old.failures + failed_reads result }
     ensures writes { output.new.failures ≡ output.old.failures + failed_writes result }
     ensures gone { output.new.gone ≡ output.old.gone + gone_readers result }
@@ -67,8 +68,10 @@ fn read_dictionary<R: Read + Drop>(
 ) -> Result<(), RunError>
     requires { rodeo.old.texts ≡ [] }
     ensures list { OnOk result (InternsOwn rodeo.old rodeo.new) }
-    ensures taken { OnOk result (IfKnown input.old.left (λ bytes. (limit : ℕ) → rodeo.old ≡ made_with 4096 limit → TakesDictionary rule.only_utf8 limit bytes input.new.left rodeo.new.texts)) }
-    ensures error { IfErr result (λ error. IfKnown input.old.left (λ bytes. (limit : ℕ) → rodeo.old ≡ made_with 4096 limit → DictionaryError rule.only_utf8 limit bytes input.new.left error)) }
+    ensures taken { OnOk result (IfKnown input.old.left (λ bytes. (limit : ℕ) → rodeo.old ≡ made_with 4096 limit →
+        TakesDictionary rule.only_utf8 limit bytes input.new.left rodeo.new.texts)) }
+    ensures error { IfErr result (λ error. IfKnown input.old.left (λ bytes. (limit : ℕ) → rodeo.old ≡ made_with 4096 limit →
+        DictionaryError rule.only_utf8 limit bytes input.new.left error)) }
     ensures faults { IfErr result IsInputError }
     ensures reads { input.new.failures ≡ input.old.failures + failed_reads result }
 {

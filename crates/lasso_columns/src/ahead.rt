@@ -68,10 +68,12 @@ impl Ahead {
         requires { 0 < vec_len self.old.chunk }
         ensures by { self.new.by ≡ self.old.by }
         ensures room { 0 < vec_len self.new.chunk }
-        ensures rows { IfOk result (λ more. (lines : List (List ℕ)) → AreAhead self.old.by (lines_in self.old.read.blocks.items) self.old.read.more (I.remaining input.old) lines →
+        ensures rows { IfOk result (λ more. (lines : List (List ℕ)) →
+            AreAhead self.old.by (lines_in self.old.read.blocks.items) self.old.read.more (I.remaining input.old) lines →
             EncodesFirst self.old.by (word_of null.entry) rodeo.old lines entries.old.items rodeo.new entries.new.items
             (AreAheadAfter more self.new.by (lines_in self.new.read.blocks.items) self.new.read.more (I.remaining input.new))) }
-        ensures stops { IfErr result (λ error. (lines : List (List ℕ)) → AreAhead self.old.by (lines_in self.old.read.blocks.items) self.old.read.more (I.remaining input.old) lines →
+        ensures stops { IfErr result (λ error. (lines : List (List ℕ)) →
+            AreAhead self.old.by (lines_in self.old.read.blocks.items) self.old.read.more (I.remaining input.old) lines →
             StopsInStreamBy self.old.by (word_of null.entry) rodeo.old lines entries.old.items rodeo.new entries.new (I.remaining input.new) error) }
     {
         let (made, next) = encode_and_read(

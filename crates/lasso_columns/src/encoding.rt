@@ -111,7 +111,8 @@ fn encode_line<S: BuildHasher, A: Allocator + Clone>(
     ensures { MatchResult result
         (λ _. IsUtf8 line.now × ((key : ℕ) × InternsIn {K = ℕ} spur_at rodeo.old line.now (Ok key) rodeo.new)
         × ((code : ℕ) × (position_of rodeo.new.texts line.now ≡ Some code) × (codes.new.items ≡ codes.old.items ++ code ∷ [])))
-        (λ error. (rodeo.new ≡ rodeo.old) × (codes.new.items ≡ codes.old.items) × IsFaultOf rodeo.old line.now number error × LineMayLackMemory rodeo.old codes.new line.now error) }
+        (λ error. (rodeo.new ≡ rodeo.old) × (codes.new.items ≡ codes.old.items)
+        × IsFaultOf rodeo.old line.now number error × LineMayLackMemory rodeo.old codes.new line.now error) }
 {
     let Ok(text) = line.text() else {
         return Err(LineError::NotText(number));

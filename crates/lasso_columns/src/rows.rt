@@ -97,7 +97,8 @@ fn append_row<S: BuildHasher, A: Allocator + Clone>(
 ) -> LassoResult<()>
     ensures { MatchResult result
         (λ _. (entry : ℕ) × IsRow (word_of null.entry) rodeo.old text.now rodeo.new entry × (entries.new.items ≡ entries.old.items ++ entry ∷ []))
-        (λ error. (rodeo.new ≡ rodeo.old) × (entries.new.items ≡ entries.old.items) × IsRefusedRow (is_null (word_of null.entry) text.now) rodeo.old entries.new text.now error) }
+        (λ error. (rodeo.new ≡ rodeo.old) × (entries.new.items ≡ entries.old.items)
+        × IsRefusedRow (is_null (word_of null.entry) text.now) rodeo.old entries.new text.now error) }
 {
     if is_null(null, text.as_bytes()) {
         batch.skip();

@@ -13,6 +13,7 @@ pub mod Frozen
 pub mod Filled
 pub mod Placed
 pub mod Batched
+mod BatchFacts
 pub mod Listed
 pub mod Walked
 pub mod Built

@@ -10,6 +10,7 @@ pub mod NewTexts
 pub mod Shards
 pub mod Filling
 pub mod Batches
+pub mod BatchKeys
 pub mod Walks
 pub mod Locked
 pub mod PassCalls

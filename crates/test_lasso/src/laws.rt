@@ -44,7 +44,8 @@ pub fn interns_as_one<K: Key, R: Wait, I: Interner<K>>(
 ) -> LassoResult<bool>
     ensures one { IfSome (I.meaning interner.old) (λ _. IfOk result IsTrue) }
     ensures list { IfSome (I.meaning interner.old) (λ texts. I.meaning interner.new ≡ Some (if is_ok result then with_last texts text.now else texts)) }
-    ensures refused { IfSome (I.meaning interner.old) (λ texts. IfErr result (λ error. (position_of texts text.now ≡ None) × ((error ≡ KeySpaceExhaustion) ↔ (K.key_at (length texts) ≡ None)))) }
+    ensures refused { IfSome (I.meaning interner.old) (λ texts. IfErr result (λ error. (position_of texts text.now ≡ None)
+        × ((error ≡ KeySpaceExhaustion) ↔ (K.key_at (length texts) ≡ None)))) }
 {
     let first = interner.try_get_or_intern(rt, text)?;
     let again = interner.try_get_or_intern(rt, text)?;
@@ -61,7 +62,8 @@ pub fn reader_knows<K: Key, R: Wait, I: IntoReader<K> + Drop>(
 where
     I::Reader: Drop,
     ensures known { IfSome (I.meaning interner) (λ _. IfOk result IsTrue) }
-    ensures refused { IfSome (I.meaning interner) (λ texts. IfErr result (λ error. (position_of texts text.now ≡ None) × ((error ≡ KeySpaceExhaustion) ↔ (K.key_at (length texts) ≡ None)))) }
+    ensures refused { IfSome (I.meaning interner) (λ texts. IfErr result (λ error. (position_of texts text.now ≡ None)
+        × ((error ≡ KeySpaceExhaustion) ↔ (K.key_at (length texts) ≡ None)))) }
 {
     let key = interner.try_get_or_intern(rt, text)?;
     let reader = interner.into_reader(rt)?;
@@ -78,7 +80,8 @@ pub fn resolver_knows<K: Key, R: Wait, I: Interner<K> + IntoResolver<K> + Drop>(
 where
     I::Resolver: Drop,
     ensures known { IfSome (I.meaning interner) (λ _. IfOk result IsTrue) }
-    ensures refused { IfSome (I.meaning interner) (λ texts. IfErr result (λ error. (position_of texts text.now ≡ None) × ((error ≡ KeySpaceExhaustion) ↔ (K.key_at (length texts) ≡ None)))) }
+    ensures refused { IfSome (I.meaning interner) (λ texts. IfErr result (λ error. (position_of texts text.now ≡ None)
+        × ((error ≡ KeySpaceExhaustion) ↔ (K.key_at (length texts) ≡ None)))) }
 {
     let key = interner.try_get_or_intern(rt, text)?;
     let resolver = interner.into_resolver(rt)?;
@@ -123,7 +126,8 @@ pub fn rodeo_interns_as_one<K: Key, S: BuildHasher, A: Allocator + Clone, R: Wai
 ) -> LassoResult<bool>
     ensures one { IfOk result IsTrue }
     ensures list { rodeo.new.texts ≡ (if is_ok result then with_last rodeo.old.texts text.now else rodeo.old.texts) }
-    ensures refused { IfErr result (λ error. (position_of rodeo.old.texts text.now ≡ None) × ((error ≡ KeySpaceExhaustion) ↔ (K.key_at (length rodeo.old.texts) ≡ None))) }
+    ensures refused { IfErr result (λ error. (position_of rodeo.old.texts text.now ≡ None)
+        × ((error ≡ KeySpaceExhaustion) ↔ (K.key_at (length rodeo.old.texts) ≡ None))) }
 {
     interns_as_one(rt, rodeo, text)
 }
@@ -136,7 +140,8 @@ pub fn lent_rodeo_interns_as_one<'a, K: Key, S: BuildHasher, A: Allocator + Clon
 ) -> LassoResult<bool>
     ensures one { IfOk result IsTrue }
     ensures list { lent.new.now.texts ≡ (if is_ok result then with_last lent.old.now.texts text.now else lent.old.now.texts) }
-    ensures refused { IfErr result (λ error. (position_of lent.old.now.texts text.now ≡ None) × ((error ≡ KeySpaceExhaustion) ↔ (K.key_at (length lent.old.now.texts) ≡ None))) }
+    ensures refused { IfErr result (λ error. (position_of lent.old.now.texts text.now ≡ None)
+        × ((error ≡ KeySpaceExhaustion) ↔ (K.key_at (length lent.old.now.texts) ≡ None))) }
 {
     interns_as_one(rt, lent, text)
 }
@@ -149,7 +154,8 @@ pub fn boxed_rodeo_interns_as_one<K: Key, S: BuildHasher, A: Allocator + Clone, 
 ) -> LassoResult<bool>
     ensures one { IfOk result IsTrue }
     ensures list { boxed.new.value.texts ≡ (if is_ok result then with_last boxed.old.value.texts text.now else boxed.old.value.texts) }
-    ensures refused { IfErr result (λ error. (position_of boxed.old.value.texts text.now ≡ None) × ((error ≡ KeySpaceExhaustion) ↔ (K.key_at (length boxed.old.value.texts) ≡ None))) }
+    ensures refused { IfErr result (λ error. (position_of boxed.old.value.texts text.now ≡ None)
+        × ((error ≡ KeySpaceExhaustion) ↔ (K.key_at (length boxed.old.value.texts) ≡ None))) }
 {
     interns_as_one(rt, boxed, text)
 }
@@ -161,7 +167,8 @@ pub fn reader_of_rodeo_knows<K: Key, S: BuildHasher + Drop, A: Allocator + Clone
     text: &str,
 ) -> LassoResult<bool>
     ensures known { IfOk result IsTrue }
-    ensures refused { IfErr result (λ error. (position_of rodeo.texts text.now ≡ None) × ((error ≡ KeySpaceExhaustion) ↔ (K.key_at (length rodeo.texts) ≡ None))) }
+    ensures refused { IfErr result (λ error. (position_of rodeo.texts text.now ≡ None)
+        × ((error ≡ KeySpaceExhaustion) ↔ (K.key_at (length rodeo.texts) ≡ None))) }
 {
     reader_knows(rt, rodeo, text)
 }
@@ -173,7 +180,8 @@ pub fn reader_of_boxed_rodeo_knows<K: Key, S: BuildHasher + Drop, A: Allocator +
     text: &str,
 ) -> LassoResult<bool>
     ensures known { IfOk result IsTrue }
-    ensures refused { IfErr result (λ error. (position_of boxed.value.texts text.now ≡ None) × ((error ≡ KeySpaceExhaustion) ↔ (K.key_at (length boxed.value.texts) ≡ None))) }
+    ensures refused { IfErr result (λ error. (position_of boxed.value.texts text.now ≡ None)
+        × ((error ≡ KeySpaceExhaustion) ↔ (K.key_at (length boxed.value.texts) ≡ None))) }
 {
     reader_knows(rt, boxed, text)
 }
@@ -185,7 +193,8 @@ pub fn resolver_of_rodeo_knows<K: Key, S: BuildHasher + Drop, A: Allocator + Clo
     text: &str,
 ) -> LassoResult<bool>
     ensures known { IfOk result IsTrue }
-    ensures refused { IfErr result (λ error. (position_of rodeo.texts text.now ≡ None) × ((error ≡ KeySpaceExhaustion) ↔ (K.key_at (length rodeo.texts) ≡ None))) }
+    ensures refused { IfErr result (λ error. (position_of rodeo.texts text.now ≡ None)
+        × ((error ≡ KeySpaceExhaustion) ↔ (K.key_at (length rodeo.texts) ≡ None))) }
 {
     resolver_knows(rt, rodeo, text)
 }
@@ -197,7 +206,8 @@ pub fn resolver_of_boxed_rodeo_knows<K: Key, S: BuildHasher + Drop, A: Allocator
     text: &str,
 ) -> LassoResult<bool>
     ensures known { IfOk result IsTrue }
-    ensures refused { IfErr result (λ error. (position_of boxed.value.texts text.now ≡ None) × ((error ≡ KeySpaceExhaustion) ↔ (K.key_at (length boxed.value.texts) ≡ None))) }
+    ensures refused { IfErr result (λ error. (position_of boxed.value.texts text.now ≡ None)
+        × ((error ≡ KeySpaceExhaustion) ↔ (K.key_at (length boxed.value.texts) ≡ None))) }
 {
     resolver_knows(rt, boxed, text)
 }
@@ -227,7 +237,8 @@ pub fn resolver_looks_up_alike<K: Key, A: Allocator>(resolver: &RodeoResolver<K,
 pub fn object_interns_as_one(interner: &mut dyn SpurInterner, text: &str) -> LassoResult<bool>
     ensures one { IfOk result IsTrue }
     ensures list { texts interner.new ≡ (if is_ok result then with_last (texts interner.old) text.now else texts interner.old) }
-    ensures refused { IfErr result (λ error. (position_of (texts interner.old) text.now ≡ None) × ((error ≡ KeySpaceExhaustion) ↔ (⟦<Spur as Key>⟧.key_at (length (texts interner.old)) ≡ None))) }
+    ensures refused { IfErr result (λ error. (position_of (texts interner.old) text.now ≡ None)
+        × ((error ≡ KeySpaceExhaustion) ↔ (⟦<Spur as Key>⟧.key_at (length (texts interner.old)) ≡ None))) }
 {
     let first = interner.try_get_or_intern(text)?;
     let again = interner.try_get_or_intern(text)?;
@@ -243,7 +254,8 @@ pub fn boxed_object_interns_as_one(
     text: &str,
 ) -> LassoResult<bool>
     ensures one { IfOk result IsTrue }
-    ensures refused { IfErr result (λ error. (position_of (texts interner) text.now ≡ None) × ((error ≡ KeySpaceExhaustion) ↔ (⟦<Spur as Key>⟧.key_at (length (texts interner)) ≡ None))) }
+    ensures refused { IfErr result (λ error. (position_of (texts interner) text.now ≡ None)
+        × ((error ≡ KeySpaceExhaustion) ↔ (⟦<Spur as Key>⟧.key_at (length (texts interner)) ≡ None))) }
 {
     object_interns_as_one(&mut *interner, text)
 }
@@ -251,7 +263,8 @@ pub fn boxed_object_interns_as_one(
 /// Interns the text twice in a boxed `SpurRodeo`, which becomes an object here.
 pub fn boxed_rodeo_object_interns_as_one(rodeo: Box<SpurRodeo>, text: &str) -> LassoResult<bool>
     ensures one { IfOk result IsTrue }
-    ensures refused { IfErr result (λ error. (position_of rodeo.value.texts text.now ≡ None) × ((error ≡ KeySpaceExhaustion) ↔ (⟦<Spur as Key>⟧.key_at (length rodeo.value.texts) ≡ None))) }
+    ensures refused { IfErr result (λ error. (position_of rodeo.value.texts text.now ≡ None)
+        × ((error ≡ KeySpaceExhaustion) ↔ (⟦<Spur as Key>⟧.key_at (length rodeo.value.texts) ≡ None))) }
 {
     let interner: Box<dyn SpurInterner + Drop> = rodeo;
     boxed_object_interns_as_one(interner, text)

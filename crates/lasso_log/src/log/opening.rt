@@ -141,8 +141,12 @@ impl<K: Key> Log<K> {
     /// only out of memory (`FailedAllocation`).
     pub fn open(alloc: Global, first: Opened) -> LassoResult<(Log<K>, Spine<K>)>
         requires { first.size ≢ 0 }
+        // On success it opens with no text, one empty bucket and this limit. The spine has seen no event, nor any turn, and keeps no cell.
         ensures opening { IfOk result (λ r. r.0.opening ≡ opened [] first.size 0 first.limit) }
         ensures spine { IfOk result (λ r. (r.1.of ≡ r.0) × (r.1.notes ≡ []) × (r.1.kept ≡ 0)) }
+        ensures turns { IfOk result (λ r. (r.1.turns.of ≡ r.0) × (r.1.turns.notes ≡ []) × (r.1.turns.count ≡ 1)) }
+
+        // On failure memory ran out.
         ensures refused { IfErr result (λ error. error ≡ FailedAllocation) }
     {
         let texts = OpeningTexts::new(alloc, first.size as usize)?;

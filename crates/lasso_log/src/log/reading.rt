@@ -1,4 +1,5 @@
 //! What is read off the log: a text, and the length; by a pass, or of a history that was seen.
+ghost use mathlib.Core.List.{IsPrefix};
 ghost use Rattle.std.specs.Prelude.{◌≡◌, ◌<◌, [], Some, length, slice_get, option_map};
 ghost use Rattle.lasso_log.specs.Chunks.{era_named};
 ghost use Rattle.lasso_log.specs.Notes.{Since, texts_in};
@@ -41,23 +42,31 @@ impl<K: Key> Log<K> {
         Some(self.lend(&mut seen, position))
     }
 
-    /// The number of texts at one step, of the history that `known` then is. It takes no memory and does not
-    /// wait.
+    /// The number of texts at one step, of the history that `known` then is. That history begins with the one that it was. It takes no
+    /// memory and does not wait.
     pub fn snapshot_len(&self, known: &mut Snapshot<K>) -> u64
         requires { known.old.of ≡ self.now }
-        ensures same { known.new.of ≡ known.old.of }
+        // The reply is that of the history that `known` then is.
         ensures reply { result ≡ length (list_of known.new.of known.new.notes) }
+
+        // The history stays one of the same interner, and only grows.
+        ensures same { known.new.of ≡ known.old.of }
+        ensures begins { IsPrefix known.old.notes known.new.notes }
     {
         let appended = self.load_snapshot(&self.head, 0, known);
         self.first + appended
     }
 
-    /// The text at the position, of the list of the history that `known` then is, or `None` past its end. It
-    /// is lent as long as the log. It takes no memory and does not wait.
+    /// The text at the position, of the list of the history that `known` then is, or `None` past its end. That history begins with the
+    /// one that it was. The text is lent as long as the log. It takes no memory and does not wait.
     pub fn read_snapshot(&self, position: u64, known: &mut Snapshot<K>) -> Option<&str>
         requires { known.old.of ≡ self.now }
-        ensures same { known.new.of ≡ known.old.of }
+        // The reply is that of the history that `known` then is.
         ensures reply { option_map (λ t. t.now) result ≡ slice_get (list_of known.new.of known.new.notes) position }
+
+        // The history stays one of the same interner, and only grows.
+        ensures same { known.new.of ≡ known.old.of }
+        ensures begins { IsPrefix known.old.notes known.new.notes }
     {
         if position >= self.snapshot_len(known) {
             return None;

@@ -148,6 +148,7 @@ impl<K: Key> Log<K> {
         requires of { (known.old.of ≡ self.now) × (word.now ≡ word_of self.now.book word.now.key) }
         requires known { IsWord known.old.notes word_index word.now.key }
         ensures same { known.new.of ≡ known.old.of }
+        ensures begins { IsPrefix known.old.notes known.new.notes }
         ensures reply { Reads K.key_at known.old.of.opening known.new.notes word_index word.now.key result }
     {
         Self::load_seen(word, word_index, &mut known.seen)

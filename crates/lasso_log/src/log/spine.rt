@@ -220,7 +220,7 @@ impl<K: Key> Log<K> {
     }
 
     /// Puts the text last as `append` does, without waiting. If `append` would wait, it returns false, nothing is
-    /// appended, and the cell is given back.
+    /// appended, and the cell is given back. Either way the spine keeps one cell less.
     pub fn append_now(
         &self,
         spine: &mut Spine<K>,
@@ -231,10 +231,16 @@ impl<K: Key> Log<K> {
         requires of { (pass.old.of ≡ self.now) × (spine.old.of ≡ self.now) × (cell ≡ self.now) }
         requires lasts { Incl (life (era_named self.now.chunks)) text.until }
         requires may { MayFollow K.key_at (state self.now.opening spine.old.notes) (Append text.text) }
+        // On success the text is last, by one event of the pass.
+        ensures done { IsTrue result → IsAppended self.now pass.old pass.new spine.old spine.new text.text }
+
+        // On failure nothing is appended.
+        ensures refused { IsFalse result → (pass.new ≡ pass.old) × IsSameSpine spine.new spine.old }
+
+        // Either way the spine keeps one cell less. The pass and the spine stay the same ones, and so do the turns.
+        ensures kept { spine.new.kept ≡ spine.old.kept - 1 }
         ensures same { IsSamePass pass.new pass.old × (spine.new.of ≡ spine.old.of) }
         ensures turns { spine.new.turns ≡ spine.old.turns }
-        ensures done { IsTrue result → IsAppended self.now pass.old pass.new spine.old spine.new text.text }
-        ensures refused { IsFalse result → (pass.new ≡ pass.old) × IsSameSpine spine.new spine.old }
     {
         let position = spine.len();
         let Ok((chunk, item)) = self.memory.chunks.try_fill(position, text) else {

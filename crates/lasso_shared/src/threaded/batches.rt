@@ -1,9 +1,13 @@
 //! Interning and looking up the texts of a list in an interner that threads share, with a pass.
-ghost use Rattle.std.specs.Prelude.{◌≡◌, ◌+◌, ◌<◌, ◌⊎◌, length, map, OnOk, OnErr, IfErr, vec_len};
+ghost use mathlib.Core.List.{IsPrefix};
+ghost use Rattle.std.specs.Prelude.{◌≡◌, ◌+◌, ◌<◌, ◌⊎◌, None, length, map, OnOk, OnErr, IfErr, vec_len};
 ghost use Rattle.std.specs.Vec.{vec_capacity};
+ghost use Rattle.lasso_parts.specs.Texts.{key_of};
 ghost use Rattle.lasso_parts.specs.declared.util.LassoErrorKind.TheVariants.{FailedAllocation};
 ghost use Rattle.lasso_log.specs.History.{IsLegal, IsOpening};
-ghost use Rattle.lasso_log.specs.Views.{PassView, InternerId, IsSamePass, seen};
+ghost use Rattle.lasso_log.specs.Views.{PassView, InternerId, IsSamePass, list_of, seen};
+ghost use Rattle.lasso_single.specs.KeyLists.{AddsKeysOfFirst, NextIs};
+ghost use Rattle.lasso_shared.specs.BatchKeys.{AddsFoundBetween};
 ghost use Rattle.lasso_shared.specs.PassCalls.{PassInterns, PassGets, PassStopsAt};
 
 use crate::threaded::ThreadedRodeo;
@@ -40,16 +44,26 @@ impl<K: Key, S: BuildHasher + Drop> ThreadedRodeo<K, S> {
         keys: &mut Vec<K, B>,
     ) -> LassoResult<()>
         requires { pass.old.of ≡ self.now }
-        // On success
-        ensures interned { OnOk result (PassInterns K.key_at self.now pass.old pass.new (map (λ t. t.now) texts.now) keys.old.items keys.new.items) }
+        // Either way the first texts have keys, one for each added key, which is the text's in what the pass has then seen.
+        ensures keys { AddsKeysOfFirst K.key_at (list_of self.now pass.new.notes) (map (λ t. t.now) texts.now) keys.old.items keys.new.items }
 
-        // On failure there was no memory for the keys, and nothing changed; or the next text was refused.
+        // On success these are all texts.
+        ensures whole { OnOk result (vec_len keys.new ≡ vec_len keys.old + length texts.now) }
+
+        // On failure the text after them was refused, which the pass had not seen. Or there was no memory for the keys, and nothing changed.
+        ensures stopped { OnErr result (((pass.new ≡ pass.old) × (keys.new.items ≡ keys.old.items))
+            ⊎ NextIs keys.old.items keys.new.items (map (λ t. t.now) texts.now) (λ text. key_of K.key_at (list_of self.now pass.old.notes) text ≡ None)) }
+
+        // The pass stays the same one, and what it has seen only grows.
+        ensures same { IsSamePass pass.new pass.old }
+        ensures kept { IsPrefix (seen pass.old) (seen pass.new) }
+
+        // One list of all threads explains the replies and the events of the calls, one call after another: those of all texts; or of
+        // those before the refused one, and of that one. Without memory for the keys there was no call.
+        ensures interned { OnOk result (PassInterns K.key_at self.now pass.old pass.new (map (λ t. t.now) texts.now) keys.old.items keys.new.items) }
         ensures refused { IfErr result (λ error.
             ((error ≡ FailedAllocation) × (pass.new ≡ pass.old) × (keys.new.items ≡ keys.old.items) × (vec_capacity keys.old < vec_len keys.old + length texts.now))
             ⊎ PassStopsAt K.key_at self.now pass.old pass.new (map (λ t. t.now) texts.now) keys.old.items keys.new.items error) }
-
-        // What stays, and what the pass has then seen
-        ensures same { IsSamePass pass.new pass.old }
         ensures opening { IsOpening K.key_at self.now.opening }
         ensures legal { IsLegal K.key_at self.now.opening (seen pass.new) }
     {
@@ -82,15 +96,19 @@ impl<K: Key, S: BuildHasher + Drop> ThreadedRodeo<K, S> {
         keys: &mut Vec<Option<K>, B>,
     ) -> LassoResult<()>
         requires { pass.old.of ≡ self.now }
-        // On success
+        // On success what is found of each text is appended: a key is the text's in what the pass has then seen, and a text that it had
+        // seen has its key. One list of all threads explains the replies of the look-ups, one after another.
+        ensures keys { OnOk result (AddsFoundBetween K.key_at (list_of self.now pass.old.notes) (list_of self.now pass.new.notes)
+            (map (λ t. t.now) texts.now) keys.old.items keys.new.items) }
         ensures found { OnOk result (PassGets K.key_at self.now pass.old pass.new (map (λ t. t.now) texts.now) keys.old.items keys.new.items) }
 
-        // On failure
+        // On failure there was no memory for `keys`, and nothing changed. With room for all it can't fail.
         ensures unchanged { OnErr result ((pass.new ≡ pass.old) × (keys.new.items ≡ keys.old.items)) }
         ensures refused { IfErr result (λ error. (error ≡ FailedAllocation) × (vec_capacity keys.old < vec_len keys.old + length texts.now)) }
 
-        // What stays, and what the pass has then seen
+        // The pass stays the same one, and what it has seen only grows.
         ensures same { IsSamePass pass.new pass.old }
+        ensures kept { IsPrefix (seen pass.old) (seen pass.new) }
         ensures opening { IsOpening K.key_at self.now.opening }
         ensures legal { IsLegal K.key_at self.now.opening (seen pass.new) }
     {

@@ -1,7 +1,7 @@
 use Rattle.std.proofs.Common.{sym, ◌∙◌, ap}
 use Rattle.lasso_log.specs.Notes.{notes_of, opening_of, IsWord}
 use Rattle.lasso_log.specs.Book.{Reads, word_of}
-use Rattle.lasso_log.proofs.Logs.{read_value}
+use Rattle.lasso_log.proofs.Logs.{read_value, tails}
 use Rattle.lasso_log.proofs.log.shared_log.Log.load_snapshot.Goals as goal
 
 pub load_seen-requires-clause-word : goal.load_seen-requires-clause-word
@@ -9,6 +9,11 @@ load_seen-requires-clause-word g c = c.requires.of.1 ∙ ap (λ b. word_of b c.a
 
 pub load_seen-requires-clause-known : goal.load_seen-requires-clause-known
 load_seen-requires-clause-known g c = (c.known.invariant, rw (ap (λ s. s.notes) c.known.view_is) c.requires.known)
+
+-- the notes are those of the log past the first, and the log that was seen begins with the one before
+pub returns-clause-begins : goal.returns-clause-begins
+returns-clause-begins g c =
+    rw (← ap (λ s. s.notes) c.known.view_is) (tails c.known.inside.seen.log c.load_seen.new.seen.log c.known.invariant c.load_seen.ensures.2).2
 
 pub returns-clause-reply : goal.returns-clause-reply
 returns-clause-reply g c =
