@@ -3,6 +3,7 @@
    usage: shared rounds SECONDS SEED     rounds of 1 to 16 threads for so many seconds, and at least one
           shared refused                 calls in one thread, each made again if it is out of memory
 
+   In some rounds a thread sets limits that fall and rise: of two looks at the memory under one limit, the second has more only up to that limit.
    In a round each of some places makes calls by a handle of its own. Now and then the thread of a place ends: the handle for the next thread
    of the place meets its own, which it frees, while others go on. Each reply is noted with the times before and after the call, and each of
    a batch. In the end the list is lent at once, and copied for one thread. No call takes a
@@ -17,10 +18,10 @@
 #include <time.h>
 
 enum { MOST_PLACES = 16, CALLS = 20000, TEXTS = 16 * CALLS + 1000, LIVES = 8, KEPT = 64, LONG = 400, BATCH = 8 };
-enum kind { ZIPF, DISTINCT, FEW, STARVED, KINDS };
+enum kind { ZIPF, DISTINCT, FEW, STARVED, LIMITED, KINDS };
 enum call { INTERN, GET, RESOLVE, LEN, INTERN_BATCH };
 
-static const uint64_t SECOND = 1000000000, NAP = 5000000, IN_TIME = 10000000;
+static const uint64_t SECOND = 1000000000, NAP = 5000000, IN_TIME = 10000000, LOOK = 200000;
 
 /* A reply: the call's times in nanoseconds, the number of its text, and a code or the length. UINT32_MAX is no code, or no text. */
 struct reply {
@@ -34,7 +35,7 @@ struct place {
     struct lasso_shared handle;
     int lives, life;
     uint32_t number, state, done;
-    uint64_t busy, longest;
+    uint64_t busy, refused, longest;
     struct reply replies[CALLS];
     struct lasso_text kept[KEPT];
     uint32_t kept_number[KEPT];
@@ -46,6 +47,7 @@ static int place_count;
 static bool is_raced;
 static atomic_bool is_written, is_over;
 static uint64_t late;
+static struct lasso_shared limiter;
 
 #define FAULT(...) (fprintf(stderr, __VA_ARGS__), fputc('\n', stderr), exit(1))
 
@@ -154,8 +156,10 @@ static void make_call(struct place *place, struct reply *reply, enum call call, 
         reply->end = now(CLOCK_MONOTONIC);
         reply->number = number;
     }
-    if (status != LASSO_DONE && (call != GET || status != LASSO_NO_SUCH_TEXT))
+    bool is_refused = kind == LIMITED && call == INTERN && status == LASSO_LIMIT_REACHED;
+    if (status != LASSO_DONE && !is_refused && (call != GET || status != LASSO_NO_SUCH_TEXT))
         FAULT("status %u of call %d", (unsigned)status, (int)call);
+    place->refused += is_refused;
     place->done++;
 }
 
@@ -190,7 +194,7 @@ static enum call choose_call(struct place *place)
     uint32_t random = next(&place->state) >> 8 & 15;
     if (kind == STARVED)
         return place->number == 0 ? INTERN : GET;
-    return random < 8 ? INTERN : random < 9 ? INTERN_BATCH : random < 12 ? GET : random < 15 ? RESOLVE : LEN;
+    return random < 8 || (random < 9 && kind == LIMITED) ? INTERN : random < 9 ? INTERN_BATCH : random < 12 ? GET : random < 15 ? RESOLVE : LEN;
 }
 
 /* A handle that met a place's lends each text that the place was told of, with no look at the list. */
@@ -302,7 +306,7 @@ static void check_reply(const struct reply *reply, size_t length)
         check_has(reply, (size_t)reply->code + 1, length);
     } else if (reply->call == RESOLVE && reply->code != UINT32_MAX) {
         check_lacks(reply, (size_t)reply->code + 1, length);
-    } else if (reply->call == GET && code_of[reply->number] != UINT32_MAX) {
+    } else if ((reply->call == GET || reply->call == INTERN) && code_of[reply->number] != UINT32_MAX) {
         check_lacks(reply, (size_t)code_of[reply->number] + 1, length);
     }
 }
@@ -375,13 +379,15 @@ static uint32_t make_interner(uint32_t *state, struct lasso_shared *shared)
 /* Draws a round, and gives each place a handle. */
 static void begin_round(uint32_t *state, struct lasso_shared *shared)
 {
-    kind = (enum kind)(next(state) >> 8 & 3);
+    kind = (enum kind)((next(state) >> 8) % KINDS);
     place_count = kind == STARVED ? MOST_PLACES : (int)(next(state) >> 8) % MOST_PLACES + 1;
     is_raced = next(state) >> 8 & 1;
     is_written = is_over = false;
     late = 0;
     if (make_interner(state, shared) != LASSO_DONE)
         FAULT("no interner");
+    if (kind == LIMITED && lasso_shared_join(shared, &limiter) != LASSO_DONE)
+        FAULT("no handle for limits");
     for (int at = 0; at < place_count; at++) {
         struct place *place = &places[at];
         memset(place, 0, sizeof *place);
@@ -408,6 +414,26 @@ static void *sleep_through(void *none)
     return none;
 }
 
+/* Sets limits as long as a round lasts. Nobody else sets one, so what is taken under it grows up to it alone. */
+static void *set_limits(void *none)
+{
+    const struct timespec nap = {0, (long)LOOK};
+    uint32_t state = 2463534242u;
+    size_t before = 0, after = 0, found = 0;
+    while (!is_over) {
+        size_t limit = next(&state) >> 8 & 0x7ffff;
+        if (lasso_shared_set_limit_wait(&limiter, limit) != LASSO_DONE || lasso_shared_memory_wait(&limiter, &before) != LASSO_DONE)
+            FAULT("a limit was not set");
+        nanosleep(&nap, NULL);
+        if (lasso_shared_memory_wait(&limiter, &after) != LASSO_DONE || lasso_shared_limit_wait(&limiter, &found) != LASSO_DONE)
+            FAULT("a limit was not read");
+        if (found != limit || after < before || (after > before && after > limit))
+            FAULT("%zu bytes were taken, and then %zu, under the limit %zu, which is told as %zu", before, after, limit, found);
+    }
+    lasso_shared_free(&limiter);
+    return none;
+}
+
 /* The longest call of a round. It may take a second only if a sleeping thread woke late, too. */
 static uint64_t longest_call(void)
 {
@@ -424,9 +450,9 @@ static uint64_t longest_call(void)
 static size_t run_round(uint32_t *state)
 {
     struct lasso_shared shared = LASSO_SHARED_NONE;
-    pthread_t sleeper;
+    pthread_t sleeper, limits;
     begin_round(state, &shared);
-    if (pthread_create(&sleeper, NULL, sleep_through, NULL) != 0)
+    if (pthread_create(&sleeper, NULL, sleep_through, NULL) != 0 || (kind == LIMITED && pthread_create(&limits, NULL, set_limits, NULL) != 0))
         FAULT("no thread");
     for (int at = 0; at < place_count; at++)
         if (pthread_create(&places[at].threads[0], NULL, work, &places[at]) != 0)
@@ -436,6 +462,8 @@ static size_t run_round(uint32_t *state)
             pthread_join(places[at].threads[life], NULL);
     is_over = true;
     pthread_join(sleeper, NULL);
+    if (kind == LIMITED)
+        pthread_join(limits, NULL);
     if (!shared.live && lasso_shared_join(&places[0].handle, &shared) != LASSO_DONE)
         FAULT("no handle in the end");
     for (int at = 0; at < place_count; at++)
@@ -447,20 +475,22 @@ static size_t run_round(uint32_t *state)
 
 static int run_rounds(double seconds, uint32_t seed)
 {
-    uint64_t start = now(CLOCK_MONOTONIC), calls = 0, busy = 0, longest = 0, latest_wake = 0, rounds = 0, slow = 0;
+    uint64_t start = now(CLOCK_MONOTONIC), calls = 0, busy = 0, refused = 0, longest = 0, latest_wake = 0, rounds = 0, slow = 0;
     uint32_t state = seed * 2654435769u | 1;
     do {
         calls += run_round(&state);
         uint64_t longest_here = longest_call();
-        for (int at = 0; at < place_count; at++)
+        for (int at = 0; at < place_count; at++) {
             busy += places[at].busy;
+            refused += places[at].refused;
+        }
         longest = longest_here > longest ? longest_here : longest;
         latest_wake = late > latest_wake ? late : latest_wake;
         slow += longest_here > SECOND;
         rounds++;
     } while ((double)(now(CLOCK_MONOTONIC) - start) < seconds * 1e9);
-    printf("%llu rounds, %llu calls, busy %llu times, the longest call %.3f s, over a second in %llu rounds; a sleeping thread woke up to %.3f s late\n",
-           (unsigned long long)rounds, (unsigned long long)calls, (unsigned long long)busy, (double)longest / 1e9, (unsigned long long)slow,
+    printf("%llu rounds, %llu calls, busy %llu times, %llu refused by a limit, the longest call %.3f s, over a second in %llu rounds; a sleeping thread woke up to %.3f s late\n",
+           (unsigned long long)rounds, (unsigned long long)calls, (unsigned long long)busy, (unsigned long long)refused, (double)longest / 1e9, (unsigned long long)slow,
            (double)latest_wake / 1e9);
     return 0;
 }

@@ -111,6 +111,36 @@ static int check_many(void)
     return 0;
 }
 
+/* A limit is of all handles: it refuses a text that neither a bucket's room nor what it leaves has room for, and no present one. */
+static int check_limit(void)
+{
+    struct lasso_shared shared = LASSO_SHARED_NONE, other = LASSO_SHARED_NONE;
+    static char text[5001];
+    size_t bytes = 77;
+    uint32_t code = 77;
+    CHECK(lasso_shared_set_limit(&shared, 10) == LASSO_NO_INTERNER && lasso_shared_limit(&shared, &bytes) == LASSO_NO_INTERNER);
+    CHECK(lasso_shared_memory(&shared, &bytes) == LASSO_NO_INTERNER && bytes == 77);
+    CHECK(lasso_shared_new(&shared) == LASSO_DONE && lasso_shared_join(&shared, &other) == LASSO_DONE);
+    CHECK(lasso_shared_limit_wait(&shared, &bytes) == LASSO_DONE && bytes == LASSO_NO_LIMIT);
+    CHECK(lasso_shared_set_limit_wait(&other, 5000) == LASSO_DONE);
+    CHECK(lasso_shared_limit(&shared, &bytes) == LASSO_DONE && bytes == 5000);
+    CHECK(intern(&shared, "red", &code) == LASSO_DONE && code == 0);
+    memset(text, 'x', 4094);
+    CHECK(intern(&other, text, &code) == LASSO_LIMIT_REACHED && code == 0 && lasso_shared_len(&other) == 1);
+    CHECK(lasso_shared_memory_wait(&shared, &bytes) == LASSO_DONE && bytes == 4096);
+    text[4093] = 0;
+    CHECK(intern(&other, text, &code) == LASSO_DONE && code == 1 && intern(&other, "red", &code) == LASSO_DONE && code == 0);
+    memset(text, 'y', 905);
+    text[905] = 0;
+    CHECK(intern(&shared, text, &code) == LASSO_LIMIT_REACHED && get(&shared, text, &code) == LASSO_NO_SUCH_TEXT && code == 0);
+    CHECK(intern(&shared, "blue", &code) == LASSO_DONE && code == 2 && lasso_shared_memory(&other, &bytes) == LASSO_DONE && bytes == 5000);
+    CHECK(lasso_shared_set_limit(&shared, LASSO_NO_LIMIT) == LASSO_DONE && intern(&other, text, &code) == LASSO_DONE && code == 3);
+    CHECK(lasso_shared_memory(&shared, &bytes) == LASSO_DONE && bytes == 5000 + 8192);
+    lasso_shared_free(&shared);
+    lasso_shared_free(&other);
+    return 0;
+}
+
 /* A copy for one thread has the texts that the handle has seen, under their codes. */
 static int check_copy(struct lasso_shared *shared, const char *const *texts, size_t count)
 {
@@ -272,7 +302,7 @@ static int check_threads(struct worker *workers, int threads)
 int main(void)
 {
     struct worker *workers = calloc(MOST_THREADS, sizeof *workers);
-    int wrong = workers == NULL || check_calls() || check_many() || check_lists();
+    int wrong = workers == NULL || check_calls() || check_limit() || check_many() || check_lists();
     for (int threads = 1; threads <= MOST_THREADS && !wrong; threads *= 2)
         wrong = check_threads(workers, threads);
     free(workers);

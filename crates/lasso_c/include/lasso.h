@@ -24,7 +24,8 @@
  * - Outputs, *report included, must not overlap other arguments.
  * - A refused call, whose status is not LASSO_DONE, writes only *report and leaves its interner as it was. Only the
  *   calls whose names begin with lasso_intern_batch, and lasso_shared_intern_batch, keep the texts before the refused
- *   one, and write their codes. A call that returns LASSO_DONE writes what is said below to the front of each output,
+ *   one, and write their codes; and of a shared interner the bytes of a text may stay taken, as lasso_shared_intern
+ *   says. A call that returns LASSO_DONE writes what is said below to the front of each output,
  *   and leaves the rest of it as it was.
  * - Calls may run in several threads at once. Threads may share what all of them only read, as a dictionary from
  *   which two decode, but no handle: one call at a time uses it, even to read. While a call runs, nothing else reads or
@@ -517,11 +518,12 @@ void lasso_free(struct lasso *lasso);
  * call again. The interner lasts until its last handle is freed, in any order. A program with threads is linked with
  * -pthread, too.
  *
- * No call waits. lasso_shared_intern, lasso_shared_intern_batch and lasso_shared_get return LASSO_BUSY if another
- * thread is inside a step of the interner, after they looked about a hundred times. The caller tries again, as
- * lasso_shared_intern_wait, lasso_shared_intern_batch_wait and lasso_shared_get_wait do. What to rely on:
- * - With LASSO_BUSY, no text was added, and nothing was written; a batch has interned the texts before the busy one,
- *   and written their codes. The next call may be about another text.
+ * No call waits. lasso_shared_intern, lasso_shared_intern_batch, lasso_shared_get, lasso_shared_memory,
+ * lasso_shared_limit and lasso_shared_set_limit return LASSO_BUSY if another thread is inside a step of the interner,
+ * after they looked about a hundred times. The caller tries again, as the inline calls do whose names end with _wait.
+ * What to rely on:
+ * - With LASSO_BUSY, no text was added, no limit was set, and nothing was written; a batch has interned the texts
+ *   before the busy one, and written their codes. The next call may be about another text.
  * - The other calls never return LASSO_BUSY: no thread can hold them up.
  * - If no other thread is inside a call, no call returns LASSO_BUSY. (This is tested, not proved.)
  * What not to rely on:
@@ -586,11 +588,13 @@ uint32_t lasso_shared_join(struct lasso_shared *shared, struct lasso_shared *oth
 
 /*
  * Interns a text, and appends a copy of it first if it is absent. *code is its code for every handle of the interner,
- * as long as there is one. Copies are in buckets of 64 KiB, one a handle, which no limit counts; a longer text has one
- * of just its size. After 4,096 calls a handle keeps 128 KiB of hints, by which it finds texts again without a lock.
+ * as long as there is one. Copies are in buckets that all handles share, and that lasso_shared_memory counts. After
+ * 4,096 calls a handle keeps 128 KiB of hints, by which it finds texts again without a lock.
  *
- * Returns LASSO_NOT_UTF8; LASSO_NO_INTERNER; LASSO_BUSY; for an absent text LASSO_NO_CODE_LEFT or LASSO_NO_MEMORY; else
- * LASSO_DONE.
+ * Returns LASSO_NOT_UTF8; LASSO_NO_INTERNER; LASSO_BUSY; for an absent text LASSO_NO_MEMORY, LASSO_LIMIT_REACHED if no
+ * bucket has room for it and it has more bytes than the limit leaves, or LASSO_NO_CODE_LEFT; else LASSO_DONE. With
+ * LASSO_NO_CODE_LEFT the text's bytes in a bucket stay taken. With LASSO_BUSY they don't, as far as tests tell: what is
+ * proved leaves it open.
  */
 uint32_t lasso_shared_intern(struct lasso_shared *shared, const uint8_t *text, size_t text_length, uint32_t *code);
 
@@ -684,6 +688,33 @@ uint32_t lasso_shared_copy(struct lasso_shared *shared, struct lasso *lasso);
  * added before is tested, not proved.
  */
 size_t lasso_shared_len(struct lasso_shared *shared);
+
+/*
+ * Writes to *bytes how many bytes the interner's buckets of texts take. A text goes into the newest bucket with room for
+ * it. If none has room, a bucket is made, of the size that lasso_memory says, or the text is refused. Buckets stay as
+ * long as the interner. The list of texts, indexes and hints are not counted.
+ *
+ * bytes               written: one number, unless the status is not LASSO_DONE.
+ *
+ * Returns LASSO_NO_INTERNER, LASSO_BUSY, else LASSO_DONE.
+ */
+uint32_t lasso_shared_memory(struct lasso_shared *shared, size_t *bytes);
+
+/*
+ * Writes to *bytes how many bytes those buckets may take: LASSO_NO_LIMIT, or what lasso_shared_set_limit set last.
+ *
+ * Returns LASSO_NO_INTERNER, LASSO_BUSY, else LASSO_DONE.
+ */
+uint32_t lasso_shared_limit(struct lasso_shared *shared, size_t *bytes);
+
+/*
+ * Sets how many bytes the buckets may take, for all handles of the interner. The limit may be below what they take, as
+ * the 4,096 bytes of the first one: then only the room that is left in them is used. No bucket is made that would have
+ * them take more than the limit of that moment.
+ *
+ * Returns LASSO_NO_INTERNER, LASSO_BUSY, and then the limit stays, else LASSO_DONE.
+ */
+uint32_t lasso_shared_set_limit(struct lasso_shared *shared, size_t limit);
 
 /*
  * Frees the handle, and the interner with the last of its handles. The handle is then as LASSO_SHARED_NONE, so a second
@@ -1025,6 +1056,33 @@ static inline uint32_t lasso_shared_intern_batch_wait(struct lasso_shared *share
     report->texts += done;
     if (status != LASSO_DONE && status != LASSO_NO_INTERNER)
         report->at += done;
+    return status;
+}
+
+/* lasso_shared_memory, again and again until it is not LASSO_BUSY. In between the thread lets others run. */
+static inline uint32_t lasso_shared_memory_wait(struct lasso_shared *shared, size_t *bytes)
+{
+    uint32_t status;
+    while ((status = lasso_shared_memory(shared, bytes)) == LASSO_BUSY)
+        sched_yield();
+    return status;
+}
+
+/* lasso_shared_limit, again and again until it is not LASSO_BUSY. In between the thread lets others run. */
+static inline uint32_t lasso_shared_limit_wait(struct lasso_shared *shared, size_t *bytes)
+{
+    uint32_t status;
+    while ((status = lasso_shared_limit(shared, bytes)) == LASSO_BUSY)
+        sched_yield();
+    return status;
+}
+
+/* lasso_shared_set_limit, again and again until it is not LASSO_BUSY. In between the thread lets others run. */
+static inline uint32_t lasso_shared_set_limit_wait(struct lasso_shared *shared, size_t limit)
+{
+    uint32_t status;
+    while ((status = lasso_shared_set_limit(shared, limit)) == LASSO_BUSY)
+        sched_yield();
     return status;
 }
 

@@ -7,9 +7,8 @@ use Rattle.std.proofs.lemmas.Bool.{cases_lt}
 use Rattle.std.proofs.lemmas.List.{length-take-le, length-set}
 use Rattle.lasso_parts.specs.Layout.{layout_texts}
 use Rattle.lasso_parts.specs.Texts.{Text}
-use Rattle.lasso_parts.specs.declared.util.LassoErrorKind.TheVariants.{MemoryLimitReached}
 use Rattle.lasso_parts.proofs.TextLemmas.{take_more_at}
-use Rattle.lasso_log.specs.Replies.{Copied, Intern, Interned, Static}
+use Rattle.lasso_log.specs.Replies.{Copied, Intern, Interned}
 use Rattle.lasso_log.specs.Views.{PassView}
 use Rattle.lasso_c.specs.Interning.{batch_start_fault}
 use Rattle.lasso_c.specs.Layout.{IsTextBetween, over, text_fault}
@@ -20,14 +19,10 @@ use Rattle.lasso_c.proofs.BatchSteps.{text_is}
 use Rattle.lasso_c.proofs.Layouts.{length-layout_texts}
 use Rattle.lasso_c.proofs.Writing.{over_push}
 
--- no limit refuses a text that is not copied
-pub unlimited : (before after : PassView) (text : Text) → IsCallOf before after (Intern Static text) (Interned (Err MemoryLimitReached)) → ⊥
-unlimited before after text call = let no : Static ≡ Copied = call.1.explained.4.1 in absurd cc
-
 -- one call more
 pub each_push : (before : PassView) (texts : List Text) (codes : List ℕ) (mid : PassView) (text : Text) (code : ℕ) (after : PassView)
-    → InternsEach before texts codes mid → IsCallOf mid after (Intern Static text) (Interned (Ok (code + 1))) → InternsEach before (texts ++ text ∷ []) (codes ++ code ∷ []) after
-each_push before [] [] mid text code after so_far call = (after, subst (λ (p : PassView). IsCallOf p after (Intern Static text) (Interned (Ok (code + 1)))) so_far call, refl)
+    → InternsEach before texts codes mid → IsCallOf mid after (Intern Copied text) (Interned (Ok (code + 1))) → InternsEach before (texts ++ text ∷ []) (codes ++ code ∷ []) after
+each_push before [] [] mid text code after so_far call = (after, subst (λ (p : PassView). IsCallOf p after (Intern Copied text) (Interned (Ok (code + 1)))) so_far call, refl)
 each_push before [] (c ∷ codes) mid text code after so_far call = absurd so_far
 each_push before (t ∷ texts) [] mid text code after so_far call = absurd so_far
 each_push before (t ∷ texts) (c ∷ codes) mid text code after so_far call = (so_far.0, so_far.1, each_push so_far.0 texts codes mid text code after so_far.2 call)
@@ -71,7 +66,7 @@ one_more greatest bytes offsets at first now before mid code after so_far next s
     }
 
 at_number : (greatest : ℕ) (bytes offsets : List ℕ) (at : ℕ) (text : Text) (before after : PassView) (reply : Result ℕ ℕ) → slice_get (layout_texts bytes offsets) at ≡ Some text → fault_at greatest bytes offsets at ≡ None
-    → MatchResult reply (λ code. IsCallOf before after (Intern Static text) (Interned (Ok (code + 1)))) (λ status. IsRefused text at status before after)
+    → MatchResult reply (λ code. IsCallOf before after (Intern Copied text) (Interned (Ok (code + 1)))) (λ status. IsRefused text at status before after)
     → MatchResult reply (λ code. InternsAt greatest bytes offsets at before code after) (λ status. RefusesAt greatest bytes offsets at status before after)
 at_number greatest bytes offsets at text before after (Ok code) here good call = (text, here, good, call)
 at_number greatest bytes offsets at text before after (Err status) here good refused = inr (text, here, good, refused)
@@ -79,7 +74,7 @@ at_number greatest bytes offsets at text before after (Err status) here good ref
 -- what is known of the call of a good text is known of its number in the layout
 pub with_text : (greatest : ℕ) (bytes offsets : List ℕ) (at from to : ℕ) (text : Text) (before after : PassView) (reply : Result ℕ ℕ) → at + 1 < length offsets → from ≡ get_or offsets at 0 → to ≡ get_or offsets (at + 1) 0
     → IsTextBetween greatest bytes at from to text
-    → MatchResult reply (λ code. IsCallOf before after (Intern Static text) (Interned (Ok (code + 1)))) (λ status. IsRefused text at status before after)
+    → MatchResult reply (λ code. IsCallOf before after (Intern Copied text) (Interned (Ok (code + 1)))) (λ status. IsRefused text at status before after)
     → MatchResult reply (λ code. InternsAt greatest bytes offsets at before code after) (λ status. RefusesAt greatest bytes offsets at status before after)
 with_text greatest bytes offsets at from to text before after reply small is_from is_to between found =
     let end = get_or offsets (at + 1) 0 in

@@ -8,10 +8,10 @@ use Rattle.lasso_log.specs.Replies.{Question, Reply}
 use Rattle.lasso_c.specs.Handles.{code_lookup_in}
 use Rattle.lasso_c.specs.declared.error.CallError.{CallError}
 use Rattle.lasso_c.specs.declared.error.CallError.TheVariants.{NoInterner}
-use Rattle.lasso_c.specs.Passes.{CopiesCall, IsCallOf, IsQuiet, texts_of}
+use Rattle.lasso_c.specs.Passes.{AppendsNone, CopiesCall, IsCallOf, IsQuiet, texts_of}
 use Rattle.lasso_c.specs.declared.seed.Seed.{Seed}
 use Rattle.lasso_c.specs.declared.shared.member.Member.{Member}
-use Rattle.lasso_c.specs.declared.status.TheConstants.{DONE, NOT_UTF8, NO_SUCH_CODE, NO_MEMORY, NO_CODE_LEFT, NO_INTERNER, NO_SUCH_TEXT, BUSY}
+use Rattle.lasso_c.specs.declared.status.TheConstants.{DONE, NOT_UTF8, NO_SUCH_CODE, NO_MEMORY, LIMIT_REACHED, NO_CODE_LEFT, NO_INTERNER, NO_SUCH_TEXT, BUSY}
 
 -- what the hashers of the member's interner begin with, if there is one
 abbrev pub shared_seed : Option Member → Option Seed
@@ -35,6 +35,12 @@ abbrev pub MakesNone : (before after : Option Member) → Type 0
 MakesNone (Some before) (Some after) = IsQuiet before.pass after.pass
 MakesNone (Some before) None = ⊥
 MakesNone None after = after ≡ None
+
+-- the member put no text last: it made no event, or what stores this text's bytes
+abbrev pub PutsNone : Text → (before after : Option Member) → Type 0
+PutsNone text (Some before) (Some after) = AppendsNone text before.pass after.pass
+PutsNone text (Some before) None = ⊥
+PutsNone text None after = after ≡ None
 
 -- the member is of this interner, with its seed, and has seen nothing yet
 abbrev pub BeginsBeside : (first second : Option Member) → Type 0
@@ -78,12 +84,16 @@ IsStatusOf (Some _) status others = others
 -- a status of interning bytes that are UTF-8 or not
 abbrev pub IsInternStatus : (utf8 : Bool) → Option Member → (status : ℕ) → Type 0
 IsInternStatus false held status = status ≡ NOT_UTF8
-IsInternStatus true held status = IsStatusOf held status ((status ≡ DONE) ⊎ (status ≡ NO_CODE_LEFT) ⊎ (status ≡ NO_MEMORY) ⊎ (status ≡ BUSY))
+IsInternStatus true held status = IsStatusOf held status ((status ≡ DONE) ⊎ (status ≡ NO_CODE_LEFT) ⊎ (status ≡ LIMIT_REACHED) ⊎ (status ≡ NO_MEMORY) ⊎ (status ≡ BUSY))
 
 -- a status of looking bytes up that are UTF-8 or not
 abbrev pub IsGetStatus : (utf8 : Bool) → Option Member → (status : ℕ) → Type 0
 IsGetStatus false held status = status ≡ NOT_UTF8
 IsGetStatus true held status = IsStatusOf held status ((status ≡ DONE) ⊎ (status ≡ NO_SUCH_TEXT) ⊎ (status ≡ BUSY))
+
+-- a status of a call that is tried once
+abbrev pub IsTriedStatus : Option Member → (status : ℕ) → Type 0
+IsTriedStatus held status = IsStatusOf held status ((status ≡ DONE) ⊎ (status ≡ BUSY))
 
 -- a status of looking a code up
 abbrev pub IsCodeStatus : Option Member → (status : ℕ) → Type 0

@@ -5,6 +5,7 @@ use Rattle.lasso_log.specs.History.{IsLegal}
 use Rattle.lasso_log.specs.Notes.{Since}
 use Rattle.lasso_log.specs.Replies.{Question, Reply, Resolve, Resolved}
 use Rattle.lasso_log.specs.Views.{IsSamePass, PassView, SnapshotView, list_of, seen}
+use Rattle.lasso_shared.specs.Now.{MayStore}
 use Rattle.lasso_shared.specs.PassCalls.{IsPassCall}
 use Rattle.lasso_c.specs.Interning.{key_of_code}
 use Rattle.lasso_c.specs.Layout.{CopiesFront}
@@ -17,6 +18,10 @@ IsCallOf before after question reply =
 -- the pass made no event
 abbrev pub IsQuiet : (before after : PassView) → Type 0
 IsQuiet before after = IsSamePass after before × Since before.number before.notes after.notes []
+
+-- the pass put no text last: it made no event, or what stores this text's bytes
+abbrev pub AppendsNone : Text → (before after : PassView) → Type 0
+AppendsNone text before after = IsSamePass after before × MayStore text before after
 
 -- the pass resolved the code, and its text was copied over the front of a buffer
 abbrev pub CopiesCall : (before after : PassView) → (code : ℕ) → (whole : ℕ) → (room_before room_after : List ℕ) → Type 0

@@ -3,11 +3,11 @@ use Rattle.std.specs.Prelude.{◌≡◌, ◌<◌, ◌+◌, ◌⊎◌, ℕ, List,
 use Rattle.lasso_parts.specs.Layout.{layout_texts}
 use Rattle.lasso_parts.specs.Texts.{Text}
 use Rattle.lasso_parts.specs.declared.util.LassoErrorKind.{LassoErrorKind}
-use Rattle.lasso_log.specs.Replies.{Intern, Interned, Static}
+use Rattle.lasso_log.specs.Replies.{Copied, Intern, Interned}
 use Rattle.lasso_log.specs.Views.{PassView}
 use Rattle.lasso_c.specs.Interning.{batch_start_fault, refusal_at}
 use Rattle.lasso_c.specs.Layout.{first_texts, over, text_fault}
-use Rattle.lasso_c.specs.Passes.{IsCallOf, IsQuiet}
+use Rattle.lasso_c.specs.Passes.{AppendsNone, IsCallOf}
 use Rattle.lasso_c.specs.Status.{error_status}
 use Rattle.lasso_c.specs.declared.error.CallError.{CallError}
 use Rattle.lasso_c.specs.declared.error.LassoReport.{LassoReport}
@@ -18,7 +18,7 @@ use Rattle.lasso_c.specs.declared.status.TheConstants.{DONE, NO_INTERNER, BUSY}
 -- it ended
 abbrev pub InternsEach : (before : PassView) → List Text → (codes : List ℕ) → (after : PassView) → Type 0
 InternsEach before [] [] after = after ≡ before
-InternsEach before (text ∷ texts) (code ∷ codes) after = (mid : PassView) × IsCallOf before mid (Intern Static text) (Interned (Ok (code + 1))) × InternsEach mid texts codes after
+InternsEach before (text ∷ texts) (code ∷ codes) after = (mid : PassView) × IsCallOf before mid (Intern Copied text) (Interned (Ok (code + 1))) × InternsEach mid texts codes after
 InternsEach before texts codes after = ⊥
 
 -- what is wrong with the text of this number of a layout, or nothing
@@ -30,11 +30,11 @@ abbrev pub InternsFirst : (greatest : ℕ) (bytes offsets : List ℕ) (done : �
 InternsFirst greatest bytes offsets done before codes after =
     InternsEach before (first_texts done bytes offsets) codes after × ((at : ℕ) → at < done → fault_at greatest bytes offsets at ≡ None)
 
--- the call of a text of this number was refused; or another thread was inside a step, and there was no event
+-- the call of a text of this number was refused; or another thread was inside a step, and the text was not put last
 abbrev pub IsRefused : Text → (number status : ℕ) (before after : PassView) → Type 0
 IsRefused text number status before after =
-    ((error : LassoErrorKind) × IsCallOf before after (Intern Static text) (Interned (Err error)) × (status ≡ error_status (refusal_at number error)))
-    ⊎ ((status ≡ BUSY) × IsQuiet before after)
+    ((error : LassoErrorKind) × IsCallOf before after (Intern Copied text) (Interned (Err error)) × (status ≡ error_status (refusal_at number error)))
+    ⊎ ((status ≡ BUSY) × AppendsNone text before after)
 
 -- how the text of this number is refused: something is wrong with it, or it is good and its call is refused
 abbrev pub RefusesAt : (greatest : ℕ) (bytes offsets : List ℕ) (number status : ℕ) (before after : PassView) → Type 0
@@ -46,7 +46,7 @@ RefusesAt greatest bytes offsets number status before after =
 abbrev pub InternsAt : (greatest : ℕ) (bytes offsets : List ℕ) (number : ℕ) (before : PassView) (code : ℕ) (after : PassView) → Type 0
 InternsAt greatest bytes offsets number before code after =
     (text : Text) × (slice_get (layout_texts bytes offsets) number ≡ Some text) × (fault_at greatest bytes offsets number ≡ None)
-    × IsCallOf before after (Intern Static text) (Interned (Ok (code + 1)))
+    × IsCallOf before after (Intern Copied text) (Interned (Ok (code + 1)))
 
 -- why a batch ends after its first `done` texts: none is left, or the next one is refused
 abbrev pub EndsBatch : (greatest : ℕ) (bytes offsets : List ℕ) (done status : ℕ) (before after : PassView) → Type 0

@@ -40,6 +40,8 @@ pub mod shared;
 #[cfg(test)]
 mod shared_batches_tests;
 #[cfg(test)]
+mod shared_limits_tests;
+#[cfg(test)]
 mod shared_making_tests;
 #[cfg(test)]
 mod shared_tests;

@@ -7,17 +7,18 @@ ghost use denote.RawPtr.{null_ptr};
 ghost use Rattle.std.specs.Prelude.{◌≡◌, ◌+◌, ◌-◌, ◌^◌, ◌⊎◌, [], IfSome, IsSome, Err, None, Ok, Some};
 ghost use Rattle.std.specs.Str.{is_utf8};
 ghost use Rattle.lasso_parts.specs.declared.util.LassoErrorKind.TheVariants.{FailedAllocation, KeySpaceExhaustion, MemoryLimitReached};
-ghost use Rattle.lasso_log.specs.Replies.{Found, Get, Intern, Interned, Len, Number, Resolve, Resolved, Static};
+ghost use Rattle.lasso_log.specs.Replies.{Copied, Found, Get, Intern, Interned, Len, Number, Resolve, Resolved};
 ghost use Rattle.lasso_single.specs.Copies.{clone_size, read_of};
 ghost use Rattle.lasso_c.specs.Handles.{account_in, first_in, seed_in, texts_in};
 ghost use Rattle.lasso_c.specs.Interning.{refusal_at};
 ghost use Rattle.lasso_c.specs.Status.{error_status};
-ghost use Rattle.lasso_c.specs.Members.{BeginsBeside, Calls, Copies, IsCodeStatus, IsGetStatus, IsInternStatus, MakesNone, Meets, Sees, shared_seed, texts_seen};
+ghost use Rattle.lasso_c.specs.Members.{BeginsBeside, Calls, Copies, IsCodeStatus, IsGetStatus, IsInternStatus, MakesNone, Meets, PutsNone, Sees, shared_seed, texts_seen};
 
 pub mod batches;
 pub mod handle;
 mod interner;
 pub mod lending;
+pub mod limits;
 pub mod making;
 mod member;
 mod seat;
@@ -56,15 +57,16 @@ pub extern "C" fn lasso_shared_join(
 }
 
 /// Interns a text, and writes its code. An absent text is appended first, as a copy that lasts as long as the interner. It returns
-/// `NOT_UTF8`, `NO_INTERNER`, for an absent text `NO_MEMORY` or `NO_CODE_LEFT`, and `BUSY` if another thread is inside a step: no
-/// text was appended then.
+/// `NOT_UTF8`, `NO_INTERNER`, for an absent text `NO_MEMORY`, `LIMIT_REACHED` or `NO_CODE_LEFT`, and `BUSY` if another thread is
+/// inside a step. No text was appended then. With `NO_CODE_LEFT` the text's bytes stay taken, and with `BUSY` they may.
 #[unsafe(no_mangle)]
 pub extern "C" fn lasso_shared_intern(shared: &mut LassoShared, text: &[u8], code: &mut u32) -> u32
     ensures status { IsInternStatus (is_utf8 text.now) shared.old.seat.value result }
-    ensures done { result ≡ DONE → Calls shared.old.seat.value shared.new.seat.value (Intern Static text.now) (Interned (Ok (code.new + 1))) }
-    ensures full { result ≡ NO_CODE_LEFT → Calls shared.old.seat.value shared.new.seat.value (Intern Static text.now) (Interned (Err KeySpaceExhaustion)) }
-    ensures wanting { result ≡ NO_MEMORY → Calls shared.old.seat.value shared.new.seat.value (Intern Static text.now) (Interned (Err FailedAllocation)) }
-    ensures busy { result ≡ BUSY → MakesNone shared.old.seat.value shared.new.seat.value }
+    ensures done { result ≡ DONE → Calls shared.old.seat.value shared.new.seat.value (Intern Copied text.now) (Interned (Ok (code.new + 1))) }
+    ensures full { result ≡ NO_CODE_LEFT → Calls shared.old.seat.value shared.new.seat.value (Intern Copied text.now) (Interned (Err KeySpaceExhaustion)) }
+    ensures limited { result ≡ LIMIT_REACHED → Calls shared.old.seat.value shared.new.seat.value (Intern Copied text.now) (Interned (Err MemoryLimitReached)) }
+    ensures wanting { result ≡ NO_MEMORY → Calls shared.old.seat.value shared.new.seat.value (Intern Copied text.now) (Interned (Err FailedAllocation)) }
+    ensures busy { result ≡ BUSY → PutsNone text.now shared.old.seat.value shared.new.seat.value }
     ensures kept { (result ≡ NOT_UTF8) ⊎ (result ≡ NO_INTERNER) → shared.new.seat.value ≡ shared.old.seat.value }
     ensures code_kept { ¬ (result ≡ DONE) → code.new ≡ code.old }
     ensures seen { texts_seen shared.new.seat.value ≡ texts_seen shared.old.seat.value }
@@ -248,15 +250,14 @@ pub(crate) fn key_of(code: u32) -> Option<Spur>
     Spur::try_from_usize(code as usize)
 }
 
-// The status of the refusal of a text that no limit counts.
+// The status of the refusal of a text.
 fn status_of(error: LassoError) -> u32
-    requires { ¬ (error ≡ MemoryLimitReached) }
     ensures value { result ≡ error_status (refusal_at 0 error) }
-    ensures some { (result ≡ NO_CODE_LEFT) ⊎ (result ≡ NO_MEMORY) }
+    ensures some { (result ≡ NO_CODE_LEFT) ⊎ (result ≡ LIMIT_REACHED) ⊎ (result ≡ NO_MEMORY) }
 {
     match error.kind() {
         LassoErrorKind::KeySpaceExhaustion => NO_CODE_LEFT,
         LassoErrorKind::FailedAllocation => NO_MEMORY,
-        LassoErrorKind::MemoryLimitReached => unreachable!(),
+        LassoErrorKind::MemoryLimitReached => LIMIT_REACHED,
     }
 }

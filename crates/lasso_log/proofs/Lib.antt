@@ -22,3 +22,4 @@ pub mod Meeting
 pub mod Crossing
 pub mod FillCalls
 pub mod Reserved
+pub mod Charged

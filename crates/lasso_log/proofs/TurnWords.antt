@@ -11,7 +11,7 @@ use Rattle.lasso_log.specs.History.{Event, Reserve, Charge, Append, Limit, Histo
 use Rattle.lasso_log.specs.Notes.{NoteView, history, state, bumped, worded, words_after, words_of, first_words, IsWord, IsWordWith}
 use Rattle.lasso_log.specs.Book.{May, Moving, IsDone}
 use Rattle.lasso_log.specs.SharedBuckets.{LacksRoom}
-use Rattle.lasso_log.specs.Turns.{IsTurned, IsSameTurn, NoneHasRoom, IsPastLimit}
+use Rattle.lasso_log.specs.Turns.{IsTurned, IsSameTurn, LackFrom, NoneHasRoom, IsPastLimit}
 use Rattle.lasso_log.proofs.BucketWords.{elsewhere, just_here, one_behind}
 use Rattle.lasso_log.proofs.Histories.{state_past}
 use Rattle.lasso_log.proofs.Lengths.{one_more}
@@ -60,6 +60,14 @@ lacks_one_more o v log count n begins none here i low = by (ℕ_discrete i count
     by : Dec (i ≡ count) → LacksRoom (state o log) i n
     by (yes is) = subst (λ (k : ℕ). LacksRoom (state o log) k n) (sym is) here
     by (no ne) = lacks_later o v log i n begins (none i (omega (arith, low, ne)))
+
+-- one bucket more that has no room, where none after it has any
+pub lacks_one_less : (o : Totals) (v log : List NoteView) (first count n : ℕ) → IsPrefix v log → LackFrom (state o v) (first + 1) count n → LacksRoom (state o log) first n → LackFrom (state o log) first count n
+lacks_one_less o v log first count n begins none here i high low = by (ℕ_discrete i first)
+  where
+    by : Dec (i ≡ first) → LacksRoom (state o log) i n
+    by (yes is) = subst (λ (k : ℕ). LacksRoom (state o log) k n) (sym is) here
+    by (no ne) = lacks_later o v log i n begins (none i (omega (arith, high, ne)) low)
 
 each_lacks : (bs : List CountedBucket) (n : ℕ) → ((i : ℕ) → i < length bs → IsSomeAnd (slice_get bs i) (λ (b : CountedBucket). b.size < b.used + n)) → AllByRecursion (λ (b : CountedBucket). b.size < b.used + n) bs
 each_lacks [] n each = tt

@@ -4,6 +4,7 @@ pub mod Replies
 pub mod Calls
 pub mod Laws
 pub mod Chunks
+pub mod BucketRows
 pub mod Notes
 pub mod Book
 pub mod Events

@@ -1,5 +1,5 @@
 -- What contracts see of buckets of the shared arena: of what is owned of one, of one that is not in a history yet, and of one that is.
-use Rattle.std.specs.Prelude.{◌≡◌, ℕ, suc, ◌+◌, ◌-◌, ◌^◌, ◌≤◌, ◌<◌, List, [], ◌∷◌, ◌++◌, Some, slice_get, IsSomeAnd}
+use Rattle.std.specs.Prelude.{◌≡◌, ℕ, suc, ◌+◌, ◌-◌, ◌^◌, ◌≤◌, ◌<◌, List, [], ◌∷◌, ◌++◌, Option, Some, None, slice_get, IsSomeAnd}
 use denote.RawPtr.{Ptr, block_ptr}
 use Rattle.logbook.specs.Pages.{Book, Named}
 use Rattle.lasso_log.specs.Buckets.{CountedBucket}
@@ -128,6 +128,11 @@ pub record IsReserved (b : SharedView) (p : ℕ) (before after : List NoteView) 
 abbrev pub ReservesAmong : InternerId → (count : ℕ) → (before after : PassView) → RangeView → (bytes : ℕ) → Type 0
 ReservesAmong of count before after r bytes =
     (b : SharedView) × (b.of ≡ of) × (b.position < count) × IsReserved b before.number before.notes after.notes r bytes
+
+-- what a call found that did not wait, if it did find something
+abbrev pub joined : {A : Type 0} → Option (Option A) → Option A
+joined None = None
+joined (Some found) = found
 
 -- where a bucket is whose first bytes the range has
 abbrev pub site_of : RangeView → Site

@@ -1,5 +1,5 @@
 -- The turns of a history, its charges and limits: what they add up to, and what a charge asks.
-use Rattle.std.specs.Prelude.{◌≡◌, ℕ, ◌+◌, ◌<◌, List, length, Option}
+use Rattle.std.specs.Prelude.{◌≡◌, ℕ, ◌+◌, ◌<◌, ◌≤◌, List, length, Option}
 use mathlib.Core.List.{IsPrefix}
 use Rattle.logbook.specs.Pages.{Cell}
 use Rattle.lasso_log.specs.Buckets.{HasNoRoom}
@@ -20,6 +20,10 @@ pub record IsTurned {Key : Type 0} (keys : ℕ → Option Key) (o : Totals) (not
 -- none of the first `count` buckets has room for n bytes
 abbrev pub NoneHasRoom : Totals → (count n : ℕ) → Type 0
 NoneHasRoom s count n = (position : ℕ) → position < count → LacksRoom s position n
+
+-- nor has one of them from this position on
+abbrev pub LackFrom : Totals → (first count n : ℕ) → Type 0
+LackFrom s first count n = (position : ℕ) → first ≤ position → position < count → LacksRoom s position n
 
 -- usage, limit, doubling size and the number of buckets are what they were: so it is while the turn word has
 -- one value, since no charge and no limit comes then, and a bucket that lacked room lacks it still

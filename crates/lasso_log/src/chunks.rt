@@ -115,7 +115,7 @@ pub fn chunk_and_offset(position: u64) -> (usize, usize)
 }
 
 // How many cells the chunk has.
-fn length_of(chunk: usize) -> usize
+pub(crate) fn length_of(chunk: usize) -> usize
     requires { chunk < 60 }
     ensures { result ≡ chunk_length chunk }
 {

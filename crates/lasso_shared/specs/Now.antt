@@ -1,9 +1,12 @@
--- Calls that do not wait: the bucket that a caller copies its new texts into.
-use Rattle.std.specs.Prelude.{◌≡◌, Option, IfSome}
-use Rattle.lasso_log.specs.Chunks.{era_named}
-use Rattle.lasso_log.specs.LentBuckets.{LentBucket}
-use Rattle.lasso_log.specs.Views.{InternerId}
+-- Calls that do not wait: what one that interns a copied text leaves if others are in the way.
+use Rattle.std.specs.Prelude.{◌≡◌, ◌⊎◌, List, []}
+use Rattle.lasso_parts.specs.Texts.{Text}
+use Rattle.lasso_log.specs.Calls.{Stores}
+use Rattle.lasso_log.specs.History.{Event}
+use Rattle.lasso_log.specs.Notes.{Since}
+use Rattle.lasso_log.specs.Replies.{Copied}
+use Rattle.lasso_log.specs.Views.{PassView}
 
--- a caller's own bucket, if it has one, is lent for the era of this interner
-abbrev pub IsOwnOf : InternerId → Option LentBucket → Type 0
-IsOwnOf of own = IfSome own (λ b. b.site.era ≡ era_named of.chunks)
+-- the pass put no text last: it made no event, or what stores the text's bytes
+abbrev pub MayStore : Text → (before after : PassView) → Type 0
+MayStore text before after = (own : List Event) × ((own ≡ []) ⊎ Stores Copied text own) × Since before.number before.notes after.notes own

@@ -35,7 +35,7 @@ pub(super) enum Step {
     // the bytes that all buckets take
     Uses(u64),
     // how many buckets the list has
-    HasBuckets(usize),
+    HasBuckets(u64),
     // how many the spine has counted
     HasCounted(u64),
     // the bytes of the bucket at this position, and how many of them are taken
@@ -64,9 +64,11 @@ struct Opened {
 fn walk(list: &BucketList<Spur>) -> (usize, u64) {
     let mut count: usize = 1;
     let mut bytes: u64 = list.first().capacity();
-    for (_, bucket) in list.later() {
-        count = count.saturating_add(1);
-        bytes = bytes.saturating_add(bucket.capacity());
+    for number in 1..list.len() {
+        if let Some(bucket) = list.get(number) {
+            count = count.saturating_add(1);
+            bytes = bytes.saturating_add(bucket.capacity());
+        }
     }
     (count, bytes)
 }
@@ -77,9 +79,11 @@ const TURNS: u32 = 1000;
 // Whether a walk finds a later bucket of this size, in bytes.
 fn is_there(list: &BucketList<Spur>, bytes: u64) -> bool {
     for _ in 0..TURNS {
-        for (_, bucket) in list.later() {
-            if bucket.capacity() == bytes {
-                return true;
+        for number in 1..list.len() {
+            if let Some(bucket) = list.get(number) {
+                if bucket.capacity() == bytes {
+                    return true;
+                }
             }
         }
     }
@@ -269,7 +273,7 @@ pub(super) fn stores<R: Wait>(
 {
     let range = range_for(rt, alloc, log, list, spine, pass, text.len() as u64)?;
     drop(range.fill(log.era(), text));
-    if (list.len() as u64) < spine.buckets() {
+    if list.len() < spine.buckets() {
         return Err(LassoError::new(LassoErrorKind::FailedAllocation));
     }
     Ok(())

@@ -1,7 +1,7 @@
 //! Texts of a layout interned into a shared interner, one after another.
 ghost use Rattle.std.specs.Prelude.{◌≡◌, ◌<◌, ◌+◌, ◌^◌, MatchResult, Ok, get_or, length};
 ghost use Rattle.lasso_parts.specs.Layout.{greatest_offset};
-ghost use Rattle.lasso_log.specs.Replies.{Intern, Interned, Static};
+ghost use Rattle.lasso_log.specs.Replies.{Copied, Intern, Interned};
 ghost use Rattle.lasso_c.specs.Members.{shared_seed, texts_seen};
 ghost use Rattle.lasso_c.specs.Passes.{IsCallOf};
 ghost use Rattle.lasso_c.specs.SharedBatches.{InternsAt, InternsBatch, IsRefused, RefusesAt, SharedBatchEnds, shared_report};
@@ -132,7 +132,7 @@ fn code_at<O: Offset>(
 // Interns the text, the one of this number in a batch, and returns its code, or the status of its refusal.
 fn intern_text(member: &mut Member, text: &str, at: usize) -> Result<u32, u32>
     ensures reply { MatchResult result
-        (λ code. IsCallOf member.old.pass member.new.pass (Intern Static text.now) (Interned (Ok (code + 1))))
+        (λ code. IsCallOf member.old.pass member.new.pass (Intern Copied text.now) (Interned (Ok (code + 1))))
         (λ status. IsRefused text.now at status member.old.pass member.new.pass) }
     ensures list { member.new.list ≡ member.old.list }
     ensures seed { member.new.shared.seed ≡ member.old.shared.seed }

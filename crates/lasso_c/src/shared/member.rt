@@ -1,42 +1,35 @@
 //! A member of a shared interner: what one handle holds.
 ghost use Rattle.std.specs.Prelude.{◌≡◌, ◌-◌, ◌^◌, [], IfOk, IfSome, IsFalse, IsNone, IsTrue, None, Some, length, option_map, slice_get};
-ghost use Rattle.std.proofs.Props.{props};
 ghost use mathlib.Core.List.{IsPrefix};
 ghost use Rattle.lasso_single.specs.Copies.{clone_size, read_of};
 ghost use Rattle.lasso_log.specs.History.{opened};
-ghost use Rattle.lasso_log.specs.LentBuckets.{LentBucket};
-ghost use Rattle.lasso_log.specs.Replies.{Found, Get, Intern, Interned, Len, Number, Resolve, Resolved, Static};
+ghost use Rattle.lasso_log.specs.Replies.{Copied, Done, Found, Get, Intern, Interned, Len, MaxUsage, Number, Resolve, Resolved, SetLimit, Usage};
 ghost use Rattle.lasso_log.specs.Views.{PassView, SnapshotView};
-ghost use Rattle.lasso_shared.specs.Now.{IsOwnOf};
 ghost use Rattle.lasso_c.specs.Layout.{CopiesFront};
-ghost use Rattle.lasso_c.specs.Passes.{CopiesCall, IsCallOf, IsQuiet, texts_of};
+ghost use Rattle.lasso_c.specs.Passes.{AppendsNone, CopiesCall, IsCallOf, IsQuiet, texts_of};
 
 use crate::seed::Seed;
 use crate::seeded::Interner;
 use crate::shared::interner::SharedInterner;
 use lasso_log::log::{Pass, SeenList};
-use lasso_log::shared_memory::new_bucket::NewBucket;
 use lasso_parts::keys::Spur;
-use lasso_parts::util::{Capacity, LassoResult};
+use lasso_parts::util::{Capacity, LassoResult, MemoryLimits};
 use std::alloc::Global;
 
 // After how many texts a member keeps hints. They take 128 KiB, and a member of few calls saves less by them than they cost.
 const HINTS_AFTER: u32 = 4096;
 
-/// A count of the interner that all its handles share, the handle's own pass, the bucket that it copies new texts into, and the list
-/// that it has seen.
+/// A count of the interner that all its handles share, the handle's own pass, and the list that it has seen.
 #[derive(Drop)]
 pub struct Member {
     shared: SharedInterner<Seed>,
     pub(crate) pass: Pass<Spur>,
-    own: Option<NewBucket>,
     pub(crate) list: SeenList<Spur>,
     // How many texts were looked up, up to `HINTS_AFTER`.
     looked_up: u32,
     alloc: Global,
     ghost of: { pass.of ≡ shared.rodeo.value },
     ghost list_of: { list.of ≡ shared.rodeo.value },
-    ghost own_of: { IsOwnOf shared.rodeo.value own } by { Prim.hlevel props },
 }
 
 impl Member {
@@ -71,7 +64,6 @@ impl Member {
         Member {
             shared,
             pass,
-            own: None,
             list,
             looked_up: 0,
             alloc,
@@ -95,15 +87,13 @@ impl Member {
 
     // The key of the text, which is appended if it is absent, or `None` if another thread is inside a step.
     pub(crate) fn intern(&mut self, text: &str) -> Option<LassoResult<Spur>>
-        ensures call { IfSome result (λ r. IsCallOf self.old.pass self.new.pass (Intern Static text.now) (Interned r)) }
-        ensures busy { IsNone result → IsQuiet self.old.pass self.new.pass }
+        ensures call { IfSome result (λ r. IsCallOf self.old.pass self.new.pass (Intern Copied text.now) (Interned r)) }
+        ensures busy { IsNone result → AppendsNone text.now self.old.pass self.new.pass }
         ensures list { self.new.list ≡ self.old.list }
         ensures seed { self.new.shared.seed ≡ self.old.shared.seed }
     {
         self.count();
-        self.shared
-            .rodeo
-            .intern_now_as(&mut self.pass, &mut self.own, text)
+        self.shared.rodeo.intern_now_as(&mut self.pass, text)
     }
 
     // The key of the text, if it is there, or `None` if another thread is inside a step.
@@ -176,6 +166,41 @@ impl Member {
         ensures { option_map (λ t. t.now) result ≡ slice_get (texts_of self.now.list) code }
     {
         self.shared.rodeo.text_at(&self.list, code)
+    }
+
+    // How many bytes all buckets take, or `None` if another thread is inside a step.
+    pub(crate) fn memory(&mut self) -> Option<usize>
+        ensures call { IfSome result (λ n. IsCallOf self.old.pass self.new.pass Usage (Number n)) }
+        ensures busy { IsNone result → IsQuiet self.old.pass self.new.pass }
+        ensures list { self.new.list ≡ self.old.list }
+        ensures seed { self.new.shared.seed ≡ self.old.shared.seed }
+    {
+        self.shared
+            .rodeo
+            .current_memory_usage_now_as(&mut self.pass)
+    }
+
+    // How many bytes they may take, or `None` if another thread is inside a step.
+    pub(crate) fn limit(&mut self) -> Option<usize>
+        ensures call { IfSome result (λ n. IsCallOf self.old.pass self.new.pass MaxUsage (Number n)) }
+        ensures busy { IsNone result → IsQuiet self.old.pass self.new.pass }
+        ensures list { self.new.list ≡ self.old.list }
+        ensures seed { self.new.shared.seed ≡ self.old.shared.seed }
+    {
+        self.shared.rodeo.max_memory_usage_now_as(&mut self.pass)
+    }
+
+    // Sets how many bytes they may take, unless another thread is inside a step. Returns whether it did.
+    pub(crate) fn set_limit(&mut self, limit: usize) -> bool
+        ensures call { IsTrue result → IsCallOf self.old.pass self.new.pass (SetLimit limit) Done }
+        ensures busy { IsFalse result → self.new.pass ≡ self.old.pass }
+        ensures list { self.new.list ≡ self.old.list }
+        ensures seed { self.new.shared.seed ≡ self.old.shared.seed }
+    {
+        let limits = MemoryLimits::new(limit);
+        self.shared
+            .rodeo
+            .set_memory_limits_now_as(&mut self.pass, limits)
     }
 
     // How many texts there are.

@@ -3,7 +3,7 @@ ghost use Rattle.std.specs.Prelude.{◌≡◌, ◌≢◌, ◌+◌, [], ◌∷◌
 ghost use Rattle.lasso_log.specs.History.{Reserve, IsLegal};
 ghost use Rattle.lasso_log.specs.Notes.{Since, state};
 ghost use Rattle.lasso_log.specs.Pieces.{RangeView};
-ghost use Rattle.lasso_log.specs.SharedBuckets.{SharedView, HasTaken, LacksRoom, IsRangeOf, IsNoteOf};
+ghost use Rattle.lasso_log.specs.SharedBuckets.{SharedView, HasTaken, LacksRoom, IsRangeOf, IsNoteOf, joined};
 ghost use Rattle.lasso_log.specs.Views.{PassView, IsSamePass, seen};
 
 use crate::log::note::Note;
@@ -91,19 +91,45 @@ impl<K: Key> SharedBucket<K> {
         ensures full { IfNone result (LacksRoom (state log.now.opening pass.new.notes) self.now.position bytes) }
         ensures legal { IsLegal K.key_at log.now.opening (seen pass.new) }
     {
-        let room = self.size - self.base;
         for _ in rt.forever() {
-            let taken = self.taken(log, pass);
-            if room < bytes || room - bytes < taken {
-                pass.prove_legal();
-                return None;
-            }
-            if let Some(right) = log.reserve_at(self, taken, bytes, pass) {
-                let start = self.base + taken;
-                pass.prove_legal();
-                return Some(Range::new(self.ptr, start as usize, bytes as usize, right));
+            if let Some(found) = self.try_reserve_now(log, pass, bytes) {
+                return found;
             }
         }
         unreachable!()
+    }
+
+    /// Takes bytes as `try_reserve` does, without waiting. It returns `None` if another thread takes bytes at the same time,
+    /// and an inner `None` if they do not fit. No event is added in either case.
+    #[tactic(auto, using(crate::proofs::Tickets::since_trans))]
+    pub fn try_reserve_now(
+        &self,
+        log: &Log<K>,
+        pass: &mut Pass<K>,
+        bytes: u64,
+    ) -> Option<Option<Range>>
+        requires of { (pass.old.of ≡ log.now) × (self.now.of ≡ log.now) }
+        requires some { bytes ≢ 0 }
+        ensures same { IsSamePass pass.new pass.old }
+        ensures event { IfSome (joined result) (λ r. Since pass.old.number pass.old.notes pass.new.notes (Reserve self.now.position bytes ∷ [])) }
+        ensures note { IfSome (joined result) (λ r. IsNoteOf pass.old.number pass.new.notes (Reserve self.now.position bytes) self.now.site) }
+        ensures range { IfSome (joined result) (λ r. IsRangeOf self.now pass.new.notes r bytes) }
+        ensures none { IfNone (joined result) (Since pass.old.number pass.old.notes pass.new.notes []) }
+        ensures full { IfSome result (λ r. IfNone r (LacksRoom (state log.now.opening pass.new.notes) self.now.position bytes)) }
+        ensures legal { IsLegal K.key_at log.now.opening (seen pass.new) }
+    {
+        let room = self.size - self.base;
+        let taken = self.taken(log, pass);
+        if room < bytes || room - bytes < taken {
+            pass.prove_legal();
+            return Some(None);
+        }
+        let Some(right) = log.reserve_at(self, taken, bytes, pass) else {
+            pass.prove_legal();
+            return None;
+        };
+        let start = self.base + taken;
+        pass.prove_legal();
+        Some(Some(Range::new(self.ptr, start as usize, bytes as usize, right)))
     }
 }

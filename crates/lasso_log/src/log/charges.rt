@@ -1,8 +1,8 @@
 //! What a spine does if no bucket has room for a text: it adds one, or the limit refuses the text.
-ghost use Rattle.std.specs.Prelude.{◌≡◌, ◌≢◌, ◌+◌, ◌<◌, ◌≤◌, ◌^◌, ◌∷◌, [], length, Some, IfOk, IfErr, IfSome, OnOk, OnErr};
-ghost use Rattle.lasso_parts.specs.declared.util.LassoErrorKind.TheVariants.{FailedAllocation, MemoryLimitReached};
+ghost use Rattle.std.specs.Prelude.{◌≡◌, ◌≢◌, ◌+◌, ◌<◌, ◌≤◌, ◌^◌, ◌∷◌, [], length, Some, IfOk, IfErr, IfSome, IsNone, IsTrue, OnOk, OnErr};
+ghost use Rattle.lasso_parts.specs.declared.util.LassoErrorKind.TheVariants.{FailedAllocation};
 ghost use Rattle.lasso_log.specs.Buckets.{bucket_size};
-ghost use Rattle.lasso_log.specs.Charges.{AddsCharge, AddsChargeOf, IsRefusal, NotesCharge};
+ghost use Rattle.lasso_log.specs.Charges.{AddsCharge, IsRefusal, NotesCharge, next_size};
 ghost use Rattle.lasso_log.specs.Chunks.{era_named};
 ghost use Rattle.lasso_log.specs.History.{Charge, IsLegal};
 ghost use Rattle.lasso_log.specs.LentBuckets.{LentBucket};
@@ -56,58 +56,112 @@ impl<K: Key> Log<K> {
         ensures err { OnErr result (Since pass.old.number pass.old.notes pass.new.notes [] × (spine.new ≡ spine.old)) }
         ensures legal { IsLegal K.key_at self.now.opening (seen pass.new) }
     {
-        let (range, bucket) = self.charge_new(rt, alloc, list, spine, pass, bytes)?;
-        list.push_front(rt, bucket);
-        Ok(range)
+        for _ in rt.forever() {
+            if let Some(reply) = self.charge_now(alloc, list, spine, pass, bytes) {
+                return reply;
+            }
+            spin_loop();
+        }
+        unreachable!()
     }
 
-    // Adds the bucket to the history, and returns it. The caller puts it into the list, which has room for it from then on: it
-    // is made before the step that adds the bucket, so that nothing can fail after that step.
-    fn charge_new<R: Wait>(
+    /// Adds a bucket as `charge` does, without waiting. It returns `None` if `charge` would wait; no event is added then,
+    /// and the spine stays as it is.
+    pub fn charge_now(
         &self,
-        rt: &R,
         alloc: Global,
         list: &BucketList<K>,
         spine: &mut Spine<K>,
         pass: &mut Pass<K>,
         bytes: u64,
-    ) -> LassoResult<(Range, SharedBucket<K>)>
-        requires of { (pass.old.of ≡ self.now) × (spine.old.of ≡ self.now) }
+    ) -> Option<LassoResult<Range>>
+        requires of { (pass.old.of ≡ self.now) × (spine.old.of ≡ self.now) × (list.now ≡ names_with_book self.now) }
         requires some { bytes ≢ 0 }
         requires room { NoneHasRoom (state self.now.opening pass.old.notes) spine.old.turns.count bytes }
         ensures same { IsSamePass pass.new pass.old × IsSameSpine spine.new spine.old × (spine.new.kept ≡ spine.old.kept) }
-        ensures event { IfOk result (λ r. AddsChargeOf spine.old.turns bytes r.1.size pass.old pass.new) }
-        ensures range { IfOk result (λ r. (r.0.era ≡ era_named self.now.chunks) × (site_of r.0 ≡ r.1.site) × (r.0.len ≡ bytes)) }
-        ensures note { IfOk result (λ r. IsNoteOf pass.old.number pass.new.notes (Charge r.1.size bytes) (site_of r.0)) }
-        ensures bucket { IfOk result (λ r. (r.1.of ≡ self.now) × (r.1.position ≡ spine.old.turns.count)) }
-        ensures turns { OnOk result ((spine.new.turns.notes ≡ pass.new.notes) × (spine.new.turns.count ≡ spine.old.turns.count + 1)) }
-        ensures refused { IfErr result (IsRefusal self.now spine.old.notes pass.old.notes pass.new.notes bytes) }
-        ensures err { OnErr result (Since pass.old.number pass.old.notes pass.new.notes [] × (spine.new ≡ spine.old)) }
+        ensures event { IfSome result (λ r. OnOk r (AddsCharge spine.old.turns bytes pass.old pass.new)) }
+        ensures range { IfSome result (λ r. IfOk r (λ range. (range.era ≡ era_named self.now.chunks) × (range.len ≡ bytes))) }
+        ensures bucket { IfSome result (λ r. IfOk r (λ range. NotesCharge spine.old.turns bytes pass.old pass.new (site_of range))) }
+        ensures turns { IfSome result (λ r. OnOk r ((spine.new.turns.notes ≡ pass.new.notes) × (spine.new.turns.count ≡ spine.old.turns.count + 1))) }
+        ensures refused { IfSome result (λ r. IfErr r (IsRefusal self.now spine.old.notes pass.old.notes pass.new.notes bytes)) }
+        ensures err { IfSome result (λ r. OnErr r (Since pass.old.number pass.old.notes pass.new.notes [] × (spine.new ≡ spine.old))) }
+        ensures busy { IsNone result → Since pass.old.number pass.old.notes pass.new.notes [] × (spine.new ≡ spine.old) }
         ensures legal { IsLegal K.key_at self.now.opening (seen pass.new) }
     {
+        pass.prove_legal();
         let Some(size) = spine.turns.bucket_for(bytes) else {
-            self.prove_limit(rt, spine, pass, bytes);
-            pass.prove_legal();
-            return Err(LassoError::new(LassoErrorKind::MemoryLimitReached));
+            if self.is_past_limit(spine, pass, bytes) {
+                return Some(Err(LassoError::new(LassoErrorKind::MemoryLimitReached)));
+            }
+            return None;
         };
+        let (range, bucket) = match self.charge_new(alloc, list, spine, pass, bytes, size)? {
+            Ok(made) => made,
+            Err(error) => return Some(Err(error)),
+        };
+        // Its cell is made. If that were filled, the bucket would be in no list, and nobody would take more of its bytes.
+        let _ = list.try_push(bucket);
+        Some(Ok(range))
+    }
+
+    // Adds a bucket of this size to the history, and returns it. The caller puts it into the list, which has room for it from
+    // then on: that is made before the step that adds the bucket, so that nothing can fail after that step.
+    fn charge_new(
+        &self,
+        alloc: Global,
+        list: &BucketList<K>,
+        spine: &mut Spine<K>,
+        pass: &mut Pass<K>,
+        bytes: u64,
+        size: u64,
+    ) -> Option<LassoResult<(Range, SharedBucket<K>)>>
+        requires of { (pass.old.of ≡ self.now) × (spine.old.of ≡ self.now) }
+        requires some { bytes ≢ 0 }
+        requires room { NoneHasRoom (state self.now.opening pass.old.notes) spine.old.turns.count bytes }
+        requires size { next_size spine.old.turns bytes ≡ Some size }
+        requires within { (bytes ≤ size) × (spine.old.turns.usage + size ≤ spine.old.turns.limit) }
+        ensures same { IsSamePass pass.new pass.old × IsSameSpine spine.new spine.old × (spine.new.kept ≡ spine.old.kept) }
+        ensures event { IfSome result (λ r. OnOk r (Since pass.old.number pass.old.notes pass.new.notes (Charge size bytes ∷ []))) }
+        ensures range { IfSome result (λ r. IfOk r (λ made. (made.0.era ≡ era_named self.now.chunks) × (made.0.len ≡ bytes))) }
+        ensures note { IfSome result (λ r. IfOk r (λ made. IsNoteOf pass.old.number pass.new.notes (Charge size bytes) (site_of made.0))) }
+        ensures bucket { IfSome result (λ r. IfOk r (λ made. made.1.of ≡ self.now)) }
+        ensures turns { IfSome result (λ r. OnOk r ((spine.new.turns.notes ≡ pass.new.notes) × (spine.new.turns.count ≡ spine.old.turns.count + 1))) }
+        ensures refused { IfSome result (λ r. IfErr r (λ error. error ≡ FailedAllocation)) }
+        ensures err { IfSome result (λ r. OnErr r ((pass.new ≡ pass.old) × (spine.new ≡ spine.old))) }
+        ensures busy { IsNone result → (pass.new ≡ pass.old) × (spine.new ≡ spine.old) }
+        ensures legal { IsLegal K.key_at self.now.opening (seen pass.new) }
+    {
         pass.prove_legal();
         if spine.turns.count >= u64::MAX - 2 {
-            return Err(LassoError::new(LassoErrorKind::FailedAllocation));
+            return Some(Err(LassoError::new(LassoErrorKind::FailedAllocation)));
         }
-        list.reserve_one()?;
-        let mut bucket = self.new_bucket(rt, alloc, size)?;
+        let is_made = match list.make_room(alloc, spine.turns.count) {
+            Ok(is_made) => is_made,
+            Err(error) => return Some(Err(error)),
+        };
+        if !is_made {
+            return None;
+        }
+        let made = match self.new_bucket(alloc, size) {
+            Ok(made) => made,
+            Err(error) => return Some(Err(error)),
+        };
+        let mut bucket = made?;
         let Some(range) = bucket.reserve(bytes as usize) else {
             unreachable!()
         };
-        let shared = self.charge_with(rt, spine, bucket, pass);
+        let Some(shared) = self.charge_with(spine, bucket, pass) else {
+            range.let_go();
+            return None;
+        };
         pass.prove_legal();
-        Ok((range, shared))
+        Some(Ok((range, shared)))
     }
 
-    /// A bucket of `size` bytes that no history has, and that no limit counts. The log owns its memory, and frees
-    /// it. It returns `None` if another thread is adding a bucket, and fails only out of memory
-    /// (`FailedAllocation`). It does not wait.
-    pub fn own_bucket(&self, alloc: Global, size: u64) -> LassoResult<Option<NewBucket>>
+    // A bucket of `size` bytes that no history has, and that no limit counts. The log owns its memory, and frees
+    // it. It returns `None` if another thread is adding a bucket, and fails only out of memory
+    // (`FailedAllocation`). It does not wait.
+    fn new_bucket(&self, alloc: Global, size: u64) -> LassoResult<Option<NewBucket>>
         requires { size ≢ 0 }
         ensures bucket { IfOk result (λ r. IfSome r (λ b. (b.site.era ≡ era_named self.now.chunks) × (b.size ≡ size) × (b.used ≡ 0))) }
         ensures refused { IfErr result (λ error. error ≡ FailedAllocation) }
@@ -125,31 +179,14 @@ impl<K: Key> Log<K> {
         Ok(Some(made?))
     }
 
-    // A bucket that no history has yet. The log owns its memory, and frees it.
-    fn new_bucket<R: Wait>(&self, rt: &R, alloc: Global, size: u64) -> LassoResult<NewBucket>
-        requires { size ≢ 0 }
-        ensures bucket { IfOk result (λ b. (b.site.era ≡ era_named self.now.chunks) × (b.size ≡ size) × (b.used ≡ 0)) }
-        ensures refused { IfErr result (λ error. error ≡ FailedAllocation) }
-    {
-        let (guard, mut holdings) = self.memory.holdings.lock(rt);
-        let made = NewBucket::with_capacity(
-            alloc,
-            self.memory.chunks.era(),
-            &mut holdings,
-            size as usize,
-        );
-        guard.unlock(rt, holdings);
-        made
-    }
-
-    // Adds the bucket, and counts it in the spine's turns.
-    fn charge_with<R: Wait>(
+    // Adds the bucket if no turn came after the spine's, and counts it in the spine's turns. Otherwise it returns `None`, and
+    // no event is added; it also does so if the turn word is 2^64 - 1.
+    fn charge_with(
         &self,
-        rt: &R,
         spine: &mut Spine<K>,
         bucket: NewBucket,
         pass: &mut Pass<K>,
-    ) -> SharedBucket<K>
+    ) -> Option<SharedBucket<K>>
         requires of { (pass.old.of ≡ self.now) × (spine.old.of ≡ self.now) }
         requires era { bucket.site.era ≡ era_named self.now.chunks }
         requires some { bucket.used ≢ 0 }
@@ -158,16 +195,19 @@ impl<K: Key> Log<K> {
         requires within { spine.old.turns.usage + bucket.size ≤ spine.old.turns.limit }
         requires more { spine.old.turns.count + 2 < 2 ^ 64 }
         ensures same { IsSamePass pass.new pass.old × IsSameSpine spine.new spine.old × (spine.new.kept ≡ spine.old.kept) }
-        ensures event { Since pass.old.number pass.old.notes pass.new.notes (Charge bucket.size bucket.used ∷ []) }
-        ensures note { IsNoteOf pass.old.number pass.new.notes (Charge bucket.size bucket.used) bucket.site }
-        ensures bucket { IsSharedAt self.now spine.old.turns.count bucket result }
-        ensures turns { (spine.new.turns.notes ≡ pass.new.notes) × (spine.new.turns.count ≡ spine.old.turns.count + 1) }
+        ensures event { IfSome result (λ b. Since pass.old.number pass.old.notes pass.new.notes (Charge bucket.size bucket.used ∷ [])) }
+        ensures note { IfSome result (λ b. IsNoteOf pass.old.number pass.new.notes (Charge bucket.size bucket.used) bucket.site) }
+        ensures bucket { IfSome result (IsSharedAt self.now spine.old.turns.count bucket) }
+        ensures turns { IfSome result (λ b. (spine.new.turns.notes ≡ pass.new.notes) × (spine.new.turns.count ≡ spine.old.turns.count + 1)) }
+        ensures busy { IsNone result → (pass.new ≡ pass.old) × (spine.new ≡ spine.old) }
     {
-        self.wait_for_a_turn(rt, spine);
         let turns = &spine.turns;
+        if turns.turns == u64::MAX {
+            return None;
+        }
         let (taken, size) = (bucket.taken as u64, bucket.size as u64);
         let doubling = turns.doubling_for(taken);
-        let shared = self.add_new(rt, turns, bucket, pass);
+        let shared = self.add_new(turns, bucket, pass)?;
         let (turns, usage, limit, count) = (
             turns.turns + 1,
             turns.usage + size,
@@ -182,41 +222,27 @@ impl<K: Key> Log<K> {
             count,
             seen: pass.copy_seen(),
         };
-        shared
+        Some(shared)
     }
 
-    // Returns if the turn word can count one turn more. At 2^64 - 1 it waits for ever.
-    fn wait_for_a_turn<R: Wait>(&self, rt: &R, spine: &Spine<K>)
-        ensures { spine.now.turns.turns + 1 < 2 ^ 64 }
-    {
-        if spine.turns.turns < u64::MAX {
-            return;
-        }
-        for _ in rt.forever() {
-            spin_loop();
-        }
-        unreachable!()
-    }
-
-    // Lets the pass see a step at which the limit refuses the bytes. The length is loaded before the turn word: if the word
-    // still has the value of the spine's turns, no turn came in between, so both loads hold of one step.
-    fn prove_limit<R: Wait>(&self, rt: &R, spine: &Spine<K>, pass: &mut Pass<K>, bytes: u64)
+    // Whether the limit refuses the bytes at a step that the pass then sees. The length is loaded before the turn word: if the
+    // word still has the value of the spine's turns, no turn came in between, so both loads hold of one step.
+    fn is_past_limit(&self, spine: &Spine<K>, pass: &mut Pass<K>, bytes: u64) -> bool
         requires of { (pass.old.of ≡ self.now) × (spine.now.of ≡ self.now) }
         requires room { NoneHasRoom (state self.now.opening pass.old.notes) spine.now.turns.count bytes }
         requires above { spine.now.turns.limit < spine.now.turns.usage + bytes }
         ensures same { IsSamePass pass.new pass.old }
         ensures since { Since pass.old.number pass.old.notes pass.new.notes [] }
-        ensures past { IsPastLimit self.now.opening pass.old.notes pass.new.notes (length (list_of self.now spine.now.notes)) bytes }
+        ensures past { IsTrue result → IsPastLimit self.now.opening pass.old.notes pass.new.notes (length (list_of self.now spine.now.notes)) bytes }
+        ensures legal { IsLegal K.key_at self.now.opening (seen pass.new) }
     {
         pass.learn_seen(&spine.turns.seen);
-        for _ in rt.forever() {
-            let len = self.len(pass);
-            let is_at = self.is_at(&spine.turns, pass);
-            if is_at && len == spine.len() {
-                return;
-            }
-            spin_loop();
+        let len = self.len(pass);
+        let is_at = self.is_at(&spine.turns, pass);
+        pass.prove_legal();
+        if is_at && len == spine.len() {
+            return true;
         }
-        unreachable!()
+        false
     }
 }

@@ -1,14 +1,12 @@
 //! The step that adds a bucket to a history, and hands in the right to its bytes that are not taken. Used by the spine.
-ghost use Rattle.std.specs.Prelude.{◌≡◌, ◌≢◌, ◌+◌, ◌<◌, ◌≤◌, ◌^◌, ◌∷◌, [], Some};
-ghost use mathlib.Core.List.{IsPrefix};
+ghost use Rattle.std.specs.Prelude.{◌≡◌, ◌≢◌, ◌+◌, ◌<◌, ◌≤◌, ◌^◌, ◌∷◌, [], Some, IfSome, IsNone};
 ghost use Rattle.lasso_log.specs.Bids.{IsSameBid, IsTried, Serves};
-ghost use Rattle.lasso_log.specs.Book.{IsIn};
 ghost use Rattle.lasso_log.specs.Buckets.{bucket_size};
 ghost use Rattle.lasso_log.specs.Charges.{IsTurnedBy};
 ghost use Rattle.lasso_log.specs.History.{Charge};
 ghost use Rattle.lasso_log.specs.LentBuckets.{LentBucket};
 ghost use Rattle.lasso_log.specs.NewBuckets.{IsSharedAs};
-ghost use Rattle.lasso_log.specs.Notes.{Since, opening_of, state};
+ghost use Rattle.lasso_log.specs.Notes.{Since, state};
 ghost use Rattle.lasso_log.specs.SharedBuckets.{SharedView, IsNoteOf};
 ghost use Rattle.lasso_log.specs.Chunks.{era_named};
 ghost use Rattle.lasso_log.specs.Turns.{NoneHasRoom};
@@ -26,8 +24,6 @@ use crate::log::turns::Turns;
 use crate::shared_memory::new_bucket::NewBucket;
 use lasso_parts::keys::Key;
 use logbook::{Offer, Pen, Seen};
-use std::hint::spin_loop;
-use std::sync::Wait;
 
 /// What a pass needs to add a bucket: the log that it has seen, the offer, and its ticket's pen.
 #[derive(Drop)]
@@ -38,8 +34,8 @@ struct Bid<K: Key> {
 }
 
 impl<K: Key> Log<K> {
-    // Adds the offered note if the turn word has this value, and returns whether it did. If not, the returned bid can be
-    // tried again. The contract alone reads `before` and `given`: the offer was made for these two states.
+    // Adds the offered note if the turn word has this value, and returns whether it did. If not, the returned bid is still
+    // good. The contract alone reads `before` and `given`: the offer was made for these two states.
     fn offer_once(
         &self,
         turns: u64,
@@ -70,49 +66,15 @@ impl<K: Key> Log<K> {
         (Bid { seen, offer, pen }, found == turns)
     }
 
-    // Tries the bid until the turn word has this value. It waits while the word has another one.
-    #[tactic(auto, using(crate::proofs::Histories::prefix_trans, crate::proofs::Histories::prefix_self))]
-    fn offer<R: Wait>(
+    /// Adds a bucket by one exchange of the turn word. The book has the right to its bytes that are not taken
+    /// from then on. None of the buckets that the turns know has room for the bytes that are taken. It returns
+    /// `None` if the turn word has another value than theirs, and adds no event then.
+    pub(super) fn add_new(
         &self,
-        rt: &R,
-        turns: u64,
-        before: &Seen<Note, u64, LogRule<K>>,
-        given: &Seen<Note, u64, LogRule<K>>,
-        bid: Bid<K>,
-    ) -> Seen<Note, u64, LogRule<K>>
-        requires of { bid.seen.book ≡ self.now.book }
-        requires sum { turns + 1 < 2 ^ 64 }
-        requires bid { Serves K.key_at before.now.log given.now.log turns bid }
-        ensures same { (result.book ≡ bid.seen.book) × (result.names ≡ bid.seen.names) × IsPrefix bid.seen.log result.log }
-        ensures done { IsIn K.key_at (opening_of before.now.log) before.now.log given.now.log result.log bid.offer.ask 1 1 turns }
-    {
-        let mut bid = bid;
-        for _ in rt.forever() {
-            let (tried, done) = self.offer_once(turns, before, given, bid);
-            if done {
-                let Bid {
-                    seen,
-                    offer: _,
-                    pen: _,
-                } = tried;
-                return seen;
-            }
-            bid = tried;
-            spin_loop();
-        }
-        unreachable!()
-    }
-
-    /// Adds a bucket by the exchange of the turn word. The book has the right to its bytes that are not taken
-    /// from then on. None of the buckets that the turns know has room for the bytes that are taken. It waits
-    /// while the turn word has another value than theirs.
-    pub(super) fn add_new<R: Wait>(
-        &self,
-        rt: &R,
         turns: &Turns<K>,
         bucket: NewBucket,
         pass: &mut Pass<K>,
-    ) -> SharedBucket<K>
+    ) -> Option<SharedBucket<K>>
         requires of { (pass.old.of ≡ self.now) × (turns.now.of ≡ self.now) }
         requires era { bucket.site.era ≡ era_named self.now.chunks }
         requires some { bucket.used ≢ 0 }
@@ -121,10 +83,11 @@ impl<K: Key> Log<K> {
         requires within { turns.now.usage + bucket.size ≤ turns.now.limit }
         requires more { (turns.now.turns + 1 < 2 ^ 64) × (turns.now.count + 2 < 2 ^ 64) }
         ensures same { IsSamePass pass.new pass.old }
-        ensures event { Since pass.old.number pass.old.notes pass.new.notes (Charge bucket.size bucket.used ∷ []) }
-        ensures note { IsNoteOf pass.old.number pass.new.notes (Charge bucket.size bucket.used) bucket.site }
-        ensures bucket { IsSharedAs self.now turns.now.count bucket 0 result }
-        ensures turns { IsTurnedBy K.key_at self.now.opening pass.new.notes turns.now bucket }
+        ensures event { IfSome result (λ b. Since pass.old.number pass.old.notes pass.new.notes (Charge bucket.size bucket.used ∷ [])) }
+        ensures note { IfSome result (λ b. IsNoteOf pass.old.number pass.new.notes (Charge bucket.size bucket.used) bucket.site) }
+        ensures bucket { IfSome result (IsSharedAs self.now turns.now.count bucket 0) }
+        ensures turns { IfSome result (λ b. IsTurnedBy K.key_at self.now.opening pass.new.notes turns.now bucket) }
+        ensures busy { IsNone result → pass.new ≡ pass.old }
     {
         let NewBucket {
             ptr,
@@ -151,17 +114,26 @@ impl<K: Key> Log<K> {
         let pen = std::mem::replace(&mut pass.ticket.pen, seen.no_pen());
         let before = pass.seen.again();
         let bid = Bid { seen, offer, pen };
-        let after = self.offer(rt, turns.turns, &before, &given, bid);
-        let word = pass.ticket.use_up(next);
-        pass.seen = after;
-        SharedBucket {
-            word,
-            ptr,
-            size: size as u64,
-            base: 0,
-            position: turns.count,
-            site,
-            seen: pass.seen.again(),
+        let (tried, done) = self.offer_once(turns.turns, &before, &given, bid);
+        let Bid {
+            seen: after,
+            offer: _,
+            pen,
+        } = tried;
+        if done {
+            let word = pass.ticket.use_up(next);
+            pass.seen = after;
+            return Some(SharedBucket {
+                word,
+                ptr,
+                size: size as u64,
+                base: 0,
+                position: turns.count,
+                site,
+                seen: pass.seen.again(),
+            });
         }
+        pass.ticket.take_back(pen);
+        None
     }
 }

@@ -1,5 +1,5 @@
 //! What a spine does about the memory limit of an interner: it replaces the limit, and reads it and the usage.
-ghost use Rattle.std.specs.Prelude.{◌≡◌, ◌∷◌, []};
+ghost use Rattle.std.specs.Prelude.{◌≡◌, ◌∷◌, [], IfSome};
 ghost use Rattle.lasso_log.specs.Charges.{AreLast, TriesLimit};
 ghost use Rattle.lasso_log.specs.History.{Limit, IsLegal};
 ghost use Rattle.lasso_log.specs.Notes.{Since, state};
@@ -32,8 +32,9 @@ impl<K: Key> Log<K> {
         unreachable!()
     }
 
-    // Replaces the limit if no turn came after the spine's, and returns whether it did. Otherwise nothing changes.
-    fn try_limit(&self, spine: &mut Spine<K>, pass: &mut Pass<K>, limit: u64) -> bool
+    /// Replaces the limit if no turn came after the spine's, and returns whether it did. Otherwise nothing changes. It does
+    /// not wait.
+    pub fn try_limit(&self, spine: &mut Spine<K>, pass: &mut Pass<K>, limit: u64) -> bool
         requires { (pass.old.of ≡ self.now) × (spine.old.of ≡ self.now) }
         ensures same { IsSamePass pass.new pass.old × IsSameSpine spine.new spine.old × (spine.new.kept ≡ spine.old.kept) }
         ensures done { TriesLimit limit result pass.old pass.new spine.old spine.new }
@@ -50,6 +51,33 @@ impl<K: Key> Log<K> {
     {
         self.wait_for(rt, spine, pass);
         spine.turns.usage
+    }
+
+    /// The bytes that all buckets take, at one step. It takes no memory. It returns `None` if the turns are not the spine's,
+    /// and does not wait.
+    pub fn usage_now(&self, spine: &Spine<K>, pass: &mut Pass<K>) -> Option<u64>
+        requires { (pass.old.of ≡ self.now) × (spine.now.of ≡ self.now) }
+        ensures same { IsSamePass pass.new pass.old }
+        ensures since { Since pass.old.number pass.old.notes pass.new.notes [] }
+        ensures reply { IfSome result (λ usage. usage ≡ (state self.now.opening pass.new.notes).usage) }
+    {
+        if !self.is_at(&spine.turns, pass) {
+            return None;
+        }
+        Some(spine.turns.usage)
+    }
+
+    /// The most bytes that all buckets may take, at one step, as `usage_now` returns what they take.
+    pub fn max_usage_now(&self, spine: &Spine<K>, pass: &mut Pass<K>) -> Option<u64>
+        requires { (pass.old.of ≡ self.now) × (spine.now.of ≡ self.now) }
+        ensures same { IsSamePass pass.new pass.old }
+        ensures since { Since pass.old.number pass.old.notes pass.new.notes [] }
+        ensures reply { IfSome result (λ limit. limit ≡ (state self.now.opening pass.new.notes).limit) }
+    {
+        if !self.is_at(&spine.turns, pass) {
+            return None;
+        }
+        Some(spine.turns.limit)
     }
 
     /// The most bytes that all buckets may take, at one step. It takes no memory. It waits if the turns are not the spine's.

@@ -34,6 +34,16 @@ impl<K: Key> Ticket<K> {
         self.word.store(&mut self.pen, value);
     }
 
+    /// Takes its pen back, with which its word was written, and writes 0 there: so it was before.
+    pub fn take_back(&mut self, pen: Pen)
+        requires { (self.old.word ≡ word_of pen.book pen.nib.key) × (pen.nib.right ≡ may_write) }
+        ensures word { self.new.word ≡ self.old.word }
+        ensures pen { (self.new.pen.book ≡ pen.book) × (self.new.pen.nib ≡ nib may_write pen.nib.key 0) }
+    {
+        self.pen = pen;
+        self.set(0);
+    }
+
     /// Uses the ticket: `next` takes its place, and its word is returned.
     pub fn use_up(&mut self, next: Ticket<K>) -> Word<Note, u64, LogRule<K>>
         ensures next { self.new ≡ next }

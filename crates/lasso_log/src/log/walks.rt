@@ -4,7 +4,7 @@ ghost use Rattle.lasso_log.specs.Chunks.{era_named};
 ghost use Rattle.lasso_log.specs.History.{IsLegal};
 ghost use Rattle.lasso_log.specs.Notes.{Since, state};
 ghost use Rattle.lasso_log.specs.Pieces.{RangeView};
-ghost use Rattle.lasso_log.specs.SharedBuckets.{SharedView, IsReserved, ReservesAmong, names_with_book};
+ghost use Rattle.lasso_log.specs.SharedBuckets.{SharedView, IsReserved, ReservesAmong, joined, names_with_book};
 ghost use Rattle.lasso_log.specs.Turns.{NoneHasRoom};
 ghost use Rattle.lasso_log.specs.Views.{PassView, InternerId, SpineView, TurnsView, IsSamePass, seen};
 
@@ -15,6 +15,7 @@ use crate::log::shared_log::Log;
 use crate::log::spine::Spine;
 use crate::shared_memory::piece::Range;
 use lasso_parts::keys::Key;
+use std::hint::spin_loop;
 use std::sync::Wait;
 
 impl<K: Key> Log<K> {
@@ -31,7 +32,6 @@ impl<K: Key> Log<K> {
     /// them. It returns `None` only if none of these buckets has room for them, and adds no event then. It
     /// takes no memory. It waits while another thread takes bytes at the same time, and if a bucket is not
     /// in the list yet.
-    #[tactic(auto, using(crate::proofs::Tickets::since_trans))]
     pub fn reserve<R: Wait>(
         &self,
         rt: &R,
@@ -49,14 +49,43 @@ impl<K: Key> Log<K> {
         ensures full { IfNone result (NoneHasRoom (state self.now.opening pass.new.notes) spine.now.turns.count bytes) }
         ensures legal { IsLegal K.key_at self.now.opening (seen pass.new) }
     {
-        for position in 0..spine.buckets() {
-            let bucket = list.find(rt, self, position);
-            if let Some(range) = bucket.try_reserve(rt, self, pass, bytes) {
-                return Some(range);
+        for _ in rt.forever() {
+            if let Some(found) = self.reserve_now(list, spine, pass, bytes) {
+                return found;
+            }
+            spin_loop();
+        }
+        unreachable!()
+    }
+
+    /// Takes bytes as `reserve` does, without waiting, in the newest bucket that has room. It returns `None` if `reserve`
+    /// would wait, and an inner `None` if none of the buckets has room. No event is added in either case.
+    pub fn reserve_now(
+        &self,
+        list: &BucketList<K>,
+        spine: &Spine<K>,
+        pass: &mut Pass<K>,
+        bytes: u64,
+    ) -> Option<Option<Range>>
+        requires of { (pass.old.of ≡ self.now) × (spine.now.of ≡ self.now) × (list.now ≡ names_with_book self.now) }
+        requires some { bytes ≢ 0 }
+        ensures same { IsSamePass pass.new pass.old }
+        ensures event { IfSome (joined result) (λ r. ReservesAmong self.now spine.now.turns.count pass.old pass.new r bytes) }
+        ensures range { IfSome (joined result) (λ r. (r.era ≡ era_named self.now.chunks) × (r.len ≡ bytes)) }
+        ensures none { IfNone (joined result) (Since pass.old.number pass.old.notes pass.new.notes []) }
+        ensures full { IfSome result (λ r. IfNone r (NoneHasRoom (state self.now.opening pass.new.notes) spine.now.turns.count bytes)) }
+        ensures legal { IsLegal K.key_at self.now.opening (seen pass.new) }
+    {
+        let count = spine.buckets();
+        for newer in 0..count {
+            pass.prove_legal();
+            let bucket = list.find_now(self, count - 1 - newer)?;
+            if let Some(range) = bucket.try_reserve_now(self, pass, bytes)? {
+                return Some(Some(range));
             }
         }
         pass.prove_legal();
-        None
+        Some(None)
     }
 
     /// Takes bytes, at least one, in a bucket of the list, the newest first, without the spine, and returns
@@ -77,20 +106,19 @@ impl<K: Key> Log<K> {
         ensures none { IfNone result (Since pass.old.number pass.old.notes pass.new.notes []) }
         ensures legal { IsLegal K.key_at self.now.opening (seen pass.new) }
     {
-        let Some(newest) = list.newest() else {
-            return self.reserve_older(rt, list, pass, bytes);
-        };
-        if let Some(range) = self.reserve_in(rt, newest, pass, bytes) {
+        let newest = list.newest();
+        if let Some(range) = self.reserve_in(rt, list, newest, pass, bytes) {
             return Some(range);
         }
-        self.reserve_older(rt, list, pass, bytes)
+        self.reserve_older(rt, list, newest, pass, bytes)
     }
 
-    // Takes bytes as `reserve_anywhere` does, in the oldest bucket that has room.
+    // Takes bytes as `reserve_anywhere` does, in the oldest of the first `count` buckets that has room.
     fn reserve_older<R: Wait>(
         &self,
         rt: &R,
         list: &BucketList<K>,
+        count: u64,
         pass: &mut Pass<K>,
         bytes: u64,
     ) -> Option<Range>
@@ -102,11 +130,8 @@ impl<K: Key> Log<K> {
         ensures none { IfNone result (Since pass.old.number pass.old.notes pass.new.notes []) }
         ensures legal { IsLegal K.key_at self.now.opening (seen pass.new) }
     {
-        if let Some(range) = self.reserve_in(rt, list.first(), pass, bytes) {
-            return Some(range);
-        }
-        for (_, bucket) in list.later() {
-            if let Some(range) = self.reserve_in(rt, bucket, pass, bytes) {
+        for number in 0..count {
+            if let Some(range) = self.reserve_in(rt, list, number, pass, bytes) {
                 return Some(range);
             }
         }
@@ -114,15 +139,16 @@ impl<K: Key> Log<K> {
         None
     }
 
-    // Takes bytes, at least one, in a bucket of the log's book.
+    // Takes bytes, at least one, in the bucket of this number, if it is in the list.
     fn reserve_in<R: Wait>(
         &self,
         rt: &R,
-        bucket: &SharedBucket<K>,
+        list: &BucketList<K>,
+        number: u64,
         pass: &mut Pass<K>,
         bytes: u64,
     ) -> Option<Range>
-        requires of { (pass.old.of ≡ self.now) × (names_with_book bucket.now.of ≡ names_with_book self.now) }
+        requires of { (pass.old.of ≡ self.now) × (list.now ≡ names_with_book self.now) }
         requires some { bytes ≢ 0 }
         ensures same { IsSamePass pass.new pass.old }
         ensures event { IfSome result (λ r. (b : SharedView) × (b.of ≡ self.now) × IsReserved b pass.old.number pass.old.notes pass.new.notes r bytes) }
@@ -130,7 +156,8 @@ impl<K: Key> Log<K> {
         ensures none { IfNone result (Since pass.old.number pass.old.notes pass.new.notes []) }
         ensures legal { IsLegal K.key_at self.now.opening (seen pass.new) }
     {
-        self.prove_shared_opening(bucket);
+        pass.prove_legal();
+        let bucket = list.find_now(self, number)?;
         bucket.try_reserve(rt, self, pass, bytes)
     }
 }

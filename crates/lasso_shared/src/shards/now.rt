@@ -1,25 +1,26 @@
 //! Calls that do not wait, for callers that may not wait: an exported function of a static library takes no right to it.
 //!
 //! Where a waiting call waits for a lock, these look a few times, and then return `None`. The pass has made no event then, and the
-//! caller may try again. A new text is copied into a bucket of the caller's own, which no history has and no limit counts. So to a
-//! history it is a text that is kept where it is.
-ghost use Rattle.std.specs.Prelude.{◌≡◌, ◌<◌, ◌-◌, [], IfErr, IfOk, IfSome, IsNone, OnOk};
+//! caller may try again. A new text's shard and the spine are locked before its bytes are taken: so nobody is in the way from then
+//! on. That is not proved: the bytes may stay taken if a word moves while the spine is locked, as the contracts say.
+ghost use Rattle.std.specs.Prelude.{◌≡◌, ◌≢◌, ◌<◌, ◌-◌, [], List, Err, IfErr, IfOk, IfSome, IsNone, OnErr, OnOk};
 ghost use base.Fml.{Incl};
 ghost use mathlib.Core.List.{IsPrefix};
 ghost use Rattle.lasso_parts.specs.declared.util.LassoErrorKind.TheVariants.{FailedAllocation};
 ghost use Rattle.lasso_parts.specs.Hashing.{hash_by};
 ghost use Rattle.lasso_parts.specs.Index.{room};
 ghost use Rattle.lasso_parts.specs.Texts.{key_of};
+ghost use Rattle.lasso_log.specs.Calls.{Stores, TakesBytes};
+ghost use Rattle.lasso_log.specs.Charges.{IsRefusal};
 ghost use Rattle.lasso_log.specs.Chunks.{era_named};
 ghost use Rattle.lasso_log.specs.Eras.{life};
-ghost use Rattle.lasso_log.specs.History.{Lacks};
-ghost use Rattle.lasso_log.specs.LentBuckets.{LentBucket};
+ghost use Rattle.lasso_log.specs.History.{Event, Lacks};
 ghost use Rattle.lasso_log.specs.Notes.{Since};
-ghost use Rattle.lasso_log.specs.Pieces.{PieceView};
-ghost use Rattle.lasso_log.specs.Replies.{Found, Get, Intern, Interned, Static};
-ghost use Rattle.lasso_log.specs.Views.{PassView, InternerId, SnapshotView, SpineView, IsSamePass, list_of};
+ghost use Rattle.lasso_log.specs.Pieces.{PieceView, RangeView};
+ghost use Rattle.lasso_log.specs.Replies.{Copied, Found, Get, Intern, Interned};
+ghost use Rattle.lasso_log.specs.Views.{PassView, InternerId, SnapshotView, SpineView, IsSamePass, IsSameSpine, list_of};
 ghost use Rattle.lasso_shared.specs.Locked.{IsLocked, IsWholeFor};
-ghost use Rattle.lasso_shared.specs.Now.{IsOwnOf};
+ghost use Rattle.lasso_shared.specs.Now.{MayStore};
 ghost use Rattle.lasso_shared.specs.PassCalls.{IsPassCall};
 ghost use Rattle.lasso_shared.specs.Shards.{IsTally, PutsLast, shard_of};
 
@@ -28,15 +29,11 @@ use crate::shards::shard::{BoxedTally, Shard, Tally};
 use crate::shards::tag::number_of;
 use lasso_lock::locks::TaggedMutexGuard;
 use lasso_log::log::{KeptCell, Pass};
-use lasso_log::shared_memory::new_bucket::NewBucket;
-use lasso_log::shared_memory::piece::Piece;
+use lasso_log::shared_memory::piece::{Piece, Range};
 use lasso_parts::index::hash_text;
 use lasso_parts::keys::Key;
 use lasso_parts::util::{LassoError, LassoErrorKind, LassoResult};
 use std::hash::BuildHasher;
-
-// How many bytes a caller's own bucket has at least.
-const OWN_BYTES: usize = 65536;
 
 impl<K: Key, S: BuildHasher + Drop> Shards<K, S> {
     // Locks the spine as `lock_current` does. It returns `None` if the spine is locked, or if the shard is not current.
@@ -134,33 +131,60 @@ impl<K: Key, S: BuildHasher + Drop> Shards<K, S> {
         Ok(())
     }
 
-    // Copies the text into the caller's own bucket, or into a new one that takes its place.
-    fn copy_now(&self, own: &mut Option<NewBucket>, text: &str) -> LassoResult<Option<Piece>>
-        requires { IsOwnOf self.now.log own.old }
-        ensures own { IsOwnOf self.now.log own.new }
-        ensures piece { IfOk result (λ r. IfSome r (λ p. (p.text ≡ text.now) × Incl (life (era_named self.now.log.chunks)) p.until)) }
-        ensures refused { IfErr result (λ error. error ≡ FailedAllocation) }
+    // Takes `bytes` bytes, at least one, with the spine locked, as `reserve_or_charge` does.
+    fn reserve_or_charge_now(
+        &self,
+        tally: &mut Tally<K, S>,
+        pass: &mut Pass<K>,
+        bytes: u64,
+    ) -> Option<LassoResult<Range>>
+        requires of { (pass.old.of ≡ self.now.log) × (tally.old.spine.of ≡ self.now.log) }
+        requires some { bytes ≢ 0 }
+        ensures same { IsSamePass pass.new pass.old }
+        ensures tally { IsSameSpine tally.new.spine tally.old.spine × (tally.new.counts ≡ tally.old.counts) }
+        ensures event { IfSome result (λ r. OnOk r ((own : List Event) × TakesBytes bytes own × Since pass.old.number pass.old.notes pass.new.notes own)) }
+        ensures range { IfSome result (λ r. IfOk r (λ range. (range.era ≡ era_named self.now.log.chunks) × (range.len ≡ bytes))) }
+        ensures refused { IfSome result (λ r. IfErr r (IsRefusal self.now.log tally.old.spine.notes pass.old.notes pass.new.notes bytes)) }
+        ensures err { IfSome result (λ r. OnErr r (Since pass.old.number pass.old.notes pass.new.notes [])) }
+        ensures busy { IsNone result → Since pass.old.number pass.old.notes pass.new.notes [] }
+    {
+        if let Some(range) = self
+            .log
+            .reserve_now(&self.buckets, &tally.spine, pass, bytes)?
+        {
+            return Some(Ok(range));
+        }
+        self.log
+            .charge_now(self.alloc, &self.buckets, &mut tally.spine, pass, bytes)
+    }
+
+    // Copies a text that the list lacks into a bucket of the history, as `store` does. The spine is locked, and its list is the
+    // pass's.
+    fn store_now(
+        &self,
+        tally: &mut Tally<K, S>,
+        pass: &mut Pass<K>,
+        text: &str,
+    ) -> Option<LassoResult<Piece>>
+        requires of { (pass.old.of ≡ self.now.log) × (tally.old.spine.of ≡ self.now.log) }
+        requires list { list_of self.now.log pass.old.notes ≡ list_of self.now.log tally.old.spine.notes }
+        requires lacks { Lacks (list_of self.now.log pass.old.notes) text.now }
+        ensures same { IsSamePass pass.new pass.old }
+        ensures tally { IsSameSpine tally.new.spine tally.old.spine × (tally.new.counts ≡ tally.old.counts) }
+        ensures event { IfSome result (λ r. OnOk r ((own : List Event) × Stores Copied text.now own × Since pass.old.number pass.old.notes pass.new.notes own)) }
+        ensures piece { IfSome result (λ r. IfOk r (λ p. (p.text ≡ text.now) × Incl (life (era_named self.now.log.chunks)) p.until)) }
+        ensures refused { IfSome result (λ r. IfErr r (λ error. IsPassCall K.key_at self.now.log pass.old pass.new (Intern Copied text.now) (Interned (Err error)))) }
+        ensures busy { IsNone result → Since pass.old.number pass.old.notes pass.new.notes [] }
     {
         if text.is_empty() {
-            return Ok(Some(Piece::from_static("")));
+            return Some(Ok(Piece::from_static("")));
         }
-        let bytes = text.len();
-        if let Some(bucket) = own {
-            if let Some(range) = bucket.reserve(bytes) {
-                return Ok(Some(range.fill(self.log.era(), text)));
-            }
-        }
-        let Some(mut bucket) = self
-            .log
-            .own_bucket(self.alloc, bytes.max(OWN_BYTES) as u64)?
-        else {
-            return Ok(None);
+        let reply = self.reserve_or_charge_now(tally, pass, text.len() as u64)?;
+        let range = match reply {
+            Ok(range) => range,
+            Err(error) => return Some(Err(error)),
         };
-        let Some(range) = bucket.reserve(bytes) else {
-            unreachable!()
-        };
-        *own = Some(bucket);
-        Ok(Some(range.fill(self.log.era(), text)))
+        Some(Ok(range.fill(self.log.era(), text)))
     }
 
     // Appends the text as `append_at` does. Where that would wait, it returns `None`, and nothing is appended.
@@ -205,18 +229,59 @@ impl<K: Key, S: BuildHasher + Drop> Shards<K, S> {
         Some(Ok(key))
     }
 
+    // Stores the bytes of a text that the shard lacks, and puts the text last in the cell that was kept for it. The shard is
+    // locked, and so is the spine.
+    fn store_and_append_now(
+        &self,
+        tally: &mut Tally<K, S>,
+        shard: &mut Shard<K, S>,
+        pass: &mut Pass<K>,
+        cell: KeptCell<K>,
+        hash: u64,
+        text: &str,
+    ) -> Option<LassoResult<K>>
+        requires of { (pass.old.of ≡ self.now.log) × (cell ≡ self.now.log) }
+        requires hashed { hash ≡ hash_by S.BuildHasher S.Hasher.Hasher self.now.hasher text.now }
+        requires held { IsLocked (hash_by S.BuildHasher S.Hasher.Hasher self.now.hasher) (shard_of hash) self.now.log shard.old }
+        requires tally { IsTally (hash_by S.BuildHasher S.Hasher.Hasher self.now.hasher) self.now.log tally.old.spine tally.old.counts }
+        requires whole { IsWholeFor (hash_by S.BuildHasher S.Hasher.Hasher self.now.hasher) (shard_of hash) self.now.log shard.old pass.old }
+        requires list { list_of self.now.log pass.old.notes ≡ list_of self.now.log tally.old.spine.notes }
+        requires lacks { Lacks (list_of self.now.log shard.old.known.notes) text.now }
+        requires room { 0 < room shard.old.index.slots }
+        ensures same { IsSamePass pass.new pass.old }
+        ensures call { IfSome result (λ r. IsPassCall K.key_at self.now.log pass.old pass.new (Intern Copied text.now) (Interned r)) }
+        ensures busy { IsNone result → MayStore text.now pass.old pass.new }
+        ensures held { IsLocked (hash_by S.BuildHasher S.Hasher.Hasher self.now.hasher) (shard_of hash) self.now.log shard.new }
+        ensures tally { IsTally (hash_by S.BuildHasher S.Hasher.Hasher self.now.hasher) self.now.log tally.new.spine tally.new.counts }
+    {
+        let Some(stored) = self.store_now(tally, pass, text) else {
+            tally.spine.give_back(cell);
+            return None;
+        };
+        let piece = match stored {
+            Ok(piece) => piece,
+            Err(error) => {
+                tally.spine.give_back(cell);
+                return Some(Err(error));
+            }
+        };
+        if !self.is_current(tally, shard, pass, number_of(hash)) {
+            tally.spine.give_back(cell);
+            return None;
+        }
+        self.append_at_now(tally, shard, pass, cell, hash, piece)
+    }
+
     // Interns a text that the shard lacks. The shard is locked, and so is the spine.
     fn put_now(
         &self,
         tally: &mut Tally<K, S>,
         shard: &mut Shard<K, S>,
         pass: &mut Pass<K>,
-        own: &mut Option<NewBucket>,
         hash: u64,
         text: &str,
     ) -> Option<LassoResult<K>>
         requires of { pass.old.of ≡ self.now.log }
-        requires own { IsOwnOf self.now.log own.old }
         requires hashed { hash ≡ hash_by S.BuildHasher S.Hasher.Hasher self.now.hasher text.now }
         requires held { IsLocked (hash_by S.BuildHasher S.Hasher.Hasher self.now.hasher) (shard_of hash) self.now.log shard.old }
         requires tally { IsTally (hash_by S.BuildHasher S.Hasher.Hasher self.now.hasher) self.now.log tally.old.spine tally.old.counts }
@@ -224,25 +289,19 @@ impl<K: Key, S: BuildHasher + Drop> Shards<K, S> {
         requires list { list_of self.now.log pass.old.notes ≡ list_of self.now.log tally.old.spine.notes }
         requires lacks { Lacks (list_of self.now.log shard.old.known.notes) text.now }
         ensures same { IsSamePass pass.new pass.old }
-        ensures call { IfSome result (λ r. IsPassCall K.key_at self.now.log pass.old pass.new (Intern Static text.now) (Interned r)) }
-        ensures busy { IsNone result → pass.new ≡ pass.old }
+        ensures call { IfSome result (λ r. IsPassCall K.key_at self.now.log pass.old pass.new (Intern Copied text.now) (Interned r)) }
+        ensures busy { IsNone result → MayStore text.now pass.old pass.new }
         ensures held { IsLocked (hash_by S.BuildHasher S.Hasher.Hasher self.now.hasher) (shard_of hash) self.now.log shard.new }
         ensures tally { IsTally (hash_by S.BuildHasher S.Hasher.Hasher self.now.hasher) self.now.log tally.new.spine tally.new.counts }
-        ensures own { IsOwnOf self.now.log own.new }
     {
         if let Err(error) = self.grow_index(shard, pass, number_of(hash)) {
             return Some(Err(error));
         }
-        let piece = match self.copy_now(own, text) {
-            Ok(Some(piece)) => piece,
-            Ok(None) => return None,
-            Err(error) => return Some(Err(error)),
-        };
         let cell = match self.log.reserve_next(self.alloc, &mut tally.spine) {
             Ok(cell) => cell,
             Err(error) => return Some(Err(error)),
         };
-        self.append_at_now(tally, shard, pass, cell, hash, piece)
+        self.store_and_append_now(tally, shard, pass, cell, hash, text)
     }
 
     // Interns a text whose shard the caller has locked, as `intern_held` does.
@@ -250,19 +309,16 @@ impl<K: Key, S: BuildHasher + Drop> Shards<K, S> {
         &self,
         shard: &mut Shard<K, S>,
         pass: &mut Pass<K>,
-        own: &mut Option<NewBucket>,
         hash: u64,
         text: &str,
     ) -> Option<LassoResult<K>>
         requires of { pass.old.of ≡ self.now.log }
-        requires own { IsOwnOf self.now.log own.old }
         requires hashed { hash ≡ hash_by S.BuildHasher S.Hasher.Hasher self.now.hasher text.now }
         requires held { IsLocked (hash_by S.BuildHasher S.Hasher.Hasher self.now.hasher) (shard_of hash) self.now.log shard.old }
         ensures same { IsSamePass pass.new pass.old }
-        ensures call { IfSome result (λ r. IsPassCall K.key_at self.now.log pass.old pass.new (Intern Static text.now) (Interned r)) }
-        ensures busy { IsNone result → Since pass.old.number pass.old.notes pass.new.notes [] }
+        ensures call { IfSome result (λ r. IsPassCall K.key_at self.now.log pass.old pass.new (Intern Copied text.now) (Interned r)) }
+        ensures busy { IsNone result → MayStore text.now pass.old pass.new }
         ensures held { IsLocked (hash_by S.BuildHasher S.Hasher.Hasher self.now.hasher) (shard_of hash) self.now.log shard.new }
-        ensures own { IsOwnOf self.now.log own.new }
     {
         if let Some(key) = self.find(shard, pass, hash, text) {
             return Some(Ok(key));
@@ -270,7 +326,7 @@ impl<K: Key, S: BuildHasher + Drop> Shards<K, S> {
         let Some((guard, mut held)) = self.lock_current_now(shard, pass, number_of(hash)) else {
             return None;
         };
-        let reply = self.put_now(&mut held.tally, shard, pass, own, hash, text);
+        let reply = self.put_now(&mut held.tally, shard, pass, hash, text);
         guard.put_back(held);
         reply
     }
@@ -278,25 +334,17 @@ impl<K: Key, S: BuildHasher + Drop> Shards<K, S> {
     // Interns a text that the first look-up did not find, as `intern_new` does.
     #[inline(never)]
     #[tactic(auto, using(crate::proofs::Whole::since_self))]
-    fn intern_new_now(
-        &self,
-        pass: &mut Pass<K>,
-        own: &mut Option<NewBucket>,
-        hash: u64,
-        text: &str,
-    ) -> Option<LassoResult<K>>
+    fn intern_new_now(&self, pass: &mut Pass<K>, hash: u64, text: &str) -> Option<LassoResult<K>>
         requires of { pass.old.of ≡ self.now.log }
-        requires own { IsOwnOf self.now.log own.old }
         requires hashed { hash ≡ hash_by S.BuildHasher S.Hasher.Hasher self.now.hasher text.now }
         ensures same { IsSamePass pass.new pass.old }
-        ensures call { IfSome result (λ r. IsPassCall K.key_at self.now.log pass.old pass.new (Intern Static text.now) (Interned r)) }
-        ensures busy { IsNone result → Since pass.old.number pass.old.notes pass.new.notes [] }
-        ensures own { IsOwnOf self.now.log own.new }
+        ensures call { IfSome result (λ r. IsPassCall K.key_at self.now.log pass.old pass.new (Intern Copied text.now) (Interned r)) }
+        ensures busy { IsNone result → MayStore text.now pass.old pass.new }
     {
         let Some((guard, mut shard)) = self.lock(number_of(hash)).write_now() else {
             return None;
         };
-        let reply = self.intern_held_now(&mut shard.shard, pass, own, hash, text);
+        let reply = self.intern_held_now(&mut shard.shard, pass, hash, text);
         guard.put_back(shard);
         reply
     }
@@ -322,27 +370,19 @@ impl<K: Key, S: BuildHasher + Drop> Shards<K, S> {
         Some(found)
     }
 
-    /// Returns the text's key, and appends a copy of an absent text first. A new text may fail out of memory
-    /// (`FailedAllocation`), and else fails if the key type has no key for its position (`KeySpaceExhaustion`); no event is
-    /// added then. `own` is the caller's own bucket, or none yet.
-    pub fn intern_now(
-        &self,
-        pass: &mut Pass<K>,
-        own: &mut Option<NewBucket>,
-        text: &str,
-    ) -> Option<LassoResult<K>>
+    /// Returns the text's key, and appends a copy of an absent text first, as `intern_copied` does. If it returns `None`, no text was
+    /// appended; the bytes of an absent one may stay taken.
+    pub fn intern_now(&self, pass: &mut Pass<K>, text: &str) -> Option<LassoResult<K>>
         requires of { pass.old.of ≡ self.now.log }
-        requires own { IsOwnOf self.now.log own.old }
         ensures same { IsSamePass pass.new pass.old }
-        ensures call { IfSome result (λ r. IsPassCall K.key_at self.now.log pass.old pass.new (Intern Static text.now) (Interned r)) }
-        ensures busy { IsNone result → Since pass.old.number pass.old.notes pass.new.notes [] }
-        ensures own { IsOwnOf self.now.log own.new }
+        ensures call { IfSome result (λ r. IsPassCall K.key_at self.now.log pass.old pass.new (Intern Copied text.now) (Interned r)) }
+        ensures busy { IsNone result → MayStore text.now pass.old pass.new }
     {
         let hash = hash_text(&self.hasher, text);
         match self.peek_now(pass, hash, text) {
             None => None,
             Some(Some(key)) => Some(Ok(key)),
-            Some(None) => self.intern_new_now(pass, own, hash, text),
+            Some(None) => self.intern_new_now(pass, hash, text),
         }
     }
 }

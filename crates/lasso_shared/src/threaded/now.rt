@@ -1,44 +1,98 @@
 //! Calls of a shared interner that do not wait, with a pass. If the waiting call would wait, they look again a few times, and return
 //! `None`; the caller tries again.
-ghost use Rattle.std.specs.Prelude.{◌≡◌, [], IfSome, IsNone, option_map, slice_get};
+ghost use Rattle.std.specs.Prelude.{◌≡◌, [], IfSome, IsFalse, IsNone, IsTrue, option_map, slice_get};
 ghost use Rattle.lasso_log.specs.History.{IsLegal, IsOpening};
-ghost use Rattle.lasso_log.specs.LentBuckets.{LentBucket};
 ghost use Rattle.lasso_log.specs.Notes.{Since};
-ghost use Rattle.lasso_log.specs.Replies.{Get, Found, Static, Intern, Interned};
+ghost use Rattle.lasso_log.specs.Replies.{Copied, Done, Found, Get, Intern, Interned, MaxUsage, Number, SetLimit, Usage};
 ghost use Rattle.lasso_log.specs.Views.{PassView, InternerId, SnapshotView, IsSamePass, list_of, seen};
-ghost use Rattle.lasso_shared.specs.Now.{IsOwnOf};
+ghost use Rattle.lasso_shared.specs.Now.{MayStore};
 ghost use Rattle.lasso_shared.specs.PassCalls.{IsPassCall};
 
 use crate::threaded::ThreadedRodeo;
 use lasso_log::log::{Pass, SeenList};
-use lasso_log::shared_memory::new_bucket::NewBucket;
 use lasso_parts::keys::Key;
-use lasso_parts::util::LassoResult;
+use lasso_parts::util::{LassoResult, MemoryLimits};
 use std::hash::BuildHasher;
 
 impl<K: Key, S: BuildHasher + Drop> ThreadedRodeo<K, S> {
-    /// Returns the text's key, and appends a copy of an absent text first. The copy is in `own`, a bucket of the caller's that no limit
-    /// counts, and that is made if there is none or its bytes are taken. Interning a text that the pass had seen never fails. A new one may
-    /// fail out of memory (`FailedAllocation`), and else fails if the key type has no key for its position (`KeySpaceExhaustion`); no event
-    /// is added then. It returns `None` if other calls are in the way, and adds no event then. It does not wait.
-    pub fn intern_now_as(
-        &self,
-        pass: &mut Pass<K>,
-        own: &mut Option<NewBucket>,
-        text: &str,
-    ) -> Option<LassoResult<K>>
-        requires of { pass.old.of ≡ self.now }
-        requires own { IsOwnOf self.now own.old }
+    /// Returns the text's key, and appends a copy of an absent text first, as `try_get_or_intern_as` does, with its errors. It
+    /// returns `None` if other calls are in the way: no text was appended then. Of an absent text the bytes may stay taken; that
+    /// this never happens is tested. It does not wait.
+    ///
+    /// ```rust
+    /// let rodeo: SpurThreadedRodeo = ThreadedRodeo::default(rt.alloc())?;
+    /// let mut pass = rodeo.pass();
+    /// assert!(rt; rodeo.set_memory_limits_now_as(&mut pass, MemoryLimits::new(10)));
+    /// assert!(rt; rodeo.max_memory_usage_now_as(&mut pass) == Some(10));
+    /// assert!(rt; rodeo.current_memory_usage_now_as(&mut pass) == Some(4096));
+    /// let Some(key) = rodeo.intern_now_as(&mut pass, "Hello, world!") else {
+    ///     return Ok(());
+    /// };
+    /// assert!(rt; rodeo.get_now_as(&mut pass, "Hello, world!") == Some(Some(key?)));
+    /// ```
+    pub fn intern_now_as(&self, pass: &mut Pass<K>, text: &str) -> Option<LassoResult<K>>
+        requires { pass.old.of ≡ self.now }
         ensures same { IsSamePass pass.new pass.old }
-        ensures call { IfSome result (λ r. IsPassCall K.key_at self.now pass.old pass.new (Intern Static text.now) (Interned r)) }
-        ensures busy { IsNone result → Since pass.old.number pass.old.notes pass.new.notes [] }
-        ensures own { IsOwnOf self.now own.new }
+        ensures call { IfSome result (λ r. IsPassCall K.key_at self.now pass.old pass.new (Intern Copied text.now) (Interned r)) }
+        ensures busy { IsNone result → MayStore text.now pass.old pass.new }
         ensures opening { IsOpening K.key_at self.now.opening }
         ensures legal { IsLegal K.key_at self.now.opening (seen pass.new) }
     {
-        let reply = self.shards.intern_now(pass, own, text);
+        let reply = self.shards.intern_now(pass, text);
         pass.prove_legal();
         reply
+    }
+
+    /// The bytes that all buckets take, as `current_memory_usage_as` does. It returns `None` if other calls are in the way. It takes
+    /// no memory and does not wait.
+    pub fn current_memory_usage_now_as(&self, pass: &mut Pass<K>) -> Option<usize>
+        requires { pass.old.of ≡ self.now }
+        ensures same { IsSamePass pass.new pass.old }
+        ensures call { IfSome result (λ usage. IsPassCall K.key_at self.now pass.old pass.new Usage (Number usage)) }
+        ensures busy { IsNone result → Since pass.old.number pass.old.notes pass.new.notes [] }
+        ensures opening { IsOpening K.key_at self.now.opening }
+        ensures legal { IsLegal K.key_at self.now.opening (seen pass.new) }
+    {
+        let Some(usage) = self.shards.usage_now(pass) else {
+            pass.prove_legal();
+            return None;
+        };
+        pass.prove_legal();
+        Some(usage as usize)
+    }
+
+    /// The most bytes that all buckets may take, as `max_memory_usage_as` does. It returns `None` if other calls are in the way. It
+    /// takes no memory and does not wait.
+    pub fn max_memory_usage_now_as(&self, pass: &mut Pass<K>) -> Option<usize>
+        requires { pass.old.of ≡ self.now }
+        ensures same { IsSamePass pass.new pass.old }
+        ensures call { IfSome result (λ limit. IsPassCall K.key_at self.now pass.old pass.new MaxUsage (Number limit)) }
+        ensures busy { IsNone result → Since pass.old.number pass.old.notes pass.new.notes [] }
+        ensures opening { IsOpening K.key_at self.now.opening }
+        ensures legal { IsLegal K.key_at self.now.opening (seen pass.new) }
+    {
+        let Some(limit) = self.shards.max_usage_now(pass) else {
+            pass.prove_legal();
+            return None;
+        };
+        pass.prove_legal();
+        Some(limit as usize)
+    }
+
+    /// Sets the most bytes that all buckets may take, as `set_memory_limits_as` does, and returns whether it did. If other calls are
+    /// in the way it does not, and adds no event. It takes no memory and does not wait.
+    pub fn set_memory_limits_now_as(&self, pass: &mut Pass<K>, limits: MemoryLimits) -> bool
+        requires { pass.old.of ≡ self.now }
+        ensures same { IsSamePass pass.new pass.old }
+        ensures call { IsTrue result → IsPassCall K.key_at self.now pass.old pass.new (SetLimit limits) Done }
+        ensures busy { IsFalse result → pass.new ≡ pass.old }
+        ensures opening { IsOpening K.key_at self.now.opening }
+        ensures legal { IsLegal K.key_at self.now.opening (seen pass.new) }
+    {
+        let limit = limits.max_memory_usage();
+        let done = self.shards.set_limit_now(pass, limit as u64);
+        pass.prove_legal();
+        done
     }
 
     /// The text's key, or an inner `None` if it is not in the list. It returns `None` if other calls are in the way. It takes no memory and

@@ -98,7 +98,7 @@ fn taken<R: Wait>(rt: &R, log: &Log<Spur>, list: &BucketList<Spur>) -> u64
 {
     let mut sum: u64 = 0;
     for position in 0..list.len() {
-        sum = sum.saturating_add(bucket_at(rt, log, list, &mut log.pass(), position as u64).1);
+        sum = sum.saturating_add(bucket_at(rt, log, list, &mut log.pass(), position).1);
     }
     sum
 }

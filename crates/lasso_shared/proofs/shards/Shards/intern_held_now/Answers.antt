@@ -1,22 +1,23 @@
-use Rattle.std.proofs.Common.{◌≡◌, ℕ, [], sym, subst, ◌∙◌}
-use Rattle.std.specs.Prelude.{IfSome}
-use Rattle.lasso_log.specs.Calls.{IsCall}
+use Rattle.std.proofs.Common.{◌≡◌, ℕ, List, [], inl, refl, subst, ◌∙◌}
+use Rattle.std.specs.Prelude.{◌⊎◌, IfSome}
+use Rattle.lasso_log.specs.Calls.{IsCall, Stores}
+use Rattle.lasso_log.specs.History.{Event}
 use Rattle.lasso_log.specs.Notes.{Since}
-use Rattle.lasso_log.specs.Replies.{Static, Intern, Interned}
-use Rattle.lasso_log.specs.Views.{PassView, seen}
-use Rattle.lasso_shared.proofs.Now.{called_later_if}
+use Rattle.lasso_log.specs.Replies.{Copied, Intern, Interned}
+use Rattle.lasso_log.specs.Views.{seen}
+use Rattle.lasso_shared.proofs.Now.{called_later_if, store_later}
 use Rattle.lasso_shared.proofs.Whole.{since_both}
 use Rattle.lasso_shared.proofs.shards.Shards.intern_held_now.Goals as goal
 
 pub returns-in_default-lock_current_now-clause-busy : goal.returns-in_default-lock_current_now-clause-busy
 returns-in_default-lock_current_now-clause-busy g c =
-    λ none. since_both c.args.pass.now.number c.find.new.pass.number c.args.pass.now.notes c.find.new.pass.notes c.lock_current_now.new.pass.notes c.find.ensures.same.0 c.find.ensures.since c.lock_current_now.ensures.since
+    λ none. ([], inl refl, since_both c.args.pass.now.number c.find.new.pass.number c.args.pass.now.notes c.find.new.pass.notes c.lock_current_now.new.pass.notes c.find.ensures.same.0 c.find.ensures.since c.lock_current_now.ensures.since)
 
 pub returns-clause-call : goal.returns-clause-call
 returns-clause-call g c =
     let p = c.args.pass.now.number in
     let log = c.args.self.now.log in
-    let q = Intern Static c.args.text.now in
+    let q = Intern Copied c.args.text.now in
     let o = c.put_now-reply.result in
     let mid = seen c.lock_current_now.new.pass in
     let after = seen c.put_now-reply.new.pass in
@@ -27,5 +28,11 @@ returns-clause-call g c =
 
 pub returns-clause-busy : goal.returns-clause-busy
 returns-clause-busy g c = λ none.
-    let since = since_both c.args.pass.now.number c.find.new.pass.number c.args.pass.now.notes c.find.new.pass.notes c.lock_current_now.new.pass.notes c.find.ensures.same.0 c.find.ensures.since c.lock_current_now.ensures.since in
-    subst (λ (v : PassView). Since c.args.pass.now.number c.args.pass.now.notes v.notes []) (sym (c.put_now-reply.ensures.busy none)) since
+    let p = c.args.pass.now.number in
+    let mid = c.lock_current_now.new.pass in
+    let after = c.put_now-reply.new.pass in
+    let t = c.args.text.now in
+    let same : mid.number ≡ p = c.lock_current_now.ensures.same.0 ∙ c.find.ensures.same.0 in
+    let since = since_both p c.find.new.pass.number c.args.pass.now.notes c.find.new.pass.notes mid.notes c.find.ensures.same.0 c.find.ensures.since c.lock_current_now.ensures.since in
+    let stored = subst (λ (n : ℕ). (own : List Event) × ((own ≡ []) ⊎ Stores Copied t own) × Since n mid.notes after.notes own) same (c.put_now-reply.ensures.busy none) in
+    store_later p c.args.pass.now.notes mid.notes after.notes t since stored

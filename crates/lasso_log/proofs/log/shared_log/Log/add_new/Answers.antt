@@ -17,8 +17,8 @@ use Rattle.lasso_log.proofs.Tickets.{used_word_later}
 use Rattle.lasso_log.proofs.TurnWords.{has_turns, lacks_later, same_turn, may_charge, moving_charge, charge_turned}
 use Rattle.lasso_log.proofs.log.shared_log.Log.add_new.Goals as goal
 
-pub offer-after-requires-clause-bid : goal.offer-after-requires-clause-bid
-offer-after-requires-clause-bid g c =
+pub offer_once-tried-requires-clause-bid : goal.offer_once-tried-requires-clause-bid
+offer_once-tried-requires-clause-bid g c =
     let i = c.pass.invariant in let set = c.set.ensures.pen in let offer = c.add_bucket-offer.ensures in let e = c.add_bucket-offer.result.ask in
     let a = c.pass.inside.seen.log in let v = c.learn-2.new.self.log in let t = c.turns.inside in let b = c.bucket.inside in let n : ℕ = b.taken in let numbers = b.site.numbers in let o : Totals = c.args.self.now.opening in
     let turned : IsTurned g.K.Key.key_at o (notes_of t.seen.log) t.turns t.doubling t.usage t.limit t.count =
@@ -56,14 +56,14 @@ offer-after-requires-clause-bid g c =
 
 pub invariant_of-pass : goal.invariant_of-pass
 invariant_of-pass g c =
-    let i = c.pass.invariant in let offer = c.add_bucket-offer.ensures in let e = c.add_bucket-offer.result.ask in let fact = c.offer-after.ensures.done in let same = c.offer-after.ensures.same in
-    let a = c.pass.inside.seen.log in let v = c.learn-2.new.self.log in let after = c.offer-after.result.log in
+    let i = c.pass.invariant in let offer = c.add_bucket-offer.ensures in let e = c.add_bucket-offer.result.ask in let fact = rw c.if-done.true at c.offer_once-tried.ensures.done in let same = c.offer_once-tried.ensures.same in
+    let a = c.pass.inside.seen.log in let v = c.learn-2.new.self.log in let after = c.offer_once-tried.result.0.seen.log in
     let before : c.again-before.result.log ≡ a = ap (λ s. s.log) c.again-before.ensures in
-    let book : c.offer-after.result.book ≡ c.args.self.now.book = same.0 ∙ (c.learn-2.ensures.0 ∙ (c.learn.ensures.0 ∙ (ap (λ y. y.book) c.again-seen.ensures ∙ ap (λ y. y.book) c.self.view_is))) in
-    let mine : c.pass.inside.seen.book ≡ c.offer-after.result.book = ap (λ s. s.of.book) c.pass.view_is ∙ (ap (λ x. x.book) c.requires.of.0 ∙ sym book) in
-    let names : c.offer-after.result.names ≡ c.pass.inside.seen.names = same.1 ∙ (c.learn-2.ensures.1 ∙ (c.learn.ensures.1 ∙ (ap (λ y. y.names) c.again-seen.ensures ∙ ap (λ y. y.chunks) c.self.view_is))) ∙ sym (ap (λ s. s.of.chunks) c.pass.view_is ∙ ap (λ x. x.chunks) c.requires.of.0) in
+    let book : c.offer_once-tried.result.0.seen.book ≡ c.args.self.now.book = same.0 ∙ (c.learn-2.ensures.0 ∙ (c.learn.ensures.0 ∙ (ap (λ y. y.book) c.again-seen.ensures ∙ ap (λ y. y.book) c.self.view_is))) in
+    let mine : c.pass.inside.seen.book ≡ c.offer_once-tried.result.0.seen.book = ap (λ s. s.of.book) c.pass.view_is ∙ (ap (λ x. x.book) c.requires.of.0 ∙ sym book) in
+    let names : c.offer_once-tried.result.0.seen.names ≡ c.pass.inside.seen.names = same.1 ∙ (c.learn-2.ensures.1 ∙ (c.learn.ensures.1 ∙ (ap (λ y. y.names) c.again-seen.ensures ∙ ap (λ y. y.chunks) c.self.view_is))) ∙ sym (ap (λ s. s.of.chunks) c.pass.view_is ∙ ap (λ x. x.chunks) c.requires.of.0) in
     let by : e.by ≡ first_number c.pass.inside.number.numbers = ap (λ (w : NoteView). w.by) offer.1 in
-    let past = tails a after i.3 (prefix_trans a v after c.learn-2.ensures.3 same.2) in
+    let past = tails a after i.3 (prefix_trans a v after c.learn-2.ensures.3 same.3) in
     let used = used_word_later c.pass.inside.seen.book (notes_of a) (notes_of after) c.pass.inside.used past.2 i.1 in (
       rw (c.use_up-word.ensures.next, book) c.next_ticket-next.ensures,
       subst (λ b. IfSome c.pass.inside.used (IsUsedWord b (notes_of after))) mine used,
@@ -77,13 +77,13 @@ invariant_of-pass g c =
 pub invariant_of-result : goal.invariant_of-result
 invariant_of-result g c =
     let i = c.pass.invariant in let set = c.set.ensures.pen in let offer = c.add_bucket-offer.ensures in let e = c.add_bucket-offer.result.ask in
-    let a = c.pass.inside.seen.log in let v = c.learn-2.new.self.log in let after = c.offer-after.result.log in let t = c.turns.inside in let b = c.bucket.inside in let n : ℕ = b.taken in let numbers = b.site.numbers in let o : Totals = c.args.self.now.opening in
-    let fact = c.offer-after.ensures.done in let d = fact.done in let f = first_note after in
-    let same = c.offer-after.ensures.same in
+    let a = c.pass.inside.seen.log in let v = c.learn-2.new.self.log in let after = c.offer_once-tried.result.0.seen.log in let t = c.turns.inside in let b = c.bucket.inside in let n : ℕ = b.taken in let numbers = b.site.numbers in let o : Totals = c.args.self.now.opening in
+    let fact = rw c.if-done.true at c.offer_once-tried.ensures.done in let d = fact.done in let f = first_note after in
+    let same = c.offer_once-tried.ensures.same in
     let again = c.again.ensures in
     let before : c.again-before.result.log ≡ a = ap (λ s. s.log) c.again-before.ensures in
     let given : c.again-given.result.log ≡ v = ap (λ s. s.log) c.again-given.ensures in
-    let book : c.offer-after.result.book ≡ c.args.self.now.book = same.0 ∙ (c.learn-2.ensures.0 ∙ (c.learn.ensures.0 ∙ (ap (λ y. y.book) c.again-seen.ensures ∙ ap (λ y. y.book) c.self.view_is))) in
+    let book : c.offer_once-tried.result.0.seen.book ≡ c.args.self.now.book = same.0 ∙ (c.learn-2.ensures.0 ∙ (c.learn.ensures.0 ∙ (ap (λ y. y.book) c.again-seen.ensures ∙ ap (λ y. y.book) c.self.view_is))) in
     let mine : c.pass.inside.seen.book ≡ c.again.result.book = ap (λ s. s.of.book) c.pass.view_is ∙ (ap (λ x. x.book) c.requires.of.0 ∙ (sym book ∙ sym (ap (λ s. s.book) again))) in
     let names : c.again.result.names ≡ c.args.self.now.chunks = ap (λ s. s.names) again ∙ (same.1 ∙ (c.learn-2.ensures.1 ∙ (c.learn.ensures.1 ∙ (ap (λ y. y.names) c.again-seen.ensures ∙ ap (λ y. y.chunks) c.self.view_is)))) in
     let word : c.use_up-word.result ≡ word_of c.pass.inside.seen.book c.pass.inside.ticket.pen.nib.key = c.use_up-word.ensures.word ∙ (c.set.ensures.word ∙ i.0.0) in
@@ -101,7 +101,7 @@ invariant_of-result g c =
     let all : t.count ≡ length (state f.opening d.mid).buckets = turned.all ∙ (sym calm.count ∙ ap (λ (x : Totals). length (state x d.mid).buckets) (sym opening)) in
     let one : length f.opening.buckets ≡ 1 = ap (λ (x : Totals). length x.buckets) (opening ∙ (sym (ap (λ y. y.opening) c.self.view_is) ∙ c.self.invariant.5.bucket.4)) in
     let begins : IsPrefix c.self.inside.seen.log after = subst (λ (l : List NoteView). IsPrefix l after) (ap (λ y. y.log) c.again-seen.ensures)
-    (prefix_trans c.again-seen.result.log v after (prefix_trans c.again-seen.result.log c.learn.new.self.log v c.learn.ensures.2 c.learn-2.ensures.2) same.2) in
+    (prefix_trans c.again-seen.result.log v after (prefix_trans c.again-seen.result.log c.learn.new.self.log v c.learn.ensures.2 c.learn-2.ensures.2) same.3) in
     let lent : length f.lent ≡ 1 = ap (λ (x : NoteView). length x.lent) (sym (firsts c.self.inside.seen.log after c.self.invariant.2 begins)) ∙ c.self.invariant.7 in
     let stands = stands_last f d.mid (notes_of after) d.note b.size n t.count c.use_up-word.result.key numbers one lent all event used own d.last in
     let log : c.again.result.log ≡ after = ap (λ s. s.log) again in record {
@@ -115,11 +115,11 @@ invariant_of-result g c =
       few = subst (λ (y : TurnsView). y.count + 2 < 2 ^ 64) (sym c.turns.view_is) c.requires.more.1;
     }
 
-pub returns-clause-turns : goal.returns-clause-turns
-returns-clause-turns g c =
+pub returns-then-done-clause-turns : goal.returns-then-done-clause-turns
+returns-then-done-clause-turns g c =
     let offer = c.add_bucket-offer.ensures in let e = c.add_bucket-offer.result.ask in
-    let a = c.pass.inside.seen.log in let v = c.learn-2.new.self.log in let after = notes_of c.offer-after.result.log in let t = c.turns.inside in let b = c.bucket.inside in let n : ℕ = b.taken in let o : Totals = c.args.self.now.opening in
-    let fact = c.offer-after.ensures.done in
+    let a = c.pass.inside.seen.log in let v = c.learn-2.new.self.log in let after = notes_of c.offer_once-tried.result.0.seen.log in let t = c.turns.inside in let b = c.bucket.inside in let n : ℕ = b.taken in let o : Totals = c.args.self.now.opening in
+    let fact = rw c.if-done.true at c.offer_once-tried.ensures.done in
     let before : c.again-before.result.log ≡ a = ap (λ s. s.log) c.again-before.ensures in
     let given : c.again-given.result.log ≡ v = ap (λ s. s.log) c.again-given.ensures in
     let event : e.event ≡ Charge b.size n = ap (λ (w : NoteView). w.event) offer.1 in
@@ -135,9 +135,9 @@ returns-clause-turns g c =
     subst (λ (y : TurnsView). IsTurned g.K.Key.key_at o after (y.turns + 1) (doubling_after y.doubling y.usage y.limit c.args.bucket.used) (y.usage + c.args.bucket.size) y.limit (y.count + 1)) c.turns.view_is
     (subst (λ (x : LentBucket). IsTurned g.K.Key.key_at o after (t.turns + 1) (doubling_after t.doubling t.usage t.limit x.used) (t.usage + x.size) t.limit (t.count + 1)) c.bucket.view_is found)
 
-pub returns-clause-note : goal.returns-clause-note
-returns-clause-note g c =
-    let f = c.offer-after.ensures.done in let d = f.done in let made = f.note ∙ c.add_bucket-offer.ensures.1 in record {
+pub returns-then-done-clause-note : goal.returns-then-done-clause-note
+returns-then-done-clause-note g c =
+    let f = rw c.if-done.true at c.offer_once-tried.ensures.done in let d = f.done in let made = f.note ∙ c.add_bucket-offer.ensures.1 in record {
       before = d.mid;
       note = d.note;
       last = d.last;
