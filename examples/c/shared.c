@@ -299,10 +299,46 @@ static int check_threads(struct worker *workers, int threads)
     return 0;
 }
 
+/* Interns texts of four bytes that fill the first bucket. Returns NULL if none is refused. */
+static void *fill(void *handle)
+{
+    static const char digits[] = "0123456789abcdef";
+    uint32_t code;
+    for (uint32_t number = 0; number < 1024; number++) {
+        const uint8_t text[4] = {'x', (uint8_t)digits[number >> 8], (uint8_t)digits[number >> 4 & 15], (uint8_t)digits[number & 15]};
+        if (lasso_shared_intern_wait(handle, text, sizeof text, &code) != LASSO_DONE)
+            return handle;
+    }
+    return NULL;
+}
+
+/* Threads fill the 4,096 bytes of the first bucket, and there is no other one: so no call that was busy has kept bytes. */
+static int check_last_byte(void)
+{
+    struct lasso_shared shared = LASSO_SHARED_NONE, handles[MOST_THREADS] = {LASSO_SHARED_NONE};
+    pthread_t threads[MOST_THREADS];
+    void *refused;
+    uint32_t code;
+    CHECK(lasso_shared_new(&shared) == LASSO_DONE && lasso_shared_set_limit(&shared, 0) == LASSO_DONE);
+    for (int k = 0; k < MOST_THREADS; k++) {
+        CHECK(lasso_shared_join(&shared, &handles[k]) == LASSO_DONE);
+        CHECK(pthread_create(&threads[k], NULL, fill, &handles[k]) == 0);
+    }
+    for (int k = 0; k < MOST_THREADS; k++)
+        CHECK(pthread_join(threads[k], &refused) == 0 && refused == NULL);
+    CHECK(lasso_shared_len(&shared) == 1024 && intern(&shared, "y", &code) == LASSO_LIMIT_REACHED);
+    for (int k = 0; k < MOST_THREADS; k++)
+        lasso_shared_free(&handles[k]);
+    lasso_shared_free(&shared);
+    return 0;
+}
+
 int main(void)
 {
     struct worker *workers = calloc(MOST_THREADS, sizeof *workers);
     int wrong = workers == NULL || check_calls() || check_limit() || check_many() || check_lists();
+    for (int round = 0; round < 20 && !wrong; round++)
+        wrong = check_last_byte();
     for (int threads = 1; threads <= MOST_THREADS && !wrong; threads *= 2)
         wrong = check_threads(workers, threads);
     free(workers);
