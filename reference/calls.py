@@ -97,6 +97,7 @@ def some_step(random):
         (3, ("shared_join", handle, other)),
         (1, ("shared_free", handle)),
         (2, ("shared_see", handle)),
+        (2, ("shared_set_limit", handle, limit)),
         (2, ("shared_meet", handle, other)),
         (2, ("shared_copy", handle, other)),
         (6, ("shared_intern_batch", handle, small_data, small_offsets, about(random, texts))),
@@ -317,6 +318,10 @@ class Run:
             at, live = struct.unpack("QB", memory.content()[:9])
             expect("the handle holds a shared interner", (at != 0, live), (share is not None, int(share is not None)))
             expect("lasso_shared_len", self.library.call("lasso_shared_len", SIZE, memory.at), len(share.codes) if share else 0)
+            account = share.interner.account if share else None
+            for name, number in (("lasso_shared_memory", account and account.usage), ("lasso_shared_limit", account and account.limit)):
+                bytes_now = Output(1, "Q", False)
+                self.compared(name, [[number]] if account else Refused(reference.NO_INTERNER), False, [bytes_now], memory.at, bytes_now)
         live = [share.interner for share in self.shares if share]
         self.shared_lent = [lent for lent in self.shared_lent if lent[0] in live]
         for _, address, text in self.shared_lent:
@@ -348,6 +353,12 @@ class Run:
     def shared_free(self, handle):
         self.library.call("lasso_shared_free", None, self.shared[handle].at)
         self.shares[handle] = None
+
+    def shared_set_limit(self, handle, limit):
+        status = reference.NO_INTERNER if self.shares[handle] is None else reference.DONE
+        expect("lasso_shared_set_limit: the status", self.library.call("lasso_shared_set_limit", STATUS, self.shared[handle].at, limit), status)
+        if self.shares[handle]:
+            self.shares[handle].interner.account.limit = limit
 
     def shared_see(self, handle):
         status = reference.NO_INTERNER if self.shares[handle] is None else reference.DONE
@@ -486,6 +497,13 @@ def some_filling(random):
     return random.choices(steps, [1, 1, 0.2, 10])[0]
 
 
+def some_shared_filling(random):
+    """A call that fills buckets of a shared interner."""
+    if random.random() < 0.1:
+        return ("shared_set_limit", 0, random.choice([0, 9000, 20000, 60000, ENDLESS]))
+    return ("shared_intern", 0, random.choice(PIECES).encode() * random.choice([1, 5, 14, 100, 1000, 2000, 5000]) + b"%d" % random.randrange(100))
+
+
 def some_sharing(random):
     """A call of handles of shared interners."""
     while True:
@@ -501,6 +519,8 @@ def some_steps(random):
         return [("new", 0, random.choice([0, 20000, ENDLESS, ENDLESS]), None, None)] + [some_filling(random) for _ in range(40)]
     if kind < 0.3:
         return [("shared_new", 0, None, None)] + [some_sharing(random) for _ in range(40)]
+    if kind < 0.4:
+        return [("shared_new", 0, None, None)] + [some_shared_filling(random) for _ in range(40)]
     return [("new", 0, ENDLESS, None, None)] + [some_step(random) for _ in range(random.choice([1, 5, 40]))]
 
 

@@ -207,15 +207,47 @@ def dictionary(interner, start, bytes_room, offsets_room, greatest):
     return layout(list(holding(interner).codes)[start:], bytes_room, offsets_room, greatest)
 
 
+class SharedAccount:
+    """The buckets of a shared interner, by the bytes that are left in each, under a limit."""
+
+    def __init__(self):
+        self.limit = 2**64 - 1
+        self.rooms = [4096]
+        self.usage = self.doubling = 4096
+
+    def store(self, length):
+        """Takes the bytes of a text. Whether the limit allows it; if not, nothing changes."""
+        number = max((number for number, room in enumerate(self.rooms) if room >= length), default=None)
+        if number is not None:
+            self.rooms[number] -= length
+            return True
+        if self.usage + length > self.limit:
+            return False
+        if length > 2 * self.doubling:
+            size = length
+        elif self.usage + 2 * self.doubling > self.limit:
+            size = self.limit - self.usage
+        else:
+            size = self.doubling = 2 * self.doubling
+        self.rooms.append(size - length)
+        self.usage += size
+        return True
+
+
 class Shared:
-    """What handles of an interner that threads share have in common: the list of its texts."""
+    """What handles of an interner that threads share have in common: the list of its texts, and their buckets."""
 
     def __init__(self):
         self.codes = {}
+        self.account = SharedAccount()
 
     def intern(self, text):
         """The code of a text, which is appended if it is absent."""
-        return self.codes.setdefault(text, len(self.codes))
+        if text not in self.codes:
+            if not self.account.store(len(text)):
+                raise Refused(LIMIT_REACHED)
+            self.codes[text] = len(self.codes)
+        return self.codes[text]
 
 
 class SharedHandle:
