@@ -103,6 +103,12 @@ module _ {K : Type 0} (key_at : ℕ → Option K) (o : Totals) (p : ℕ) where
         omega (arith, ap length keys.1, length-append old keys.0, each, many, is_old, is_new)
     batch_whole n length_old length_new many is_old is_new (Err error) interned = tt
 
+    -- a text that was seen at the beginning is not refused
+    unseen : (number : K → ℕ) (made : (n : ℕ) (k : K) → key_at n ≡ Some k → number k ≡ n) (mid end : History) (text : Text) (error : LassoErrorKind) → IsPrefix before mid → IsCall key_at o mid end p (Intern Copied text) (Interned (Err error)) → key_of key_at (totals o before).texts text ≡ None
+    unseen number made mid end text error grown call = none_of (key_of key_at (totals o before).texts text) (λ k has.
+        let accepted : Err error ≡ Ok k = seen_interned key_at number made o mid end p Copied text (Err error) call k (has_key_later key_at o before mid text k has grown) in
+        cc accepted)
+
     -- `same` says that nothing was seen and no key was added
     module _ {X : Type 0} (early : LassoErrorKind → Type 0) (same : (error : LassoErrorKind) → early error → (after ≡ before) × (new ≡ old)) where
       pub batch_keys : (result : Result X LassoErrorKind) → OnOk result (AddsInterned key_at o before after p texts old new) → IfErr result (λ error. early error ⊎ StopsAtText key_at o before after p texts old new error) → AddsKeysOfFirst key_at (totals o after).texts texts old new
@@ -121,18 +127,12 @@ module _ {K : Type 0} (key_at : ℕ → Option K) (o : Totals) (p : ℕ) where
 
       -- `W` is what an early refusal leaves
       module _ (W : Type 0) (left : (error : LassoErrorKind) → early error → W) (number : K → ℕ) (made : (n : ℕ) (k : K) → key_at n ≡ Some k → number k ≡ n) where
-        -- a text that was seen at the beginning is not refused
-        unseen : (mid end : History) (text : Text) (error : LassoErrorKind) → IsPrefix before mid → IsCall key_at o mid end p (Intern Copied text) (Interned (Err error)) → key_of key_at (totals o before).texts text ≡ None
-        unseen mid end text error grown call = none_of (key_of key_at (totals o before).texts text) (λ k has.
-            let accepted : Err error ≡ Ok k = seen_interned key_at number made o mid end p Copied text (Err error) call k (has_key_later key_at o before mid text k has grown) in
-            cc accepted)
-
         pub batch_stopped : (result : Result X LassoErrorKind) → IfErr result (λ error. early error ⊎ StopsAtText key_at o before after p texts old new error) → OnErr result (W ⊎ NextIs old new texts (λ text. key_of key_at (totals o before).texts text ≡ None))
         batch_stopped (Ok x) refused = tt
         batch_stopped (Err error) refused = elim refused [
           | inl soon ↦ inl (left error soon)
           | inr stops ↦ inr (next_text (totals o after).texts texts stops.0 stops.1 stops.2 old new (λ text. key_of key_at (totals o before).texts text ≡ None) stops.4 (stopped_keys error stops)
-              (unseen stops.3 after stops.1 error (stopped_before error stops) stops.6))
+              (unseen number made stops.3 after stops.1 error (stopped_before error stops) stops.6))
         ]
 
   -- ---- of looking up

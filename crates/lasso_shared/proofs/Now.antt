@@ -40,10 +40,10 @@ pub refused_if : {A : Type 0} (of : InternerId) (list a b c : List NoteView) (n 
 refused_if of list a b c n None first refused = tt
 refused_if of list a b c n (Some r) first refused = refused_later of.opening a b c (length (list_of of list)) n r first refused
 
-pub none_if : {A E X : Type 0} (p q : ℕ) (a b c : List NoteView) (o : Option (Result A E)) → q ≡ p → Since p a b [] → IfSome o (λ r. OnErr r (Since q b c [] × X)) → IfSome o (λ r. OnErr r (Since p a c []))
-none_if p q a b c None same s none = tt
-none_if p q a b c (Some (Ok x)) same s none = tt
-none_if p q a b c (Some (Err e)) same s none = since_trans p a b c [] s (subst (λ (i : ℕ). Since i b c []) same none.0)
+pub none_if : {A E : Type 0} (X : Type 0) (p q : ℕ) (a b c : List NoteView) (o : Option (Result A E)) → q ≡ p → Since p a b [] → IfSome o (λ r. OnErr r (Since q b c [] × X)) → IfSome o (λ r. OnErr r (Since p a c []))
+none_if X p q a b c None same s none = tt
+none_if X p q a b c (Some (Ok x)) same s none = tt
+none_if X p q a b c (Some (Err e)) same s none = since_trans p a b c [] s (subst (λ (i : ℕ). Since i b c []) same none.0)
 
 module _ {K : Type 0} (key_at : ℕ → Option K) (of : InternerId) (p : ℕ) where
   -- the bytes were stored, and then the text was put last, or no key was left for it

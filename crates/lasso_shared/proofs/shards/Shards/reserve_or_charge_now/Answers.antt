@@ -1,4 +1,4 @@
-use Rattle.std.proofs.Common.{[], ◌∷◌, inl, refl}
+use Rattle.std.proofs.Common.{◌≡◌, [], ◌∷◌, inl, refl}
 use Rattle.lasso_log.specs.Charges.{next_size}
 use Rattle.lasso_log.specs.History.{Reserve}
 use Rattle.lasso_log.proofs.Reserved.{none_longer}
@@ -25,7 +25,7 @@ returns-clause-refused g c =
 
 pub returns-clause-err : goal.returns-clause-err
 returns-clause-err g c =
-    none_if c.args.pass.now.number c.reserve_now.new.pass.number c.args.pass.now.notes c.reserve_now.new.pass.notes c.charge_now.new.pass.notes c.charge_now.result c.reserve_now.ensures.same.0 (rw c.in_default.is at c.in_ok-range.ensures.none) c.charge_now.ensures.err
+    none_if (c.charge_now.new.spine ≡ c.args.tally.now.spine) c.args.pass.now.number c.reserve_now.new.pass.number c.args.pass.now.notes c.reserve_now.new.pass.notes c.charge_now.new.pass.notes c.charge_now.result c.reserve_now.ensures.same.0 (rw c.in_default.is at c.in_ok-range.ensures.none) c.charge_now.ensures.err
 
 pub returns-clause-busy : goal.returns-clause-busy
 returns-clause-busy g c = λ none.
