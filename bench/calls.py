@@ -11,7 +11,6 @@ STANDARD = f"{OUT}/calls-std"
 PROVED = f"{OUT}/proved/release/proved"
 # lasso 0.7.3, if UPSTREAM names a folder of its sources, whose Cargo.toml takes hashbrown from the system's packages.
 UPSTREAM = f"{OUT}/upstream/release/upstream"
-SIZES_OF_BEST = f"{OUT}/best/release/sizes"
 ROUNDS = 15
 SIZED_ROUNDS = 5
 CALLS = ("new", "present", "absent", "try_resolve", "reader", "resolver")
@@ -199,7 +198,7 @@ def rounds_of_crate(first):
             yield from said_lines("lasso", [*first, UPSTREAM])
         for name in hashes:
             for kept in (name, f"kept-{name}"):
-                yield from said_lines(kept, [*first, SIZES_OF_BEST, kept])
+                yield from said_lines(kept, [*first, BEST, kept, "few"])
 
 
 def build_crate(baseline, *crates):
@@ -231,8 +230,8 @@ def print_table(number, lines):
 
 def measure_refill():
     """The table of interners that are cleared and filled again, here and in Rust."""
-    rustc(f"{OUT}/refill", "refill.rs")
-    print_table("texts", keep("refill.lines", [*said_lines("Rodeo", [OURS, "refill"]), *said_lines("HashMap", [f"{OUT}/refill"])]))
+    build_standard()
+    print_table("texts", keep("refill.lines", [*said_lines("Rodeo", [OURS, "refill"]), *said_lines("HashMap", [STANDARD, "refill"])]))
 
 
 def measure_collide():
