@@ -1,14 +1,16 @@
 //! An interner that threads share: how long a call takes each of them, also one that takes many texts.
-ghost use Rattle.std.specs.Prelude.{◌≡◌, ◌<◌};
+ghost use Rattle.std.specs.Prelude.{◌<◌};
 
-use crate::calls::{Calls, Plain, WithHints, WithPass, filled, resolve_keys, resolve_keys_plainly};
+use crate::calls::{
+    Caller, Calls, Plain, WithHints, WithPass, filled, resolve_keys, resolve_keys_plainly,
+};
 use crate::shared::THREADS;
 use crate::texts::Lines;
 use crate::timing::{
     NO_MEMORY, REFUSED, Table, Tenths, elapsed_since, if_so, started, sum_of_positions,
     tenths_if_all, tenths_of,
 };
-use lasso::{Key, Pass, Spur, SpurThreadedRodeo, ThreadedRodeo};
+use lasso::{Key, Spur, SpurThreadedRodeo, ThreadedRodeo};
 use std::alloc::AllocError;
 use std::rt::Clock;
 use std::sync::Wait;
@@ -303,41 +305,17 @@ fn intern_batches<R: AllocGlobal + Wait>(
 ) -> Option<usize>
     requires { 0 < size }
 {
-    let mut pass = rodeo.pass_with_hints(rt.alloc());
+    let mut caller = Caller::hinted(rt.alloc(), rodeo);
     let mut batch = Vec::new(rt.alloc());
     let mut keys = Vec::new(rt.alloc());
     let mut sum = 0usize;
     for part in texts.chunks(size) {
-        if !is_lent(part, &mut batch) {
+        if !is_lent(part, &mut batch) || !caller.intern_batch(rt, &batch, &mut keys) {
             return None;
         }
-        let of_part = interned_sum(rt, rodeo, &mut pass, &batch, &mut keys)?;
-        sum = sum.wrapping_add(of_part);
-    }
-    Some(sum)
-}
-
-// Interns the texts by one call. Answers the sum of their positions, or `None` where one was refused.
-fn interned_sum<R: Wait>(
-    rt: &R,
-    rodeo: &SpurThreadedRodeo,
-    pass: &mut Pass<Spur>,
-    texts: &[&str],
-    keys: &mut Vec<Spur>,
-) -> Option<usize>
-    requires { pass.old.of ≡ rodeo.now }
-    ensures { pass.new.of ≡ rodeo.now }
-{
-    keys.clear();
-    if rodeo
-        .try_get_or_intern_all_as(rt, pass, texts, keys)
-        .is_err()
-    {
-        return None;
-    }
-    let mut sum = 0usize;
-    for key in keys.iter() {
-        sum = sum.wrapping_add(key.into_usize());
+        for key in keys.iter() {
+            sum = sum.wrapping_add(key.into_usize());
+        }
     }
     Some(sum)
 }
@@ -351,36 +329,17 @@ fn get_batches<R: AllocGlobal + Wait>(
 ) -> Option<usize>
     requires { 0 < size }
 {
-    let mut pass = rodeo.pass_with_hints(rt.alloc());
+    let mut caller = Caller::hinted(rt.alloc(), rodeo);
     let mut batch = Vec::new(rt.alloc());
     let mut keys = Vec::new(rt.alloc());
     let mut sum = 0usize;
     for part in texts.chunks(size) {
-        if !is_lent(part, &mut batch) {
+        if !is_lent(part, &mut batch) || !caller.find_batch(rt, &batch, &mut keys) {
             return None;
         }
-        let of_part = found_sum(rt, rodeo, &mut pass, &batch, &mut keys)?;
-        sum = sum.wrapping_add(of_part);
+        sum = sum.wrapping_add(position_sum(keys.as_slice())?);
     }
     Some(sum)
-}
-
-// Looks the texts up by one call. Answers the sum of their positions, or `None` where one is absent.
-fn found_sum<R: Wait>(
-    rt: &R,
-    rodeo: &SpurThreadedRodeo,
-    pass: &mut Pass<Spur>,
-    texts: &[&str],
-    keys: &mut Vec<Option<Spur>>,
-) -> Option<usize>
-    requires { pass.old.of ≡ rodeo.now }
-    ensures { pass.new.of ≡ rodeo.now }
-{
-    keys.clear();
-    if rodeo.get_all_as(rt, pass, texts, keys).is_err() {
-        return None;
-    }
-    position_sum(keys.as_slice())
 }
 
 // The sum of the positions of the keys, or `None` where one is missing.

@@ -1,7 +1,6 @@
 //! An interner for one thread: a run of commands, texts that are cloned and written, and items of an iterator
 //! with a size hint.
-use crate::refused::json::check_written;
-use crate::refused::{Refused, Single, is_so, retried, second_value, single_of};
+use crate::refused::{Refused, Single, check_written, is_so, retried, second_value, single_of};
 use lasso::{
     Capacity, Command, FixedState, JsonKey, Key, LassoErrorKind, MemoryLimits, Reply, Rodeo,
     RodeoReader, RodeoResolver, Spur, run_commands,
