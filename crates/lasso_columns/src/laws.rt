@@ -25,7 +25,6 @@ pub fn rewriting_keeps_texts()
 /// appended to those before the position, are the list again, and each is absent until its turn. So
 /// `append_dictionary` to an interner with the texts before the position gives the same list with the same
 /// codes, unless the interner refuses a text. So does `read_dictionary` of what was written from 0.
-#[tactic(auto, using(crate::proofs::LayoutLaws::undoes_writing))]
 pub fn reading_undoes_writing()
     ensures { ReadingUndoesWriting }
 {}
