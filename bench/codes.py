@@ -8,7 +8,7 @@ from array import array
 from shlex import quote
 from statistics import median
 
-from measuring import INPUTS, LINES, NAMES, OUT, build, complain, count_lines, keep, least_by_key, make_long_inputs, output_of, priority, said_lines, said_of, seconds, test_alike
+from measuring import INPUTS, LINES, NAMES, OUT, complain, count_lines, keep, least_by_key, make_long_inputs, output_of, priority, program_of, said_lines, said_of, seconds, test_alike
 from programs import BEST, STANDARD, build_standard
 
 CODES = os.environ.get("LASSO_CODES") or "crates/lasso_codes/out/lasso_codes"
@@ -28,7 +28,7 @@ WORKERS_GOALS = {
 def build_codes():
     """Proves and builds the program, unless LASSO_CODES names one."""
     if not os.environ.get("LASSO_CODES"):
-        build("lasso_codes")
+        program_of("lasso_codes")
 
 
 def has(*words):

@@ -12,7 +12,7 @@ from calls import build_standard
 from measuring import CALLS as OURS
 from measuring import INPUTS, LINES, NAMES, OUT, count_lines, has_package, is_built, is_built_over_crates, keep, least_by_key, least_of_turns
 from measuring import output_of, peak, priority, processor_seconds, reordered, rustc, said_lines, said_of, start, test_alike
-from programs import STANDARD
+from programs import STANDARD, without_bytes
 from programs import build_standard as build_lines
 from threads import STANDARD as STANDARD_SHARED
 
@@ -175,11 +175,6 @@ def rounds_of_threads(first, name):
 def programs():
     """The programs that number lines, by their names in the table."""
     return {"ours": [LINES], **{hasher: [LASSO, "lines", hasher] for hasher in ALL_HASHERS}, "std": [STANDARD, "numbered"]}
-
-
-def without_bytes(output):
-    """The lines, and of the last one how many texts there are, without their bytes."""
-    return re.sub(rb" texts, [0-9]+ bytes\n\Z", b" texts\n", output)
 
 
 def figures_of_lines(first):
