@@ -40,20 +40,14 @@ pub struct Caller<'a> {
 }
 
 impl<'a> Caller<'a> {
-    /// A new pass without hints.
-    pub fn new(rodeo: &'a SpurThreadedRodeo) -> Self {
-        Caller {
-            rodeo,
-            pass: rodeo.pass(),
-        }
-    }
-
-    /// A new pass, which keeps hints.
-    pub fn hinted(alloc: Global, rodeo: &'a SpurThreadedRodeo) -> Self {
-        Caller {
-            rodeo,
-            pass: rodeo.pass_with_hints(alloc),
-        }
+    /// A new pass, which keeps hints or not.
+    pub fn new(alloc: Global, rodeo: &'a SpurThreadedRodeo, is_hinted: bool) -> Self {
+        let pass = if is_hinted {
+            rodeo.pass_with_hints(alloc)
+        } else {
+            rodeo.pass()
+        };
+        Caller { rodeo, pass }
     }
 
     // Interns the text.
@@ -103,37 +97,22 @@ impl<'a> Caller<'a> {
     }
 }
 
-/// All calls with one pass.
-pub struct WithPass;
+/// All calls with one pass, which keeps hints or not.
+pub struct ByPass<const HINTED: bool>;
 
-impl Calls for WithPass {
-    fn intern_all<R: AllocGlobal + Wait>(
-        rt: &R,
-        rodeo: &SpurThreadedRodeo,
-        texts: &[String],
-    ) -> Option<usize> {
-        intern_by(rt, Caller::new(rodeo), texts)
-    }
-
-    fn get_all<R: AllocGlobal + Wait>(
-        rt: &R,
-        rodeo: &SpurThreadedRodeo,
-        texts: &[String],
-    ) -> Option<usize> {
-        get_by(rt, Caller::new(rodeo), texts)
-    }
-}
+/// All calls with one pass without hints.
+pub type WithPass = ByPass<false>;
 
 /// All calls with one pass, which keeps hints.
-pub struct WithHints;
+pub type WithHints = ByPass<true>;
 
-impl Calls for WithHints {
+impl<const HINTED: bool> Calls for ByPass<HINTED> {
     fn intern_all<R: AllocGlobal + Wait>(
         rt: &R,
         rodeo: &SpurThreadedRodeo,
         texts: &[String],
     ) -> Option<usize> {
-        intern_by(rt, Caller::hinted(rt.alloc(), rodeo), texts)
+        intern_by(rt, Caller::new(rt.alloc(), rodeo, HINTED), texts)
     }
 
     fn get_all<R: AllocGlobal + Wait>(
@@ -141,7 +120,7 @@ impl Calls for WithHints {
         rodeo: &SpurThreadedRodeo,
         texts: &[String],
     ) -> Option<usize> {
-        get_by(rt, Caller::hinted(rt.alloc(), rodeo), texts)
+        get_by(rt, Caller::new(rt.alloc(), rodeo, HINTED), texts)
     }
 }
 
@@ -164,8 +143,8 @@ fn get_by<R: Wait>(rt: &R, mut caller: Caller<'_>, texts: &[String]) -> Option<u
 }
 
 /// Resolves the keys with a pass, and answers the sum of their texts' lengths, in bytes.
-pub fn resolve_keys(rodeo: &SpurThreadedRodeo, keys: &[Spur]) -> usize {
-    let mut caller = Caller::new(rodeo);
+pub fn resolve_keys(alloc: Global, rodeo: &SpurThreadedRodeo, keys: &[Spur]) -> usize {
+    let mut caller = Caller::new(alloc, rodeo, false);
     let mut sum = 0usize;
     for key in keys {
         sum = sum.wrapping_add(caller.length(*key));
@@ -239,7 +218,7 @@ fn intern_lines<R: AllocGlobal + Wait, B: BufRead + Drop>(
     rodeo: &SpurThreadedRodeo,
     reader: B,
 ) -> Result<usize> {
-    let mut caller = Caller::new(rodeo);
+    let mut caller = Caller::new(rt.alloc(), rodeo, false);
     for line in reader.lines(rt.alloc()) {
         let line = line?;
         caller.intern(rt, line.as_str())?;

@@ -24,16 +24,16 @@ pub fn time_interners<R: AllocGlobal + Clock + Print + Threads + Wait + Sync>(
 ) {
     time_filling::<WithPass, R>(rt, table, ["new", "intern"], lines);
     time_filling::<WithHints, R>(rt, table, ["hinted_new", "hinted_intern"], lines);
-    time_filling::<Batches64, R>(rt, table, ["batch64_new", "batch64_intern"], lines);
-    time_filling::<Batches1024, R>(rt, table, ["batch1024_new", "batch1024_intern"], lines);
+    time_filling::<Batches<64>, R>(rt, table, ["batch64_new", "batch64_intern"], lines);
+    time_filling::<Batches<1024>, R>(rt, table, ["batch1024_new", "batch1024_intern"], lines);
     let Some(rodeo) = filled(rt, &lines.distinct) else {
         return table.fail(REFUSED);
     };
     time_finding::<WithPass, R>(rt, table, ["present", "get"], &rodeo, lines);
     time_finding::<WithHints, R>(rt, table, ["hinted_present", "hinted_get"], &rodeo, lines);
     time_finding::<Plain, R>(rt, table, ["plain_present", "plain_get"], &rodeo, lines);
-    time_finding::<Batches64, R>(rt, table, ["batch64_present", "batch64_get"], &rodeo, lines);
-    time_finding::<Batches1024, R>(
+    time_finding::<Batches<64>, R>(rt, table, ["batch64_present", "batch64_get"], &rodeo, lines);
+    time_finding::<Batches<1024>, R>(
         rt,
         table,
         ["batch1024_present", "batch1024_get"],
@@ -67,18 +67,10 @@ fn time_finding<C: Calls, R: AllocGlobal + Clock + Print + Threads + Wait + Sync
 ) {
     let [present, get] = names;
     for threads in THREADS {
-        table.add(
-            rt,
-            present,
-            threads,
-            time_present::<C, R>(rt, rodeo, lines, threads),
-        );
-        table.add(
-            rt,
-            get,
-            threads,
-            time_get::<C, R>(rt, rodeo, lines, threads),
-        );
+        let interned = time_present::<C, R>(rt, rodeo, lines, threads, true);
+        table.add(rt, present, threads, interned);
+        let found = time_present::<C, R>(rt, rodeo, lines, threads, false);
+        table.add(rt, get, threads, found);
     }
 }
 
@@ -115,38 +107,24 @@ fn keys_of<R: AllocGlobal + Wait>(
     Ok(keys)
 }
 
-// Has `threads` threads intern all lines at once, which are present.
+// Has `threads` threads intern all lines at once, which are present, or look them up.
 fn time_present<C: Calls, R: AllocGlobal + Clock + Threads + Wait + Sync>(
     rt: &R,
     rodeo: &SpurThreadedRodeo,
     lines: &Lines,
     threads: usize,
+    is_interned: bool,
 ) -> Tenths {
     let start = started(rt);
     let sums = map_indices(
         rt,
         rt.alloc(),
         threads,
-        &|_| C::intern_all(rt, rodeo, &lines.again),
-    );
-    let elapsed = elapsed_since(rt, start);
-    let wanted = Some(lines.positions);
-    tenths_if_all(sums, &wanted, "a key is wrong", elapsed, lines.again.len())
-}
-
-// Has `threads` threads look all lines up at once, which are present.
-fn time_get<C: Calls, R: AllocGlobal + Clock + Threads + Wait + Sync>(
-    rt: &R,
-    rodeo: &SpurThreadedRodeo,
-    lines: &Lines,
-    threads: usize,
-) -> Tenths {
-    let start = started(rt);
-    let sums = map_indices(
-        rt,
-        rt.alloc(),
-        threads,
-        &|_| C::get_all(rt, rodeo, &lines.again),
+        &|_| if is_interned {
+            C::intern_all(rt, rodeo, &lines.again)
+        } else {
+            C::get_all(rt, rodeo, &lines.again)
+        },
     );
     let elapsed = elapsed_since(rt, start);
     let wanted = Some(lines.positions);
@@ -170,7 +148,7 @@ fn time_resolve<R: AllocGlobal + Clock + Threads + Sync>(
         &|_| if is_plain {
             resolve_keys_plainly(rodeo, keys)
         } else {
-            resolve_keys(rodeo, keys)
+            resolve_keys(rt.alloc(), rodeo, keys)
         },
     );
     let elapsed = elapsed_since(rt, start);
@@ -240,19 +218,16 @@ fn sum_of_parts(parts: &[Option<usize>]) -> Option<usize> {
 
 // Calls of an interner that threads share for many texts at a time, with a pass that keeps hints.
 
-/// Batches of 64 texts.
-pub struct Batches64;
+/// Batches of this number of texts, at least one.
+pub struct Batches<const SIZE: usize>;
 
-/// Batches of 1,024 texts.
-pub struct Batches1024;
-
-impl Calls for Batches64 {
+impl<const SIZE: usize> Calls for Batches<SIZE> {
     fn intern_all<R: AllocGlobal + Wait>(
         rt: &R,
         rodeo: &SpurThreadedRodeo,
         texts: &[String],
     ) -> Option<usize> {
-        intern_batches(rt, rodeo, texts, 64)
+        intern_batches(rt, rodeo, texts, SIZE.max(1))
     }
 
     fn get_all<R: AllocGlobal + Wait>(
@@ -260,25 +235,7 @@ impl Calls for Batches64 {
         rodeo: &SpurThreadedRodeo,
         texts: &[String],
     ) -> Option<usize> {
-        get_batches(rt, rodeo, texts, 64)
-    }
-}
-
-impl Calls for Batches1024 {
-    fn intern_all<R: AllocGlobal + Wait>(
-        rt: &R,
-        rodeo: &SpurThreadedRodeo,
-        texts: &[String],
-    ) -> Option<usize> {
-        intern_batches(rt, rodeo, texts, 1024)
-    }
-
-    fn get_all<R: AllocGlobal + Wait>(
-        rt: &R,
-        rodeo: &SpurThreadedRodeo,
-        texts: &[String],
-    ) -> Option<usize> {
-        get_batches(rt, rodeo, texts, 1024)
+        get_batches(rt, rodeo, texts, SIZE.max(1))
     }
 }
 
@@ -305,7 +262,7 @@ fn intern_batches<R: AllocGlobal + Wait>(
 ) -> Option<usize>
     requires { 0 < size }
 {
-    let mut caller = Caller::hinted(rt.alloc(), rodeo);
+    let mut caller = Caller::new(rt.alloc(), rodeo, true);
     let mut batch = Vec::new(rt.alloc());
     let mut keys = Vec::new(rt.alloc());
     let mut sum = 0usize;
@@ -329,7 +286,7 @@ fn get_batches<R: AllocGlobal + Wait>(
 ) -> Option<usize>
     requires { 0 < size }
 {
-    let mut caller = Caller::hinted(rt.alloc(), rodeo);
+    let mut caller = Caller::new(rt.alloc(), rodeo, true);
     let mut batch = Vec::new(rt.alloc());
     let mut keys = Vec::new(rt.alloc());
     let mut sum = 0usize;
