@@ -11,7 +11,6 @@ STANDARD = f"{OUT}/calls-std"
 PROVED = f"{OUT}/proved/release/proved"
 # lasso 0.7.3, if UPSTREAM names a folder of its sources, whose Cargo.toml takes hashbrown from the system's packages.
 UPSTREAM = f"{OUT}/upstream/release/upstream"
-SIZES_OF_BEST = f"{OUT}/best/release/sizes"
 ROUNDS = 15
 SIZED_ROUNDS = 5
 CALLS = ("new", "present", "absent", "try_resolve", "reader", "resolver")
@@ -50,53 +49,9 @@ CRATE_GOALS = {
 }
 
 
-def best_single(rounds, count, call):
-    """The least and the middle of the fastest hash, each by itself, with the name of the first. `None` where there is no such program."""
-    times = {key[0]: value for key, value in rounds.items() if key[1:] == (count, call) and key[0] not in ("ours", "std")}
-    if not times:
-        return None
-    name = min(times, key=lambda program: min(times[program]))
-    return min(times[name]), min(map(median, times.values())), name
-
-
-def single_pair(times):
-    return f"{times[0]:>10.1f}{times[1]:>10.1f}" if times else f"{'-':>10}{'-':>10}"
-
-
-def single_ratios(ours, other):
-    return f"{ours[0] / other[0]:>8.2f}{ours[1] / other[1]:>8.2f}" if other else f"{'-':>8}{'-':>8}"
-
-
-def print_single(lines):
-    """Prints the table of lines `PROGRAM TEXTS CALL NANOSECONDS`, one for each round: the least and the middle of the rounds, of `ours`, of the best of
-    the programs that are named after the hashes, and of `std`, with the ratios of ours to both, and the goal of the ratio to the best. A reader
-    and a resolver have a goal too: their ratio to the index of a list of std."""
-    rounds = {(program, int(count), call): times for (program, count, call), times in times_by_key(lines, 3).items()}
-    print(f"{'texts':<9}{'call':<13}{'Rodeo':>10}{'middle':>10}{'best':>10}{'middle':>10} {'hash':<6}{'ratio':>8}{'middle':>8}"
-          f"{'std':>10}{'middle':>10}{'ratio':>8}{'middle':>8}{'goal':>7}")
-    for count in sorted({key[1] for key in rounds}):
-        for call in CALLS:
-            times = rounds[("ours", count, call)]
-            ours = min(times), median(times)
-            best = best_single(rounds, count, call)
-            times = rounds[("std", count, "index" if call in FROZEN else call)]
-            std = min(times), median(times)
-            goal = SINGLE_GOALS.get((count, call))
-            print(f"{count:<9}{call:<13}{single_pair(ours)}{single_pair(best)} {best[2] if best else '-':<6}{single_ratios(ours, best)}"
-                  f"{single_pair(std)}{single_ratios(ours, std)}{'' if goal is None else f'{goal:>7.2f}'}")
-
-
-def by_size(lines):
-    """The times of lines `PROGRAM TEXTS BYTES CALL NANOSECONDS` by count, bytes and call, and then by program."""
-    rounds = {}
-    for (program, count, size, call), times in times_by_key(lines, 4).items():
-        rounds.setdefault((int(count), int(size), call), {})[program] = times
-    return rounds
-
-
-def best_sized(times):
-    """The least and the middle of the fastest of the programs but ours, each by itself, with the name of the first; `None` without one."""
-    others = [name for name in times if name != "ours"]
+def best_of(times):
+    """The least and the middle of the fastest of the programs but ours and std, each by itself, with the name of the first; `None` without one."""
+    others = [name for name in times if name not in ("ours", "std")]
     if not others:
         return None
     name = min(others, key=lambda other: min(times[other]))
@@ -107,12 +62,38 @@ def least_and_middle(times):
     return min(times), median(times)
 
 
-def sized_pair(times):
-    return f"{times[0]:>9.1f}{times[1]:>9.1f}" if times else f"{'':>18}"
+def pair(times, width, missing="-"):
+    return "".join(f"{time:>{width}.1f}" for time in times[:2]) if times else 2 * f"{missing:>{width}}"
 
 
-def sized_ratios(one, other):
-    return f"{one[0] / other[0]:>7.2f}{one[1] / other[1]:>8.2f}" if one and other else f"{'':>15}"
+def ratios(one, other, width, missing="-"):
+    return f"{one[0] / other[0]:>{width}.2f}{one[1] / other[1]:>8.2f}" if one and other else f"{missing:>{width}}{missing:>8}"
+
+
+def print_single(lines):
+    """Prints the table of lines `PROGRAM TEXTS CALL NANOSECONDS`, one for each round: the least and the middle of the rounds, of `ours`, of the best of
+    the programs that are named after the hashes, and of `std`, with the ratios of ours to both, and the goal of the ratio to the best. A reader
+    and a resolver have a goal too: their ratio to the index of a list of std."""
+    rounds = {}
+    for (program, count, call), times in times_by_key(lines, 3).items():
+        rounds.setdefault((int(count), call), {})[program] = times
+    print(f"{'texts':<9}{'call':<13}{'Rodeo':>10}{'middle':>10}{'best':>10}{'middle':>10} {'hash':<6}{'ratio':>8}{'middle':>8}"
+          f"{'std':>10}{'middle':>10}{'ratio':>8}{'middle':>8}{'goal':>7}")
+    for count in sorted({count for count, _ in rounds}):
+        for call in CALLS:
+            ours, best = least_and_middle(rounds[count, call]["ours"]), best_of(rounds[count, call])
+            std = least_and_middle(rounds[count, "index" if call in FROZEN else call]["std"])
+            goal = SINGLE_GOALS.get((count, call))
+            print(f"{count:<9}{call:<13}{pair(ours, 10)}{pair(best, 10)} {best[2] if best else '-':<6}{ratios(ours, best, 8)}"
+                  f"{pair(std, 10)}{ratios(ours, std, 8)}{'' if goal is None else f'{goal:>7.2f}'}")
+
+
+def by_size(lines):
+    """The times of lines `PROGRAM TEXTS BYTES CALL NANOSECONDS` by count, bytes and call, and then by program."""
+    rounds = {}
+    for (program, count, size, call), times in times_by_key(lines, 4).items():
+        rounds.setdefault((int(count), int(size), call), {})[program] = times
+    return rounds
 
 
 def print_sized(lines):
@@ -126,11 +107,11 @@ def print_sized(lines):
         for call, whole in WHOLE.items():
             times = rounds[count, size, call]
             one = least_and_middle(times["ours"])
-            best = best_sized(times)
+            best = best_of(times)
             every = least_and_middle(rounds[count, size, whole]["ours"]) if whole else None
             goal = SIZED_GOALS.get((call, size), {}).get(count)
-            line = (f"{count:<9}{size:<6}{call:<9}{sized_pair(one)}{sized_pair(best)} {best[2] if best else '-':<6}{sized_ratios(one, best)}"
-                    f"{sized_pair(every)}{sized_ratios(every, one)}{'' if goal is None else f'{goal:>7.2f}'}")
+            line = (f"{count:<9}{size:<6}{call:<9}{pair(one, 9)}{pair(best, 9, '')} {best[2] if best else '-':<6}{ratios(one, best, 7, '')}"
+                    f"{pair(every, 9, '')}{ratios(every, one, 7, '')}{'' if goal is None else f'{goal:>7.2f}'}")
             print(line.rstrip())
 
 
@@ -199,7 +180,7 @@ def rounds_of_crate(first):
             yield from said_lines("lasso", [*first, UPSTREAM])
         for name in hashes:
             for kept in (name, f"kept-{name}"):
-                yield from said_lines(kept, [*first, SIZES_OF_BEST, kept])
+                yield from said_lines(kept, [*first, BEST, kept, "few"])
 
 
 def build_crate(baseline, *crates):
@@ -231,8 +212,8 @@ def print_table(number, lines):
 
 def measure_refill():
     """The table of interners that are cleared and filled again, here and in Rust."""
-    rustc(f"{OUT}/refill", "refill.rs")
-    print_table("texts", keep("refill.lines", [*said_lines("Rodeo", [OURS, "refill"]), *said_lines("HashMap", [f"{OUT}/refill"])]))
+    build_standard()
+    print_table("texts", keep("refill.lines", [*said_lines("Rodeo", [OURS, "refill"]), *said_lines("HashMap", [STANDARD, "refill"])]))
 
 
 def measure_collide():

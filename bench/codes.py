@@ -8,11 +8,10 @@ from array import array
 from shlex import quote
 from statistics import median
 
-from measuring import INPUTS, LINES, NAMES, OUT, build, complain, count_lines, keep, least_by_key, make_long_inputs, output_of, priority, rustc, said_lines, said_of, seconds, test_alike
+from measuring import INPUTS, LINES, NAMES, OUT, complain, count_lines, keep, least_by_key, make_long_inputs, output_of, priority, program_of, said_lines, said_of, seconds, test_alike
+from programs import BEST, STANDARD, build_standard
 
 CODES = os.environ.get("LASSO_CODES") or "crates/lasso_codes/out/lasso_codes"
-STANDARD = f"{OUT}/codes-std"
-BEST = f"{OUT}/best/release/codes"
 FOLDER = f"{OUT}/parts"
 ROUNDS = 8
 PARTS = 32
@@ -29,7 +28,7 @@ WORKERS_GOALS = {
 def build_codes():
     """Proves and builds the program, unless LASSO_CODES names one."""
     if not os.environ.get("LASSO_CODES"):
-        build("lasso_codes")
+        program_of("lasso_codes")
 
 
 def has(*words):
@@ -182,7 +181,7 @@ def measure_workers_of(first, verb):
 def measure_codes(hashes):
     """The tables of lasso_codes."""
     make_long_inputs()
-    rustc(STANDARD, "codes.rs", "--edition", "2021")
+    build_standard()
     first = priority()
     print(f"{'seconds':<28}{'lasso_codes':>9}  {'other':<16}{'its time':>9}{'ratio':>8}{'middle':>8}{'goal':>7}")
     measure_lines(first, hashes)

@@ -8,7 +8,7 @@ from measuring import CALLS as OURS
 from measuring import INPUTS, OUT, build_library, complain, has_package, is_built, keep, least_by_key, make_input, make_long_inputs, priority, replaced, said_lines, said_of, start, times_by_key
 
 RUST = f"{OUT}/best/release/columns"
-SHARED = f"{OUT}/interners/release/columns"
+SHARED = f"{OUT}/interners/release/interners"
 PYTHON = "/usr/bin/python3"
 NAMES = ("zipf", "distinct", "few", "ten", "large", "long")
 ROUNDS = 3
@@ -70,7 +70,7 @@ def rounds_of_columns(hashes, path, has_shared, with_pandas):
         for name in hashes:
             yield from said_lines("rust", [RUST, name], path)
         if has_shared:
-            yield from (line.replace("encode_shared ", "encode_shared_", 1) for line in said_lines("rust", [SHARED], path))
+            yield from (line.replace("encode_shared ", "encode_shared_", 1) for line in said_lines("rust", [SHARED, "maps", "columns"], path))
         if with_pandas:
             yield from said_lines("pandas", [PYTHON, "-c", FACTORIZE], path)
 

@@ -11,7 +11,7 @@ from threads import RUST as MAPS
 from threads import build_rivals
 
 OVER_C = f"{OUT}/threads"
-OVER_RUST = f"{OUT}/proved/release/interners"
+OVER_RUST = f"{OUT}/proved/release/proved"
 NAMES = ("zipf", "uniform", "distinct")
 CALLS = ("present", "new", "resolve")
 THREADS = (1, 2, 4)
@@ -19,9 +19,9 @@ ROUNDS = 7
 PROGRAMS = {
     "c": [OVER_C, "shared"],
     "mutex": [OVER_C, "mutex"],
-    "rust": [OVER_RUST],
-    "lasso": [f"{LASSO}/interners", "default", "round"],
-    "lasso-fx": [f"{LASSO}/interners", "fx", "round"],
+    "rust": [OVER_RUST, "round"],
+    "lasso": [LASSO, "round", "default"],
+    "lasso-fx": [LASSO, "round", "fx"],
     "maps": [MAPS, "maps", "round"],
 }
 # Ours, and what it is compared with.

@@ -12,10 +12,11 @@ from calls import build_standard
 from measuring import CALLS as OURS
 from measuring import INPUTS, LINES, NAMES, OUT, count_lines, has_package, is_built, is_built_over_crates, keep, least_by_key, least_of_turns
 from measuring import output_of, peak, priority, processor_seconds, reordered, rustc, said_lines, said_of, start, test_alike
-from programs import STANDARD
+from programs import STANDARD, without_bytes
+from programs import build_standard as build_lines
 from threads import STANDARD as STANDARD_SHARED
 
-LASSO = f"{OUT}/lasso/release"
+LASSO = f"{OUT}/lasso/release/lasso"
 FIGURES = ("lasso-calls", "lasso-threads", "lasso-lines", "lasso-occasion")
 CALL_ROUNDS = 5
 THREAD_ROUNDS = 4
@@ -157,7 +158,7 @@ def rounds_of_calls(first):
     for _ in range(CALL_ROUNDS):
         yield from reordered("ours", (2, 0, 1), [*first, OURS, "sizes"])
         for hasher in ALL_HASHERS:
-            yield from said_lines(hasher, [*first, f"{LASSO}/calls", hasher])
+            yield from said_lines(hasher, [*first, LASSO, "calls", hasher])
         yield from said_lines("std", [*first, STANDARD_CALLS, "sizes"])
 
 
@@ -167,18 +168,13 @@ def rounds_of_threads(first, name):
     for _ in range(THREAD_ROUNDS):
         yield from said_lines(f"{name} ours", [*first, OURS, "interners"], path)
         for hasher in ALL_HASHERS:
-            yield from said_lines(f"{name} {hasher}", [*first, f"{LASSO}/interners", hasher, "round"], path)
+            yield from said_lines(f"{name} {hasher}", [*first, LASSO, "round", hasher], path)
         yield from said_lines(f"{name} std", [*first, STANDARD_SHARED, "locked", "round"], path)
 
 
 def programs():
     """The programs that number lines, by their names in the table."""
-    return {"ours": [LINES], **{hasher: [f"{LASSO}/lines", hasher] for hasher in ALL_HASHERS}, "std": [STANDARD]}
-
-
-def without_bytes(output):
-    """The lines, and of the last one how many texts there are, without their bytes."""
-    return re.sub(rb" texts, [0-9]+ bytes\n\Z", b" texts\n", output)
+    return {"ours": [LINES], **{hasher: [LASSO, "lines", hasher] for hasher in ALL_HASHERS}, "std": [STANDARD, "numbered"]}
 
 
 def figures_of_lines(first):
@@ -216,7 +212,7 @@ def size_of(name):
 
 def measure_lasso():
     """The tables beside lasso, and their pictures."""
-    rustc(STANDARD, "main.rs")
+    build_lines()
     build_standard()
     rustc(STANDARD_SHARED, "interners/main.rs", "--edition", "2021")
     make_real_inputs()

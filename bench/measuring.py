@@ -9,7 +9,7 @@ import time
 
 HERE = os.path.dirname(os.path.dirname(os.path.abspath(__file__)))
 sys.path.append(f"{HERE}/trials")
-from common import replaced, run_of, said_of  # noqa: E402 pylint: disable=wrong-import-position
+from common import program_of, replaced, said_of  # noqa: E402 pylint: disable=wrong-import-position
 
 OUT = "bench/out"
 INPUTS = f"{OUT}/inputs"
@@ -47,15 +47,6 @@ def end_with(log):
     """Shows what a command said, and ends."""
     with open(f"{OUT}/{log}.log", encoding="utf-8", errors="replace") as said:
         sys.exit(said.read())
-
-
-def build(crate):
-    """Proves and builds the program of a crate."""
-    begun = time.time()
-    if not is_built(crate, run_of(crate), cwd=f"crates/{crate}"):
-        end_with(crate)
-    # A source that was saved meanwhile is newer.
-    os.utime(f"crates/{crate}/out/{crate}", (begun, begun))
 
 
 def build_library():

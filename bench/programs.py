@@ -3,7 +3,7 @@
 from measuring import LINES, NAMES, INPUTS, OUT, ROUNDS, SHORT_ROUNDS, instructions, least_by_key, least_of_turns, output_of, peak, processor_seconds, rustc, seconds, test_alike
 
 STANDARD = f"{OUT}/standard"
-BEST = f"{OUT}/best/release/best"
+BEST = f"{OUT}/best/release/lines"
 WORKERS = f"{OUT}/workers"
 # An input's goals: instructions a line, seconds by those of the best, and peak memory by that of std.
 GOALS = {
@@ -34,10 +34,15 @@ def row(name, what, figures, decimals, goal):
     print(f"{line}{goal:>8}", flush=True)
 
 
+def build_standard():
+    """Builds the programs of std that read lines."""
+    rustc(STANDARD, "lines.rs", "--edition", "2021")
+
+
 def measure_programs(hashes):
     """The tables of programs."""
-    rustc(STANDARD, "main.rs")
-    programs = {"lasso_lines": [LINES], "std": [STANDARD], **{name: [BEST, name] for name in hashes}}
+    build_standard()
+    programs = {"lasso_lines": [LINES], "std": [STANDARD, "numbered"], **{name: [BEST, name] for name in hashes}}
     for name in NAMES:
         path = f"{INPUTS}/{name}"
         test_alike({program: lambda words=words: without_bytes(output_of(words, path)) for program, words in programs.items()}, path)

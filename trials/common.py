@@ -21,6 +21,7 @@ NOTHING_LEFT = "in use at exit: 0 bytes in 0 blocks"
 WRONG = re.compile(r"ERROR SUMMARY: [1-9]")
 USED = re.compile(r"total heap usage: ([\d,]+) allocs")
 HALT = 60
+DEBIAN_PYTHON = "/usr/bin/python3"
 NONE_LEFT = "0 blocks, 0 bytes"
 KEEPS_ONE = "#include <stdlib.h>\nint main(void) { return malloc(7) == NULL; }\n"
 
@@ -43,11 +44,24 @@ def commit(*parts):
     return said_of(["git", "rev-parse", "--short=8", "HEAD"], cwd=HERE).strip() + "+" * bool(changed)
 
 
+def install(packages):
+    """Installs the packages by apt-get. Where that can't be done, ends the command and names them."""
+    names = " ".join(packages)
+    if os.geteuid() == 0 and shutil.which("apt-get"):
+        print(f"installing {names} by apt-get", file=sys.stderr, flush=True)
+        kept = {"env": {**os.environ, "DEBIAN_FRONTEND": "noninteractive"}, "stdout": subprocess.PIPE, "stderr": subprocess.STDOUT, "text": True, "errors": "replace", "check": False}
+        told = subprocess.run(["apt-get", "update", "-q"], **kept).stdout
+        ran = subprocess.run(["apt-get", "install", "-q", "-y", "--no-install-recommends", *packages], **kept)
+        if ran.returncode == 0:
+            return
+        print(told + ran.stdout, end="", file=sys.stderr)
+    sys.exit(f"missing: {names}: on Debian, apt-get install {names} as root")
+
+
 def need(command, package=None):
     """Installs a package of the system, which is named as the command unless it is given, if the command is missing."""
     if not shutil.which(command):
-        said_of(["apt-get", "update"])
-        said_of(["apt-get", "install", "-y", package or command])
+        install([package or command])
 
 
 @contextlib.contextmanager

@@ -16,7 +16,8 @@ pub trait Numbers {
     fn bytes(&self) -> usize;
 }
 
-const BUFFER: usize = 1 << 16;
+/// The bytes of a buffer of input or output.
+pub const BUFFER: usize = 1 << 16;
 
 /// Bytes for the standard output, in one buffer.
 struct Output {
@@ -60,11 +61,14 @@ impl Output {
     }
 }
 
-/// Writes each line of standard input after its number, and then the count of texts and their bytes.
-pub fn run<N: Numbers>() -> io::Result<()> {
+fn text_of(bytes: &[u8]) -> io::Result<&str> {
+    std::str::from_utf8(bytes).map_err(|error| io::Error::new(io::ErrorKind::Other, error))
+}
+
+/// Hands each line of standard input to the work.
+#[inline(always)]
+pub fn for_each_line(mut work: impl FnMut(&str) -> io::Result<()>) -> io::Result<()> {
     let mut input = io::stdin().lock();
-    let mut output = Output { buffer: Vec::with_capacity(BUFFER) };
-    let mut pool = N::new();
     let mut buffer = vec![0u8; BUFFER];
     let mut filled = 0;
     loop {
@@ -82,21 +86,27 @@ pub fn run<N: Numbers>() -> io::Result<()> {
             None => continue,
         };
         let end = before + last + 1;
-        let lines = std::str::from_utf8(&buffer[..end]).map_err(|error| io::Error::new(io::ErrorKind::Other, error))?;
+        let lines = text_of(&buffer[..end])?;
         let mut start = 0;
         for at in memchr_iter(b'\n', lines.as_bytes()) {
             // A line feed is a character, so the line between two of them is text.
-            let line = unsafe { lines.get_unchecked(start..at) };
-            output.answer(pool.intern(line), line)?;
+            work(unsafe { lines.get_unchecked(start..at) })?;
             start = at + 1;
         }
         buffer.copy_within(end..filled, 0);
         filled -= end;
     }
     if filled > 0 {
-        let line = std::str::from_utf8(&buffer[..filled]).map_err(|error| io::Error::new(io::ErrorKind::Other, error))?;
-        output.answer(pool.intern(line), line)?;
+        work(text_of(&buffer[..filled])?)?;
     }
+    Ok(())
+}
+
+/// Writes each line of standard input after its number, and then the count of texts and their bytes.
+pub fn run<N: Numbers>() -> io::Result<()> {
+    let mut output = Output { buffer: Vec::with_capacity(BUFFER) };
+    let mut pool = N::new();
+    for_each_line(|line| output.answer(pool.intern(line), line))?;
     output.number(pool.len());
     output.buffer.extend_from_slice(b" texts, ");
     output.number(pool.bytes());

@@ -81,7 +81,7 @@ class Reference:
             self.header = header.read(source.read())
         self.in_header = dict(self.places_of_header())
         here = os.path.dirname(os.path.abspath(__file__))
-        self.reading, self.reading_c = (open_text(os.path.join(here, name)) for name in ("reading.html", "reading_c.html"))
+        self.reading, self.reading_c = open_text(os.path.join(here, "reading.html")).split("<!-- C -->\n")
 
     def exported(self):
         """The names that reachable modules export, by the last module of their path."""

@@ -1,10 +1,28 @@
-//! One round of calls of an interner that threads share, over the lines of standard input, and what interning them has to answer.
-use crate::interner::Interner;
+//! What is measured of an interner that threads share, and one round of its calls, over the lines of standard input, and what interning them has to answer.
 use crate::opaque::black_box;
 use std::collections::HashMap;
 use std::io::{self, BufRead, BufReader};
 use std::thread;
 use std::time::{Duration, Instant};
+
+/// An interner that threads share.
+pub trait Interner: Sync {
+    type Key: Copy + Send + Sync;
+
+    fn new() -> Self;
+
+    /// The key of the text, which joins the others if it is absent.
+    fn intern(&self, text: &str) -> Self::Key;
+
+    /// What `look` makes of the key's text, or `None` if the key stands for no text.
+    fn with_text<T>(&self, key: Self::Key, look: impl FnOnce(&str) -> T) -> Option<T>;
+
+    /// How many texts there are.
+    fn count(&self) -> usize;
+
+    /// The position of the key's text, from 0.
+    fn position(key: Self::Key) -> usize;
+}
 
 const STRIDE: usize = 7919;
 

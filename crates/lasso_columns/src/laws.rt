@@ -3,17 +3,20 @@ ghost use Rattle.lasso_single.specs.Codes.{DecodingGivesTexts, CodesTellTexts, R
 ghost use Rattle.lasso_columns.specs.Dictionaries.{LayoutsByHand, ReadingUndoesWriting};
 
 /// Decoding gives back the encoded texts, also after more texts were appended to the list.
+#[tactic(auto, using(lasso_single::proofs::Coded::decoding_gives_texts_lem))]
 pub fn decoding_gives_texts()
     ensures { DecodingGivesTexts }
 {}
 
 /// Codes of one interner are equal exactly when their texts are. Examples are the codes of one column, and
 /// those of one call of `encode_shared`.
+#[tactic(auto, using(lasso_single::proofs::Coded::codes_tell_texts_lem))]
 pub fn codes_tell_texts()
     ensures { CodesTellTexts }
 {}
 
 /// Codes of one interner, rewritten by the result of `merge`, are the codes of the same texts in the other.
+#[tactic(auto, using(lasso_single::proofs::Coded::rewriting_keeps_texts_lem))]
 pub fn rewriting_keeps_texts()
     ensures { RewritingKeepsTexts }
 {}
@@ -27,6 +30,7 @@ pub fn reading_undoes_writing()
 {}
 
 /// Layouts worked out by hand: what is written, what is read from it, and the first fault of wrong layouts.
+#[tactic(auto, using(crate::proofs::LayoutLaws::by_hand))]
 pub fn layouts_by_hand()
     ensures { LayoutsByHand }
 {}

@@ -5,11 +5,7 @@
 #![tactic(auto)]
 
 #[cfg(test)]
-mod compiling;
-#[cfg(test)]
 mod counting;
-#[cfg(test)]
-mod documents;
 #[cfg(test)]
 mod interfaces;
 #[cfg(test)]
@@ -23,7 +19,5 @@ mod owning;
 mod refused;
 #[cfg(test)]
 mod shared_interfaces;
-#[cfg(test)]
-mod shared_threads;
 #[cfg(test)]
 mod steps;

@@ -1,6 +1,5 @@
 //! An interner that threads share, compared with others and with the forms for one thread.
-use crate::checks::is_so;
-use crate::looks::{Look, Origin, shows_as, shows_rows};
+use crate::checks::{Look, Origin, is_so, shows_as, shows_rows};
 use Look::{Compares, ComparesAll, ComparesSingle, Does};
 use Step::{Copies, Counts, EqualsItself, Extends, Interns, IsLimited, Limits, Uses};
 use lasso_parts::keys::{Key, Spur};

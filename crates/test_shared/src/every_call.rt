@@ -1,7 +1,6 @@
 //! Texts that are not ASCII through each call, without a pass and with one, for key types of each size and
 //! two hashers; and key types that lack one number but have the next.
-use crate::checks::{is_so, runs_each};
-use crate::looks::{Look, Origin, freezes_as, shows_as, shows_in};
+use crate::checks::{Look, Origin, freezes_as, is_so, runs_each, shows_as, shows_in};
 use Look::{Compares, Does, Shows, UsesBytesOf, Writes};
 use Step::{
     AllocatesOver, ByNew, ByOne, Counts, EachInterns, EqualsItself, Finds, Interns, IsLimited,

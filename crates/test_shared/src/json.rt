@@ -1,8 +1,7 @@
 //! Interners that threads share, read from JSON and written as JSON. The lines that are made for `tool_replay` have
 //! values of each kind in each role, also large ones, and those that are wrong.
-use crate::checks::is_so;
-use crate::looks::{
-    Look, Origin, first_wrong, freezes_as, make_from, shows_as, shows_rows, value_of,
+use crate::checks::{
+    Look, Origin, first_wrong_look, freezes_as, is_so, make_from, shows_as, shows_rows, value_of,
 };
 use Look::{Compares, Does, Json, Shows};
 use Step::{ByOne, ByOther, Copies, Counts, Finds, Interns, IsLimited, Uses};
@@ -216,8 +215,8 @@ where
 {
     let (here, there) = join(
         rt,
-        || first_wrong(rt, shared, FOUND.as_slice(), PLAIN),
-        || first_wrong(rt, shared, FOUND.as_slice(), PLAIN),
+        || first_wrong_look(rt, shared, FOUND.as_slice(), PLAIN),
+        || first_wrong_look(rt, shared, FOUND.as_slice(), PLAIN),
     );
     Ok((here?, there?) == (FOUND.len(), FOUND.len()))
 }

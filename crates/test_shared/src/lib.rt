@@ -28,12 +28,6 @@ mod limits;
 #[cfg(test)]
 mod locks;
 #[cfg(test)]
-mod log;
-#[cfg(test)]
-mod looks;
-#[cfg(test)]
-mod makers;
-#[cfg(test)]
 mod many;
 #[cfg(test)]
 mod setters;
@@ -45,5 +39,3 @@ mod shared_memory;
 mod showing;
 #[cfg(test)]
 mod threaded;
-#[cfg(test)]
-mod walking;

@@ -1,9 +1,8 @@
 //! Calls on few and on many texts: what each plain call returns, the numbers of new texts, look-ups of absent ones,
 //! limits, fillings, frozen forms and comparisons.
-use crate::checks::is_so;
+use crate::checks::{Look, Origin, freezes_as, is_so, make_from, shows_as, shows_in};
 use crate::comparing::compares;
 use crate::freezing::{FROZEN, is_frozen};
-use crate::looks::{Look, Origin, freezes_as, make_from, shows_as, shows_in};
 use Look::{Does, Shows, Walks, Writes};
 use Step::{ByNew, Copies, Counts, Finds, Grows, Holds, Interns, NonePast, Reads, Uses};
 use lasso_parts::keys::Spur;

@@ -2,7 +2,6 @@
 //! refused texts, which are freed.
 ghost use Rattle.std.specs.Prelude.{◌<◌};
 
-mod copied;
 mod hints;
 mod writers;
 

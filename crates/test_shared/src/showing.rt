@@ -1,7 +1,6 @@
 //! Walks, JSON, debug output and frozen forms of texts of many lengths, ASCII and not, with two key types and two
 //! hashers.
-use crate::checks::is_so;
-use crate::looks::{Look, Origin, freezes_as, make_from, shows_as, shows_in};
+use crate::checks::{Look, Origin, freezes_as, is_so, make_from, shows_as, shows_in};
 use Look::{Does, Prints, Shows, UsesBytesOf, Writes};
 use Step::{Interns, IsLimited, Uses};
 use lasso_parts::json::JsonError;

@@ -13,8 +13,6 @@ mod index;
 #[cfg(test)]
 mod interners;
 #[cfg(test)]
-mod json;
-#[cfg(test)]
 mod refusals;
 #[cfg(test)]
 mod rodeo;

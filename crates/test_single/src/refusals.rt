@@ -5,7 +5,6 @@ ghost use Rattle.std.specs.Prelude.{◌<◌};
 
 mod copies;
 mod counts;
-mod runs;
 mod values;
 
 use crate::interners::{

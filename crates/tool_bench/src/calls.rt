@@ -8,7 +8,8 @@ use crate::timing::{
     sum_of_positions, tenths_if,
 };
 use anyhow::Result;
-use lasso::{Key, Pass, Spur, SpurThreadedRodeo, ThreadedRodeo};
+use lasso::{Key, LassoResult, Pass, Spur, SpurThreadedRodeo, ThreadedRodeo};
+use std::alloc::Global;
 use std::io::BufRead;
 use std::rt::Clock;
 use std::sync::Wait;
@@ -30,37 +31,88 @@ pub trait Calls: Sync {
     ) -> Option<usize>;
 }
 
-/// All calls with one pass.
-pub struct WithPass;
+/// An interner with a pass of it, which its calls are made by.
+#[derive(Drop)]
+pub struct Caller<'a> {
+    rodeo: &'a SpurThreadedRodeo,
+    pass: Pass<Spur>,
+    ghost of: { pass.of ≡ rodeo.now },
+}
 
-impl Calls for WithPass {
-    fn intern_all<R: AllocGlobal + Wait>(
-        rt: &R,
-        rodeo: &SpurThreadedRodeo,
-        texts: &[String],
-    ) -> Option<usize> {
-        intern_by(rt, rodeo, &mut rodeo.pass(), texts)
+impl<'a> Caller<'a> {
+    /// A new pass, which keeps hints or not.
+    pub fn new(alloc: Global, rodeo: &'a SpurThreadedRodeo, is_hinted: bool) -> Self {
+        let pass = if is_hinted {
+            rodeo.pass_with_hints(alloc)
+        } else {
+            rodeo.pass()
+        };
+        Caller { rodeo, pass }
     }
 
-    fn get_all<R: AllocGlobal + Wait>(
+    // Interns the text.
+    fn intern<R: Wait>(&mut self, rt: &R, text: &str) -> LassoResult<usize> {
+        let key = self.rodeo.try_get_or_intern_as(rt, &mut self.pass, text)?;
+        Ok(key.into_usize())
+    }
+
+    // The position of the text, or `None` if it is absent.
+    fn find<R: Wait>(&mut self, rt: &R, text: &str) -> Option<usize> {
+        let key = self.rodeo.get_as(rt, &mut self.pass, text)?;
+        Some(key.into_usize())
+    }
+
+    // The length of the key's text, in bytes, or 0 if it stands for none.
+    fn length(&mut self, key: Spur) -> usize {
+        match self.rodeo.try_resolve_as(&mut self.pass, key) {
+            Some(text) => text.len(),
+            None => 0,
+        }
+    }
+
+    // How many texts there are.
+    fn count(&mut self) -> usize {
+        self.rodeo.len_as(&mut self.pass)
+    }
+
+    /// Interns the texts by one call, and puts their keys in place of those in `keys`. Answers whether none was refused.
+    pub fn intern_batch<R: Wait>(&mut self, rt: &R, texts: &[&str], keys: &mut Vec<Spur>) -> bool {
+        keys.clear();
+        self.rodeo
+            .try_get_or_intern_all_as(rt, &mut self.pass, texts, keys)
+            .is_ok()
+    }
+
+    /// Looks the texts up by one call, and puts what is found in place of what is in `keys`. Answers whether there was memory.
+    pub fn find_batch<R: Wait>(
+        &mut self,
         rt: &R,
-        rodeo: &SpurThreadedRodeo,
-        texts: &[String],
-    ) -> Option<usize> {
-        get_by(rt, rodeo, &mut rodeo.pass(), texts)
+        texts: &[&str],
+        keys: &mut Vec<Option<Spur>>,
+    ) -> bool {
+        keys.clear();
+        self.rodeo
+            .get_all_as(rt, &mut self.pass, texts, keys)
+            .is_ok()
     }
 }
+
+/// All calls with one pass, which keeps hints or not.
+pub struct ByPass<const HINTED: bool>;
+
+/// All calls with one pass without hints.
+pub type WithPass = ByPass<false>;
 
 /// All calls with one pass, which keeps hints.
-pub struct WithHints;
+pub type WithHints = ByPass<true>;
 
-impl Calls for WithHints {
+impl<const HINTED: bool> Calls for ByPass<HINTED> {
     fn intern_all<R: AllocGlobal + Wait>(
         rt: &R,
         rodeo: &SpurThreadedRodeo,
         texts: &[String],
     ) -> Option<usize> {
-        intern_by(rt, rodeo, &mut rodeo.pass_with_hints(rt.alloc()), texts)
+        intern_by(rt, Caller::new(rt.alloc(), rodeo, HINTED), texts)
     }
 
     fn get_all<R: AllocGlobal + Wait>(
@@ -68,54 +120,34 @@ impl Calls for WithHints {
         rodeo: &SpurThreadedRodeo,
         texts: &[String],
     ) -> Option<usize> {
-        get_by(rt, rodeo, &mut rodeo.pass_with_hints(rt.alloc()), texts)
+        get_by(rt, Caller::new(rt.alloc(), rodeo, HINTED), texts)
     }
 }
 
-// Interns the texts with the pass.
-fn intern_by<R: Wait>(
-    rt: &R,
-    rodeo: &SpurThreadedRodeo,
-    pass: &mut Pass<Spur>,
-    texts: &[String],
-) -> Option<usize>
-    requires { pass.old.of ≡ rodeo.now }
-{
+// Interns the texts.
+fn intern_by<R: Wait>(rt: &R, mut caller: Caller<'_>, texts: &[String]) -> Option<usize> {
     let mut sum = 0usize;
     for text in texts {
-        let Ok(key) = rodeo.try_get_or_intern_as(rt, pass, text.as_str()) else {
-            return None;
-        };
-        sum = sum.wrapping_add(key.into_usize());
+        sum = sum.wrapping_add(caller.intern(rt, text.as_str()).ok()?);
     }
     Some(sum)
 }
 
-// Looks the texts up with the pass.
-fn get_by<R: Wait>(
-    rt: &R,
-    rodeo: &SpurThreadedRodeo,
-    pass: &mut Pass<Spur>,
-    texts: &[String],
-) -> Option<usize>
-    requires { pass.old.of ≡ rodeo.now }
-{
+// Looks the texts up.
+fn get_by<R: Wait>(rt: &R, mut caller: Caller<'_>, texts: &[String]) -> Option<usize> {
     let mut sum = 0usize;
     for text in texts {
-        let key = rodeo.get_as(rt, pass, text.as_str())?;
-        sum = sum.wrapping_add(key.into_usize());
+        sum = sum.wrapping_add(caller.find(rt, text.as_str())?);
     }
     Some(sum)
 }
 
 /// Resolves the keys with a pass, and answers the sum of their texts' lengths, in bytes.
-pub fn resolve_keys(rodeo: &SpurThreadedRodeo, keys: &[Spur]) -> usize {
-    let mut pass = rodeo.pass();
+pub fn resolve_keys(alloc: Global, rodeo: &SpurThreadedRodeo, keys: &[Spur]) -> usize {
+    let mut caller = Caller::new(alloc, rodeo, false);
     let mut sum = 0usize;
     for key in keys {
-        if let Some(text) = rodeo.try_resolve_as(&mut pass, *key) {
-            sum = sum.wrapping_add(text.len());
-        }
+        sum = sum.wrapping_add(caller.length(*key));
     }
     sum
 }
@@ -186,12 +218,12 @@ fn intern_lines<R: AllocGlobal + Wait, B: BufRead + Drop>(
     rodeo: &SpurThreadedRodeo,
     reader: B,
 ) -> Result<usize> {
-    let mut pass = rodeo.pass();
+    let mut caller = Caller::new(rt.alloc(), rodeo, false);
     for line in reader.lines(rt.alloc()) {
         let line = line?;
-        rodeo.try_get_or_intern_as(rt, &mut pass, line.as_str())?;
+        caller.intern(rt, line.as_str())?;
     }
-    Ok(rodeo.len_as(&mut pass))
+    Ok(caller.count())
 }
 
 // Walks over an interner that threads share, and freezing it: how long they take a text.

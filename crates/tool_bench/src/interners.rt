@@ -1,14 +1,16 @@
 //! An interner that threads share: how long a call takes each of them, also one that takes many texts.
-ghost use Rattle.std.specs.Prelude.{◌≡◌, ◌<◌};
+ghost use Rattle.std.specs.Prelude.{◌<◌};
 
-use crate::calls::{Calls, Plain, WithHints, WithPass, filled, resolve_keys, resolve_keys_plainly};
+use crate::calls::{
+    Caller, Calls, Plain, WithHints, WithPass, filled, resolve_keys, resolve_keys_plainly,
+};
 use crate::shared::THREADS;
 use crate::texts::Lines;
 use crate::timing::{
     NO_MEMORY, REFUSED, Table, Tenths, elapsed_since, if_so, started, sum_of_positions,
     tenths_if_all, tenths_of,
 };
-use lasso::{Key, Pass, Spur, SpurThreadedRodeo, ThreadedRodeo};
+use lasso::{Key, Spur, SpurThreadedRodeo, ThreadedRodeo};
 use std::alloc::AllocError;
 use std::rt::Clock;
 use std::sync::Wait;
@@ -22,16 +24,16 @@ pub fn time_interners<R: AllocGlobal + Clock + Print + Threads + Wait + Sync>(
 ) {
     time_filling::<WithPass, R>(rt, table, ["new", "intern"], lines);
     time_filling::<WithHints, R>(rt, table, ["hinted_new", "hinted_intern"], lines);
-    time_filling::<Batches64, R>(rt, table, ["batch64_new", "batch64_intern"], lines);
-    time_filling::<Batches1024, R>(rt, table, ["batch1024_new", "batch1024_intern"], lines);
+    time_filling::<Batches<64>, R>(rt, table, ["batch64_new", "batch64_intern"], lines);
+    time_filling::<Batches<1024>, R>(rt, table, ["batch1024_new", "batch1024_intern"], lines);
     let Some(rodeo) = filled(rt, &lines.distinct) else {
         return table.fail(REFUSED);
     };
     time_finding::<WithPass, R>(rt, table, ["present", "get"], &rodeo, lines);
     time_finding::<WithHints, R>(rt, table, ["hinted_present", "hinted_get"], &rodeo, lines);
     time_finding::<Plain, R>(rt, table, ["plain_present", "plain_get"], &rodeo, lines);
-    time_finding::<Batches64, R>(rt, table, ["batch64_present", "batch64_get"], &rodeo, lines);
-    time_finding::<Batches1024, R>(
+    time_finding::<Batches<64>, R>(rt, table, ["batch64_present", "batch64_get"], &rodeo, lines);
+    time_finding::<Batches<1024>, R>(
         rt,
         table,
         ["batch1024_present", "batch1024_get"],
@@ -65,18 +67,10 @@ fn time_finding<C: Calls, R: AllocGlobal + Clock + Print + Threads + Wait + Sync
 ) {
     let [present, get] = names;
     for threads in THREADS {
-        table.add(
-            rt,
-            present,
-            threads,
-            time_present::<C, R>(rt, rodeo, lines, threads),
-        );
-        table.add(
-            rt,
-            get,
-            threads,
-            time_get::<C, R>(rt, rodeo, lines, threads),
-        );
+        let interned = time_present::<C, R>(rt, rodeo, lines, threads, true);
+        table.add(rt, present, threads, interned);
+        let found = time_present::<C, R>(rt, rodeo, lines, threads, false);
+        table.add(rt, get, threads, found);
     }
 }
 
@@ -113,38 +107,24 @@ fn keys_of<R: AllocGlobal + Wait>(
     Ok(keys)
 }
 
-// Has `threads` threads intern all lines at once, which are present.
+// Has `threads` threads intern all lines at once, which are present, or look them up.
 fn time_present<C: Calls, R: AllocGlobal + Clock + Threads + Wait + Sync>(
     rt: &R,
     rodeo: &SpurThreadedRodeo,
     lines: &Lines,
     threads: usize,
+    is_interned: bool,
 ) -> Tenths {
     let start = started(rt);
     let sums = map_indices(
         rt,
         rt.alloc(),
         threads,
-        &|_| C::intern_all(rt, rodeo, &lines.again),
-    );
-    let elapsed = elapsed_since(rt, start);
-    let wanted = Some(lines.positions);
-    tenths_if_all(sums, &wanted, "a key is wrong", elapsed, lines.again.len())
-}
-
-// Has `threads` threads look all lines up at once, which are present.
-fn time_get<C: Calls, R: AllocGlobal + Clock + Threads + Wait + Sync>(
-    rt: &R,
-    rodeo: &SpurThreadedRodeo,
-    lines: &Lines,
-    threads: usize,
-) -> Tenths {
-    let start = started(rt);
-    let sums = map_indices(
-        rt,
-        rt.alloc(),
-        threads,
-        &|_| C::get_all(rt, rodeo, &lines.again),
+        &|_| if is_interned {
+            C::intern_all(rt, rodeo, &lines.again)
+        } else {
+            C::get_all(rt, rodeo, &lines.again)
+        },
     );
     let elapsed = elapsed_since(rt, start);
     let wanted = Some(lines.positions);
@@ -168,7 +148,7 @@ fn time_resolve<R: AllocGlobal + Clock + Threads + Sync>(
         &|_| if is_plain {
             resolve_keys_plainly(rodeo, keys)
         } else {
-            resolve_keys(rodeo, keys)
+            resolve_keys(rt.alloc(), rodeo, keys)
         },
     );
     let elapsed = elapsed_since(rt, start);
@@ -238,19 +218,16 @@ fn sum_of_parts(parts: &[Option<usize>]) -> Option<usize> {
 
 // Calls of an interner that threads share for many texts at a time, with a pass that keeps hints.
 
-/// Batches of 64 texts.
-pub struct Batches64;
+/// Batches of this number of texts, at least one.
+pub struct Batches<const SIZE: usize>;
 
-/// Batches of 1,024 texts.
-pub struct Batches1024;
-
-impl Calls for Batches64 {
+impl<const SIZE: usize> Calls for Batches<SIZE> {
     fn intern_all<R: AllocGlobal + Wait>(
         rt: &R,
         rodeo: &SpurThreadedRodeo,
         texts: &[String],
     ) -> Option<usize> {
-        intern_batches(rt, rodeo, texts, 64)
+        intern_batches(rt, rodeo, texts, SIZE.max(1))
     }
 
     fn get_all<R: AllocGlobal + Wait>(
@@ -258,25 +235,7 @@ impl Calls for Batches64 {
         rodeo: &SpurThreadedRodeo,
         texts: &[String],
     ) -> Option<usize> {
-        get_batches(rt, rodeo, texts, 64)
-    }
-}
-
-impl Calls for Batches1024 {
-    fn intern_all<R: AllocGlobal + Wait>(
-        rt: &R,
-        rodeo: &SpurThreadedRodeo,
-        texts: &[String],
-    ) -> Option<usize> {
-        intern_batches(rt, rodeo, texts, 1024)
-    }
-
-    fn get_all<R: AllocGlobal + Wait>(
-        rt: &R,
-        rodeo: &SpurThreadedRodeo,
-        texts: &[String],
-    ) -> Option<usize> {
-        get_batches(rt, rodeo, texts, 1024)
+        get_batches(rt, rodeo, texts, SIZE.max(1))
     }
 }
 
@@ -303,41 +262,17 @@ fn intern_batches<R: AllocGlobal + Wait>(
 ) -> Option<usize>
     requires { 0 < size }
 {
-    let mut pass = rodeo.pass_with_hints(rt.alloc());
+    let mut caller = Caller::new(rt.alloc(), rodeo, true);
     let mut batch = Vec::new(rt.alloc());
     let mut keys = Vec::new(rt.alloc());
     let mut sum = 0usize;
     for part in texts.chunks(size) {
-        if !is_lent(part, &mut batch) {
+        if !is_lent(part, &mut batch) || !caller.intern_batch(rt, &batch, &mut keys) {
             return None;
         }
-        let of_part = interned_sum(rt, rodeo, &mut pass, &batch, &mut keys)?;
-        sum = sum.wrapping_add(of_part);
-    }
-    Some(sum)
-}
-
-// Interns the texts by one call. Answers the sum of their positions, or `None` where one was refused.
-fn interned_sum<R: Wait>(
-    rt: &R,
-    rodeo: &SpurThreadedRodeo,
-    pass: &mut Pass<Spur>,
-    texts: &[&str],
-    keys: &mut Vec<Spur>,
-) -> Option<usize>
-    requires { pass.old.of ≡ rodeo.now }
-    ensures { pass.new.of ≡ rodeo.now }
-{
-    keys.clear();
-    if rodeo
-        .try_get_or_intern_all_as(rt, pass, texts, keys)
-        .is_err()
-    {
-        return None;
-    }
-    let mut sum = 0usize;
-    for key in keys.iter() {
-        sum = sum.wrapping_add(key.into_usize());
+        for key in keys.iter() {
+            sum = sum.wrapping_add(key.into_usize());
+        }
     }
     Some(sum)
 }
@@ -351,36 +286,17 @@ fn get_batches<R: AllocGlobal + Wait>(
 ) -> Option<usize>
     requires { 0 < size }
 {
-    let mut pass = rodeo.pass_with_hints(rt.alloc());
+    let mut caller = Caller::new(rt.alloc(), rodeo, true);
     let mut batch = Vec::new(rt.alloc());
     let mut keys = Vec::new(rt.alloc());
     let mut sum = 0usize;
     for part in texts.chunks(size) {
-        if !is_lent(part, &mut batch) {
+        if !is_lent(part, &mut batch) || !caller.find_batch(rt, &batch, &mut keys) {
             return None;
         }
-        let of_part = found_sum(rt, rodeo, &mut pass, &batch, &mut keys)?;
-        sum = sum.wrapping_add(of_part);
+        sum = sum.wrapping_add(position_sum(keys.as_slice())?);
     }
     Some(sum)
-}
-
-// Looks the texts up by one call. Answers the sum of their positions, or `None` where one is absent.
-fn found_sum<R: Wait>(
-    rt: &R,
-    rodeo: &SpurThreadedRodeo,
-    pass: &mut Pass<Spur>,
-    texts: &[&str],
-    keys: &mut Vec<Option<Spur>>,
-) -> Option<usize>
-    requires { pass.old.of ≡ rodeo.now }
-    ensures { pass.new.of ≡ rodeo.now }
-{
-    keys.clear();
-    if rodeo.get_all_as(rt, pass, texts, keys).is_err() {
-        return None;
-    }
-    position_sum(keys.as_slice())
 }
 
 // The sum of the positions of the keys, or `None` where one is missing.

@@ -1,7 +1,7 @@
 //! The log of a shared interner: texts that threads read at once or copy into a bucket which they share, and how long a
 //! call takes each of them.
 ghost use Rattle.std.specs.Prelude.{◌≡◌, ◌<◌, [], IfOk, string_bytes};
-ghost use Rattle.lasso_log.specs.Views.{list_of, InternerId};
+ghost use Rattle.lasso_log.specs.Views.{list_of, InternerId, PassView};
 ghost use Rattle.tool_bench.specs.Names.{named};
 ghost use Rattle.lasso_log.specs.SharedBuckets.{SharedView};
 
@@ -11,7 +11,7 @@ use crate::timing::{
 };
 use anyhow::{Result, bail};
 use lasso_log::log::bucket::SharedBucket;
-use lasso_log::log::{Log, NewLog, Opened, OpeningTexts, Spine};
+use lasso_log::log::{Log, NewLog, Opened, OpeningTexts, Pass, Spine};
 use lasso_parts::keys::{Key, Spur};
 use std::alloc::{AllocError, Global};
 use std::rt::Clock;
@@ -72,14 +72,33 @@ fn leaked(text: String) -> Result<&'static str, AllocError>
     }
 }
 
+// A log with a pass of it.
+#[derive(Drop)]
+struct Reading<'a> {
+    log: &'a Log<Spur>,
+    pass: Pass<Spur>,
+    ghost of: { pass.of ≡ log.now },
+}
+
+impl Reading<'_> {
+    // The length of the text at the position, or 0 if there is none.
+    fn length(&mut self, position: u32) -> usize {
+        match self.log.read(u64::from(position), &mut self.pass) {
+            Some(text) => text.len(),
+            None => 0,
+        }
+    }
+}
+
 /// Reads the text at each position, and returns the sum of their lengths in bytes.
 pub fn read_all(log: &Log<Spur>, positions: &[u32]) -> usize {
-    let mut pass = log.pass();
+    let mut reading = Reading {
+        log,
+        pass: log.pass(),
+    };
     let mut sum = 0usize;
     for position in positions {
-        if let Some(text) = log.read(u64::from(*position), &mut pass) {
-            sum = sum.wrapping_add(text.len());
-        }
+        sum = sum.wrapping_add(reading.length(*position));
     }
     sum
 }
@@ -224,17 +243,45 @@ fn time_passes<R: Clock>(rt: &R, log: &Log<Spur>) -> Tenths {
     tenths_of(elapsed, COPIES as usize)
 }
 
+// A bucket, its log and a pass of that.
+#[derive(Drop)]
+struct Copying<'a> {
+    log: &'a Log<Spur>,
+    bucket: &'a SharedBucket<Spur>,
+    pass: Pass<Spur>,
+    ghost of: { (pass.of ≡ log.now) × (bucket.now.of ≡ log.now) },
+}
+
+impl Copying<'_> {
+    // Copies the text, if the bucket has room for it. Answers whether it had.
+    fn is_copied<R: Wait>(&mut self, rt: &R) -> bool {
+        match self
+            .bucket
+            .try_reserve(rt, self.log, &mut self.pass, TEXT.len() as u64)
+        {
+            Some(range) => {
+                drop(range.fill(self.log.era(), TEXT));
+                true
+            }
+            None => false,
+        }
+    }
+}
+
 // Copies the text while the bucket has room for it, at most `COPIES` times, and returns the number of
 // copies.
 fn copy_texts<R: Wait>(rt: &R, log: &Log<Spur>, bucket: &SharedBucket<Spur>) -> u32
     requires { bucket.now.of ≡ log.now }
 {
-    let mut pass = log.pass();
+    let mut copying = Copying {
+        log,
+        bucket,
+        pass: log.pass(),
+    };
     for copied in 0..COPIES {
-        let Some(range) = bucket.try_reserve(rt, log, &mut pass, TEXT.len() as u64) else {
+        if !copying.is_copied(rt) {
             return copied;
-        };
-        drop(range.fill(log.era(), TEXT));
+        }
     }
     COPIES
 }

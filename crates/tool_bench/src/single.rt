@@ -5,7 +5,7 @@ ghost use Rattle.std.specs.Prelude.{◌<◌, ◌≡◌, ◌↔◌, ℕ, All, IfO
 use crate::texts::{Form, Sample, random_positions};
 use crate::timing::{
     NO_MEMORY, REFUSED, ROUNDS, Table, Tenths, elapsed_since, if_so, last_byte, least, started,
-    sum_of_last_bytes, sum_of_positions, tenths_if,
+    sum_of_last_bytes, tenths_if, tenths_of_positions,
 };
 use lasso::{Key, Spur, SpurRodeo, SpurRodeoReader, SpurRodeoResolver};
 use std::alloc::{AllocError, Global};
@@ -58,13 +58,7 @@ fn time_interns<R: Clock>(rt: &R, rodeo: &mut SpurRodeo, texts: &[String]) -> Te
     let start = started(rt);
     let sum = intern_all(rodeo, texts);
     let elapsed = elapsed_since(rt, start);
-    let are_keys = sum == Some(sum_of_positions(texts.len()));
-    tenths_if(
-        are_keys,
-        "a text was refused, or a key is wrong",
-        elapsed,
-        texts.len(),
-    )
+    tenths_of_positions(sum, elapsed, texts.len())
 }
 
 // Asks for the texts, which are absent.

@@ -3,8 +3,8 @@
 use crate::single::{intern_all, keys_of, round};
 use crate::texts::{Form, Sample};
 use crate::timing::{
-    NO_MEMORY, REFUSED, Table, Tenths, elapsed_since, if_so, last_byte, least, started,
-    sum_of_last_bytes, sum_of_positions, tenths_if,
+    NO_MEMORY, Table, Tenths, elapsed_since, if_so, last_byte, least, started, sum_of_last_bytes,
+    tenths_if, tenths_of_positions,
 };
 use anyhow::Result;
 use lasso::keyed::keyed_by;
@@ -129,13 +129,8 @@ fn time_intern_all<R: AllocGlobal + Clock>(
     let interned = rodeo.try_get_or_intern_all(texts, &mut found);
     let sum = sum_of_keys(&found);
     let elapsed = elapsed_since(rt, start);
-    let are_keys = interned.is_ok() && sum == sum_of_positions(texts.len());
-    tenths_if(
-        are_keys,
-        "a text was refused, or a key is wrong",
-        elapsed,
-        texts.len(),
-    )
+    let sum = if interned.is_ok() { Some(sum) } else { None };
+    tenths_of_positions(sum, elapsed, texts.len())
 }
 
 // Asks for the texts, which are absent.
@@ -255,11 +250,7 @@ fn time_filling<S: BuildHasher + Drop, R: AllocGlobal + Clock>(
     let start = started(rt);
     let sum = intern_hashed(rt.alloc(), hasher, texts);
     let elapsed = elapsed_since(rt, start);
-    let Ok(sum) = sum else {
-        return Err(REFUSED);
-    };
-    let are_keys = sum == sum_of_positions(texts.len());
-    tenths_if(are_keys, "a key is wrong", elapsed, texts.len())
+    tenths_of_positions(sum.ok(), elapsed, texts.len())
 }
 
 // Interns the texts in a new interner, and gives the sum of their positions.
@@ -317,13 +308,7 @@ fn time_refill<R: Clock>(rt: &R, kept: &mut SpurRodeo, texts: &[String]) -> Tent
     kept.clear();
     let sum = intern_all(kept, texts);
     let elapsed = elapsed_since(rt, start);
-    let are_keys = sum == Some(sum_of_positions(texts.len()));
-    tenths_if(
-        are_keys,
-        "a text was refused, or a key is wrong",
-        elapsed,
-        texts.len(),
-    )
+    tenths_of_positions(sum, elapsed, texts.len())
 }
 
 // Makes an interner, fills it and lets it go.
@@ -331,13 +316,7 @@ fn time_anew<R: AllocGlobal + Clock>(rt: &R, texts: &[String]) -> Tenths {
     let start = started(rt);
     let sum = intern_all_anew(rt.alloc(), texts);
     let elapsed = elapsed_since(rt, start);
-    let are_keys = sum == Some(sum_of_positions(texts.len()));
-    tenths_if(
-        are_keys,
-        "a text was refused, or a key is wrong",
-        elapsed,
-        texts.len(),
-    )
+    tenths_of_positions(sum, elapsed, texts.len())
 }
 
 // Interns the texts in an interner of its own, and returns the sum of their positions; `None` if one is refused.

@@ -5,7 +5,7 @@ use crate::calls::{
     time_walks, walk_entries, walk_texts,
 };
 use crate::columns::time_columns;
-use crate::interners::{Batches64, Batches1024, time_interners};
+use crate::interners::{Batches, time_interners};
 use crate::shared::{Walk, open_log, read_all, time_copying, time_log};
 use crate::single::{FrozenTexts, keys_at, resolve_frozen};
 use crate::sized::{time_collisions, time_refilling};
@@ -92,8 +92,8 @@ fn print_shared<R: AllocGlobal + Clock + Print + Threads + Wait + Sync>(
     print_calls::<WithPass, R>(rt, "with a pass")?;
     print_calls::<WithHints, R>(rt, "with hints")?;
     print_calls::<Plain, R>(rt, "plain")?;
-    print_calls::<Batches64, R>(rt, "in batches of 64")?;
-    print_calls::<Batches1024, R>(rt, "in batches of 1024")?;
+    print_calls::<Batches<64>, R>(rt, "in batches of 64")?;
+    print_calls::<Batches<1024>, R>(rt, "in batches of 1024")?;
     print_resolved_keys(rt)?;
     print_walks(rt, table)
 }
@@ -144,7 +144,7 @@ fn print_resolved_keys<R: AllocGlobal + Print + Wait>(rt: &R) -> Result<()> {
     let rodeo = filled(rt, &lines.distinct).context("a text was refused")?;
     let key = rodeo.get(rt, "abc").context("abc is missing")?;
     let lengths = [
-        resolve_keys(&rodeo, &[key, key]),
+        resolve_keys(rt.alloc(), &rodeo, &[key, key]),
         resolve_keys_plainly(&rodeo, &[key, key]),
     ];
     print_answers(rt, "resolved", &lengths)

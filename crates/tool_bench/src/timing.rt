@@ -50,6 +50,17 @@ pub fn tenths_if(
     tenths_of(elapsed, calls)
 }
 
+/// The same of `texts` texts that were interned one after another at the first positions, whose sum this is; `None` if one was refused.
+pub fn tenths_of_positions(sum: Option<usize>, elapsed: Option<Duration>, texts: usize) -> Tenths {
+    let are_keys = sum == Some(sum_of_positions(texts));
+    tenths_if(
+        are_keys,
+        "a text was refused, or a key is wrong",
+        elapsed,
+        texts,
+    )
+}
+
 /// The same if each thread had to answer `wanted`. It fails too if there was no memory for the answers.
 pub fn tenths_if_all<T: PartialEq + Drop>(
     answers: Result<Vec<T>, AllocError>,

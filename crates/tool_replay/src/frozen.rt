@@ -1,13 +1,13 @@
 //! Replays commands on the frozen forms of a script's interner, walks over texts, and compares an interner and its
 //! frozen forms with those of another list.
 use crate::lines::{Call, Look, Move, Question, RodeoCommand};
-use crate::replay::{Interner, of_texts, split_at_freeze};
+use crate::replay::{Interner, ask_of_keys, of_texts, split_at_freeze};
 use crate::replies::{
-    write_debug, write_flag, write_flags, write_found, write_left, write_no_call, write_number,
-    write_pair, write_pairs, write_refusal, write_resolved, write_saved, write_text,
+    write_debug, write_flag, write_flags, write_found, write_left, write_no_call, write_pair,
+    write_pairs, write_refusal, write_resolved, write_saved, write_text,
 };
 use lasso::{Iter, Key, LassoResult, RodeoReader, RodeoResolver, Strings};
-use std::alloc::Global;
+use std::alloc::{AllocError, Global};
 use std::hash::BuildHasher;
 use std::io;
 use std::io::Write;
@@ -47,7 +47,7 @@ fn replay_resolver<K: Key, S: BuildHasher + Default + Drop, W: Write>(
 ) -> io::Result<()> {
     for command in commands {
         match command {
-            RodeoCommand::Call(Call::Ask(question)) => ask_resolver(resolver, question, out)?,
+            RodeoCommand::Call(Call::Ask(question)) => ask_of_keys(resolver, question, out)?,
             RodeoCommand::Look(look) => look_at_resolver::<K, S, W>(alloc, resolver, look, out)?,
             _ => write_no_call(out)?,
         }
@@ -63,50 +63,8 @@ fn ask_reader<K: Key, S: BuildHasher, W: Write>(
     match question {
         Question::Get(text) => write_found(out, reader.get(text.as_str())),
         Question::Contains(text) => write_flag(out, reader.contains(text.as_str())),
-        Question::Has(number) => write_flag(out, reader_has(reader, *number)),
-        Question::Resolve(number) => write_text(out, text_of_reader(reader, *number)),
-        Question::Len => write_number(out, reader.len()),
-        Question::Usage | Question::Max => write_no_call(out),
+        _ => ask_of_keys(reader, question, out),
     }
-}
-
-fn ask_resolver<K: Key, W: Write>(
-    resolver: &Resolver<K>,
-    question: &Question,
-    out: &mut W,
-) -> io::Result<()> {
-    match question {
-        Question::Has(number) => write_flag(out, resolver_has(resolver, *number)),
-        Question::Resolve(number) => write_text(out, text_of_resolver(resolver, *number)),
-        Question::Len => write_number(out, resolver.len()),
-        _ => write_no_call(out),
-    }
-}
-
-// Whether the number has a key, and the key a text.
-fn reader_has<K: Key, S: BuildHasher>(reader: &Reader<K, S>, number: usize) -> bool {
-    match K::try_from_usize(number) {
-        Some(key) => reader.contains_key(key),
-        None => false,
-    }
-}
-
-fn resolver_has<K: Key>(resolver: &Resolver<K>, number: usize) -> bool {
-    match K::try_from_usize(number) {
-        Some(key) => resolver.contains_key(key),
-        None => false,
-    }
-}
-
-// The text of the key with this number.
-fn text_of_reader<K: Key, S: BuildHasher>(reader: &Reader<K, S>, number: usize) -> Option<&str> {
-    let key = K::try_from_usize(number)?;
-    reader.try_resolve(key)
-}
-
-fn text_of_resolver<K: Key>(resolver: &Resolver<K>, number: usize) -> Option<&str> {
-    let key = K::try_from_usize(number)?;
-    resolver.try_resolve(key)
 }
 
 // The text of the key with this number by both calls that need one.
@@ -141,8 +99,8 @@ fn look_at_reader<K: Key, S: BuildHasher + Default + Drop, W: Write>(
         Look::Stands(number) => write_resolved(out, texts_of_reader(reader, *number)),
         Look::Empty => write_flag(out, reader.is_empty()),
         Look::Loop => write_pairs(out, reader.into_iter()),
-        Look::Walk(moves) => walk_pairs(out, reader.iter(), moves),
-        Look::Strings(moves) => walk_strings(out, reader.strings(), moves),
+        Look::Walk(moves) => walk(out, reader.iter(), moves),
+        Look::Strings(moves) => walk(out, reader.strings(), moves),
         Look::Saved => write_saved(alloc, out, reader.serialize(alloc)),
         Look::Debug => write_debug(alloc, out, reader),
         Look::Compare(texts) => compare_reader(alloc, reader, texts, out),
@@ -159,8 +117,8 @@ fn look_at_resolver<K: Key, S: BuildHasher + Default + Drop, W: Write>(
         Look::Stands(number) => write_resolved(out, texts_of_resolver(resolver, *number)),
         Look::Empty => write_flag(out, resolver.is_empty()),
         Look::Loop => write_pairs(out, resolver.into_iter()),
-        Look::Walk(moves) => walk_pairs(out, resolver.iter(), moves),
-        Look::Strings(moves) => walk_strings(out, resolver.strings(), moves),
+        Look::Walk(moves) => walk(out, resolver.iter(), moves),
+        Look::Strings(moves) => walk(out, resolver.strings(), moves),
         Look::Saved => write_saved(alloc, out, resolver.serialize(alloc)),
         Look::Debug => write_debug(alloc, out, resolver),
         Look::Compare(texts) => compare_resolver::<K, S, W>(alloc, resolver, texts, out),
@@ -179,83 +137,65 @@ fn split_at_copy(moves: &[Move]) -> (&[Move], Option<&[Move]>) {
     (moves, None)
 }
 
-/// Makes the calls of a walk over keys and texts, and writes the reply to each.
-pub fn walk_pairs<K: Key, W: Write>(
-    out: &mut W,
-    mut walk: Iter<'_, K>,
-    moves: &[Move],
-) -> io::Result<()> {
+/// A walk over the texts of an interner.
+pub trait Walk: Drop {
+    /// Makes the call, and writes its reply.
+    fn step<W: Write>(&mut self, out: &mut W, step: Move) -> io::Result<()>;
+
+    /// A copy of the walk, from where it is.
+    fn again(&self) -> Result<Self, AllocError>;
+}
+
+/// Makes the calls of a walk, and writes the reply to each.
+pub fn walk<T: Walk, W: Write>(out: &mut W, mut walk: T, moves: &[Move]) -> io::Result<()> {
     let (before, after) = split_at_copy(moves);
-    each_of_pairs(out, &mut walk, before)?;
+    take_steps(out, &mut walk, before)?;
     if let Some(after) = after {
-        let mut copy = walk.clone()?;
-        each_of_pairs(out, &mut walk, after)?;
-        each_of_pairs(out, &mut copy, after)?;
+        let mut copy = walk.again()?;
+        take_steps(out, &mut walk, after)?;
+        take_steps(out, &mut copy, after)?;
     }
     Ok(())
 }
 
-fn each_of_pairs<K: Key, W: Write>(
-    out: &mut W,
-    walk: &mut Iter<'_, K>,
-    moves: &[Move],
-) -> io::Result<()> {
+fn take_steps<T: Walk, W: Write>(out: &mut W, walk: &mut T, moves: &[Move]) -> io::Result<()> {
     for step in moves {
-        move_pairs(out, walk, *step)?;
+        walk.step(out, *step)?;
     }
     Ok(())
 }
 
-fn move_pairs<K: Key, W: Write>(out: &mut W, walk: &mut Iter<'_, K>, step: Move) -> io::Result<()> {
-    match step {
-        Move::Next => write_pair(out, walk.next()),
-        Move::Back => write_pair(out, walk.next_back()),
-        Move::Nth(number) => write_pair(out, walk.nth(number)),
-        Move::NthBack(number) => write_pair(out, walk.nth_back(number)),
-        Move::Left => write_left(out, walk.len(), walk.size_hint()),
-        Move::Copy => Ok(()),
+impl<K: Key> Walk for Iter<'_, K> {
+    fn step<W: Write>(&mut self, out: &mut W, step: Move) -> io::Result<()> {
+        match step {
+            Move::Next => write_pair(out, self.next()),
+            Move::Back => write_pair(out, self.next_back()),
+            Move::Nth(number) => write_pair(out, self.nth(number)),
+            Move::NthBack(number) => write_pair(out, self.nth_back(number)),
+            Move::Left => write_left(out, self.len(), self.size_hint()),
+            Move::Copy => Ok(()),
+        }
+    }
+
+    fn again(&self) -> Result<Self, AllocError> {
+        self.clone()
     }
 }
 
-/// Makes the calls of a walk over texts, and writes the reply to each.
-pub fn walk_strings<K: Key, W: Write>(
-    out: &mut W,
-    mut walk: Strings<'_, K>,
-    moves: &[Move],
-) -> io::Result<()> {
-    let (before, after) = split_at_copy(moves);
-    each_of_strings(out, &mut walk, before)?;
-    if let Some(after) = after {
-        let mut copy = walk.clone()?;
-        each_of_strings(out, &mut walk, after)?;
-        each_of_strings(out, &mut copy, after)?;
+impl<K: Key> Walk for Strings<'_, K> {
+    fn step<W: Write>(&mut self, out: &mut W, step: Move) -> io::Result<()> {
+        match step {
+            Move::Next => write_text(out, self.next()),
+            Move::Back => write_text(out, self.next_back()),
+            Move::Nth(number) => write_text(out, self.nth(number)),
+            Move::NthBack(number) => write_text(out, self.nth_back(number)),
+            Move::Left => write_left(out, self.len(), self.size_hint()),
+            Move::Copy => Ok(()),
+        }
     }
-    Ok(())
-}
 
-fn each_of_strings<K: Key, W: Write>(
-    out: &mut W,
-    walk: &mut Strings<'_, K>,
-    moves: &[Move],
-) -> io::Result<()> {
-    for step in moves {
-        move_strings(out, walk, *step)?;
-    }
-    Ok(())
-}
-
-fn move_strings<K: Key, W: Write>(
-    out: &mut W,
-    walk: &mut Strings<'_, K>,
-    step: Move,
-) -> io::Result<()> {
-    match step {
-        Move::Next => write_text(out, walk.next()),
-        Move::Back => write_text(out, walk.next_back()),
-        Move::Nth(number) => write_text(out, walk.nth(number)),
-        Move::NthBack(number) => write_text(out, walk.nth_back(number)),
-        Move::Left => write_left(out, walk.len(), walk.size_hint()),
-        Move::Copy => Ok(()),
+    fn again(&self) -> Result<Self, AllocError> {
+        self.clone()
     }
 }
 

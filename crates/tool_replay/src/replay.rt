@@ -1,11 +1,11 @@
 //! Replays a script on a `Rodeo`, and after `freeze` on its frozen forms, or on a `ThreadedRodeo` by one thread.
-use crate::frozen::{compare_rodeo, replay_reader, walk_pairs, walk_strings};
+use crate::frozen::{compare_rodeo, replay_reader, walk};
 use crate::lines::{Call, Change, Look, Question, RodeoCommand, Way};
 use crate::replies::{
     write_debug, write_flag, write_found, write_interned, write_json_error, write_no_call,
     write_number, write_outcome, write_pairs, write_resolved, write_saved, write_text,
 };
-use lasso::{FixedState, Key, LassoResult, MemoryLimits, Rodeo, ThreadedRodeo};
+use lasso::{FixedState, Key, LassoResult, MemoryLimits, Resolver, Rodeo, ThreadedRodeo};
 use lasso_single::keyword_lists::are_distinct;
 use serde_json::Value;
 use std::alloc::{AllocError, Global};
@@ -95,26 +95,38 @@ fn answer<K: Key, S: BuildHasher, W: Write>(
     match question {
         Question::Get(text) => write_found(out, rodeo.get(text.as_str())),
         Question::Contains(text) => write_flag(out, rodeo.contains(text.as_str())),
-        Question::Has(number) => write_flag(out, has_key(rodeo, *number)),
-        Question::Resolve(number) => write_text(out, text_of(rodeo, *number)),
-        Question::Len => write_number(out, rodeo.len()),
         Question::Usage => write_number(out, rodeo.current_memory_usage()),
         Question::Max => write_number(out, rodeo.max_memory_usage()),
+        _ => ask_of_keys(rodeo, question, out),
+    }
+}
+
+/// Writes the reply to a question that each form of an interner has, about a key or how many texts there are.
+pub fn ask_of_keys<K: Key, T: Resolver<K>, W: Write>(
+    texts: &T,
+    question: &Question,
+    out: &mut W,
+) -> io::Result<()> {
+    match question {
+        Question::Has(number) => write_flag(out, has_key(texts, *number)),
+        Question::Resolve(number) => write_text(out, text_of(texts, *number)),
+        Question::Len => write_number(out, texts.len()),
+        _ => write_no_call(out),
     }
 }
 
 // Whether the number has a key, and the key a text.
-fn has_key<K: Key, S: BuildHasher>(rodeo: &Interner<K, S>, number: usize) -> bool {
+fn has_key<K: Key, T: Resolver<K>>(texts: &T, number: usize) -> bool {
     match K::try_from_usize(number) {
-        Some(key) => rodeo.contains_key(key),
+        Some(key) => texts.contains_key(key),
         None => false,
     }
 }
 
 // The text of the key with this number.
-fn text_of<K: Key, S: BuildHasher>(rodeo: &Interner<K, S>, number: usize) -> Option<&str> {
+fn text_of<K: Key, T: Resolver<K>>(texts: &T, number: usize) -> Option<&str> {
     let key = K::try_from_usize(number)?;
-    rodeo.try_resolve(key)
+    texts.try_resolve(key)
 }
 
 // The text of the key with this number by both calls that need one.
@@ -253,8 +265,8 @@ fn look_at<K: Key, S: BuildHasher + Default + Drop, W: Write>(
         Look::Stands(number) => write_resolved(out, texts_of(rodeo, *number)),
         Look::Empty => write_flag(out, rodeo.is_empty()),
         Look::Loop => write_pairs(out, rodeo.into_iter()),
-        Look::Walk(moves) => walk_pairs(out, rodeo.iter(), moves),
-        Look::Strings(moves) => walk_strings(out, rodeo.strings(), moves),
+        Look::Walk(moves) => walk(out, rodeo.iter(), moves),
+        Look::Strings(moves) => walk(out, rodeo.strings(), moves),
         Look::Saved => write_saved(alloc, out, rodeo.serialize(alloc)),
         Look::Debug => write_debug(alloc, out, rodeo),
         Look::Compare(texts) => compare_rodeo(alloc, rodeo, texts, out),
@@ -293,26 +305,10 @@ fn answer_shared<R: Wait, K: Key, W: Write>(
     match question {
         Question::Get(text) => write_found(out, interner.get(rt, text.as_str())),
         Question::Contains(text) => write_flag(out, interner.contains(rt, text.as_str())),
-        Question::Has(number) => write_flag(out, has_shared_key(interner, *number)),
-        Question::Resolve(number) => write_text(out, text_of_shared(interner, *number)),
-        Question::Len => write_number(out, interner.len()),
         Question::Usage => write_number(out, interner.current_memory_usage(rt)),
         Question::Max => write_number(out, interner.max_memory_usage(rt)),
+        _ => ask_of_keys(interner, question, out),
     }
-}
-
-// Whether the number has a key, and the key a text.
-fn has_shared_key<K: Key>(interner: &SharedInterner<K>, number: usize) -> bool {
-    match K::try_from_usize(number) {
-        Some(key) => interner.contains_key(key),
-        None => false,
-    }
-}
-
-// The text of the key with this number.
-fn text_of_shared<K: Key>(interner: &SharedInterner<K>, number: usize) -> Option<&str> {
-    let key = K::try_from_usize(number)?;
-    interner.try_resolve(key)
 }
 
 // Interns the texts in order, up to the first that is refused.

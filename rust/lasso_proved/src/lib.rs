@@ -28,7 +28,6 @@
 #![deny(missing_docs, missing_debug_implementations, unsafe_op_in_unsafe_fn)]
 #![warn(clippy::undocumented_unsafe_blocks)]
 
-mod equality;
 mod error;
 mod foreign;
 mod foreign_shared;

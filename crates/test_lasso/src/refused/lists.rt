@@ -1,8 +1,7 @@
 //! Whole lists of interners that threads share: walked, written, frozen, and compared with other forms.
-use crate::refused::json::write;
 use crate::refused::makers::{Interner, Scenario, State, Step, Way, position_of, shows};
 use crate::refused::{
-    Refused, extend_once, is_so, read_once, retried, second_value, single_of, threaded_of,
+    Refused, extend_once, is_so, read_once, retried, second_value, single_of, threaded_of, write,
 };
 use lasso::{
     FixedState, Key, LassoErrorKind, MemoryLimits, Rodeo, RodeoReader, RodeoResolver, Spur,

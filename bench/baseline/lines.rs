@@ -1,4 +1,5 @@
-//! The same job as `lasso_codes counts` and `lasso_codes distinct`, as a Rust programmer writes it over std.
+//! The same jobs as `lasso_lines` without options, `lasso_codes counts` and `lasso_codes distinct`, as a Rust programmer writes them
+//! over std.
 use std::collections::{HashMap, HashSet};
 use std::io::{self, BufRead, BufReader, BufWriter, Write};
 
@@ -16,6 +17,26 @@ fn for_each_line(mut work: impl FnMut(&str) -> io::Result<()>) -> io::Result<()>
         }
         work(std::str::from_utf8(&line).map_err(|error| io::Error::new(io::ErrorKind::Other, error))?)?;
     }
+}
+
+fn numbered(writer: &mut impl Write) -> io::Result<()> {
+    let mut positions: HashMap<Box<str>, u32> = HashMap::new();
+    let mut texts: Vec<Box<str>> = Vec::new();
+    let mut bytes = 0;
+    for_each_line(|text| {
+        let position = match positions.get(text) {
+            Some(position) => *position,
+            None => {
+                let position = texts.len() as u32;
+                positions.insert(text.into(), position);
+                texts.push(text.into());
+                bytes += text.len();
+                position
+            }
+        };
+        writeln!(writer, "{position} {text}")
+    })?;
+    writeln!(writer, "{} texts, {bytes} bytes", texts.len())
 }
 
 fn counts(writer: &mut impl Write) -> io::Result<()> {
@@ -51,9 +72,10 @@ fn distinct(writer: &mut impl Write) -> io::Result<()> {
 fn main() -> io::Result<()> {
     let mut writer = BufWriter::with_capacity(1 << 16, io::stdout().lock());
     match std::env::args().nth(1).as_deref() {
+        Some("numbered") => numbered(&mut writer)?,
         Some("counts") => counts(&mut writer)?,
         Some("distinct") => distinct(&mut writer)?,
-        _ => return Err(io::Error::new(io::ErrorKind::Other, "usage: codes counts|distinct")),
+        _ => return Err(io::Error::new(io::ErrorKind::Other, "usage: lines numbered|counts|distinct")),
     }
     writer.flush()
 }
