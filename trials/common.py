@@ -102,7 +102,8 @@ def watched(start, name):
     """A run under valgrind, by a function that starts a command after other words, and how many requests for memory it made. Each block has to be given back, and no access may be wrong."""
     need("valgrind")
     with tempfile.NamedTemporaryFile("r", encoding="utf-8", errors="replace") as log:
-        ran = start((*WATCH, f"--log-file={log.name}"))
+        # valgrind reads `%` in a name.
+        ran = start((*WATCH, f"--log-file={log.name.replace('%', '%%')}"))
         said = log.read()
     if WRONG.search(said) or NOTHING_LEFT not in said:
         raise Fault(f"{name}: under valgrind\n{said}")
