@@ -399,6 +399,7 @@ PyObject *core_new(PyTypeObject *type, PyObject *words, PyObject *named)
 void core_dealloc(Core *core)
 {
     PyTypeObject *type = Py_TYPE((PyObject *)core);
+    core_after_fork(core);
     interner_free(&core->interner);
     core->next->previous = core->previous;
     core->previous->next = core->next;

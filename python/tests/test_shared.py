@@ -371,7 +371,7 @@ def test_a_forked_child_waits_for_no_call_of_its_parent(kind: type[Interner] | t
             time.sleep(0.005)
             child = os.fork()
             if child == 0:
-                signal.alarm(20)
+                signal.alarm(120)
                 try:
                     interner.intern("more")
                     interner.encode(column)
