@@ -148,8 +148,11 @@ class Refuser:
         with tempfile.TemporaryFile(dir=self.room) as source, tempfile.TemporaryFile(dir=self.room) as told:
             source.write(data)
             source.seek(0)
-            environment = {**os.environ, "REFUSE": str(number), "HALT": str(HALT), "LEFT": left, "TOLD": str(told.fileno()), "LD_PRELOAD": self.shim}
-            done = subprocess.run(words, stdin=source, capture_output=True, env=environment, pass_fds=[told.fileno()], check=False)
+            # In a longer path the loader would take a blank or a colon for the end of a library's name.
+            preload = f"./{os.path.basename(self.shim)}"
+            environment = {**os.environ, "REFUSE": str(number), "HALT": str(HALT), "LEFT": left, "TOLD": str(told.fileno()), "LD_PRELOAD": preload}
+            words = [os.path.abspath(words[0]), *words[1:]]
+            done = subprocess.run(words, stdin=source, cwd=self.room, capture_output=True, env=environment, pass_fds=[told.fileno()], check=False)
             is_refused = told.seek(0, os.SEEK_END) > 0
         found = ""
         if os.path.exists(left):
