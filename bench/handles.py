@@ -42,7 +42,7 @@ def build_handles():
     if "LASSO_LIB_DIR" not in os.environ:
         build_library()
         os.environ["LASSO_LIB_DIR"] = f"{os.getcwd()}/out"
-    library = f"{os.environ['LASSO_LIB_DIR']}/liblasso.a"
+    library = os.path.abspath(f"{os.environ['LASSO_LIB_DIR']}/liblasso.a")
     said_of(["cc", "-O2", "-Wall", "-Wextra", "-std=c11", "-pthread", "-o", OVER_C, "bench/threads.c", "-I", "crates/lasso_c/include", library])
     build_crate("proved", "serde")
     if not build_rivals() or not is_lasso_built():

@@ -2,6 +2,7 @@
 
 cargo fetches lasso 0.7.3 from crates.io. LASSO_SOURCE=path takes its sources from a folder instead, and the crates that it uses from the system's
 packages."""
+import json
 import os
 import re
 import sys
@@ -137,7 +138,8 @@ def is_lasso_built():
     source = os.environ.get("LASSO_SOURCE")
     if not source:
         return is_built("lasso", ["cargo", "build", "--release", "--quiet", "--manifest-path", "bench/baseline/lasso/Cargo.toml", "--target-dir", f"{OUT}/lasso"])
-    patch = ["--config", f'patch.crates-io.lasso.path="{os.path.realpath(source)}"']
+    # What JSON escapes in a text is escaped the same in TOML.
+    patch = ["--config", f"patch.crates-io.lasso.path={json.dumps(os.path.realpath(source), ensure_ascii=False)}"]
     return is_built_over_crates("lasso", "ahash", "dashmap", "fxhash", "hashbrown", "memchr", "serde", words=patch)
 
 

@@ -169,7 +169,9 @@ def run(path, case, shim, seconds, before=()):
         environment = dict(os.environ)
         trace = os.open(os.path.join(room, "trace"), os.O_WRONLY | os.O_CREAT | os.O_APPEND)
         if case.words or any(wanted is not None for wanted in (case.calls, case.reads, case.threads)):
-            environment.update(case.words, LD_PRELOAD=shim, TRACE=str(trace))
+            # In a longer path the loader would take a blank or a colon for the end of a library's name.
+            os.symlink(shim, os.path.join(room, "shim.so"))
+            environment.update(case.words, LD_PRELOAD="./shim.so", TRACE=str(trace))
         words = [*before, path, *(case.args.split() if isinstance(case.args, str) else case.args)]
         if streams.closed:
             words = ["sh", "-c", 'exec "$0" "$@" ' + " ".join(streams.closed), *words]

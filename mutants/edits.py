@@ -105,7 +105,7 @@ def edits_of(crate):
 
 def crates_with_edits():
     """The crates that have mutants."""
-    return sorted(os.path.basename(path).removesuffix(".edits") for path in glob.glob(path_of("*")))
+    return sorted(os.path.basename(path).removesuffix(".edits") for path in glob.glob(f"{glob.escape(HERE)}/mutants/*.edits"))
 
 
 def every_edit():

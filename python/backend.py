@@ -60,7 +60,7 @@ def build_core(path: Path) -> Path:
     with tempfile.TemporaryDirectory(dir=path.parent) as folder:
         made = Path(folder) / CORE
         status, said = _run_compiler([
-            "-O2", "-fPIC", "-shared", "-fvisibility=hidden", "-std=c11", f"-I{headers}", f"-I{header}",
+            "-O2", "-fPIC", "-shared", "-pthread", "-fvisibility=hidden", "-std=c11", f"-I{headers}", f"-I{header}",
             *sorted(map(str, (HERE / "core").glob("*.c"))), str(library), "-Wl,--exclude-libs,ALL", "-Wl,-z,now,-z,relro", "-o", str(made),
         ])
         if status != 0 or not made.is_file():

@@ -116,7 +116,8 @@ def watched(start, name):
     """A run under valgrind, by a function that starts a command after other words, and how many requests for memory it made. Each block has to be given back, and no access may be wrong."""
     need("valgrind")
     with tempfile.NamedTemporaryFile("r", encoding="utf-8", errors="replace") as log:
-        ran = start((*WATCH, f"--log-file={log.name}"))
+        # valgrind reads `%` in a name.
+        ran = start((*WATCH, f"--log-file={log.name.replace('%', '%%')}"))
         said = log.read()
     if WRONG.search(said) or NOTHING_LEFT not in said:
         raise Fault(f"{name}: under valgrind\n{said}")
@@ -161,8 +162,11 @@ class Refuser:
         with tempfile.TemporaryFile(dir=self.room) as source, tempfile.TemporaryFile(dir=self.room) as told:
             source.write(data)
             source.seek(0)
-            environment = {**os.environ, "REFUSE": str(number), "HALT": str(HALT), "LEFT": left, "TOLD": str(told.fileno()), "LD_PRELOAD": self.shim}
-            done = subprocess.run(words, stdin=source, capture_output=True, env=environment, pass_fds=[told.fileno()], check=False)
+            # In a longer path the loader would take a blank or a colon for the end of a library's name.
+            preload = f"./{os.path.basename(self.shim)}"
+            environment = {**os.environ, "REFUSE": str(number), "HALT": str(HALT), "LEFT": left, "TOLD": str(told.fileno()), "LD_PRELOAD": preload}
+            words = [os.path.abspath(words[0]), *words[1:]]
+            done = subprocess.run(words, stdin=source, cwd=self.room, capture_output=True, env=environment, pass_fds=[told.fileno()], check=False)
             is_refused = told.seek(0, os.SEEK_END) > 0
         found = ""
         if os.path.exists(left):

@@ -1,6 +1,7 @@
 /* The extension module lasso._core: the type Core, which holds an interner of lasso.h, and the calls for one text, which the type Seat has too. */
 #include "core.h"
 
+#include <pthread.h>
 #include <stdarg.h>
 #include <string.h>
 
@@ -8,8 +9,39 @@
 static PyObject *core_type, *error_of, *wrong_layout;
 static int64_t interpreter = -1;
 
+/* How many forks there were from the process that loaded the module down to this one. */
+static unsigned forks;
+
+static void count_fork(void)
+{
+    forks++;
+}
+
+void core_after_fork(Core *core)
+{
+    Core *each = core;
+    bool is_left = false;
+    if (core->forks == forks)
+        return;
+    do
+        is_left |= each->busy;
+    while ((each = each->next) != core);
+    do {
+        if (is_left) {
+            each->interner.own = (struct lasso)LASSO_NONE;
+            each->interner.shared = (struct lasso_shared)LASSO_SHARED_NONE;
+        }
+        each->busy = each->closes = false;
+        each->forks = forks;
+        /* Whoever had it is in the parent. */
+        PyThread_acquire_lock(each->lock, NOWAIT_LOCK);
+        PyThread_release_lock(each->lock);
+    } while ((each = each->next) != core);
+}
+
 void core_enter(Core *core)
 {
+    core_after_fork(core);
     while (core->busy) {
         Py_BEGIN_ALLOW_THREADS
         PyThread_acquire_lock(core->lock, WAIT_LOCK);
@@ -307,6 +339,7 @@ static PyObject *core_close(Core *core, PyObject *none)
 PyObject *core_closed(Core *core, void *none)
 {
     (void)none;
+    core_after_fork(core);
     return PyBool_FromLong(!interner_is_live(&core->interner));
 }
 
@@ -353,6 +386,7 @@ PyObject *core_new(PyTypeObject *type, PyObject *words, PyObject *named)
     if (core == NULL)
         return NULL;
     core->next = core->previous = core;
+    core->forks = forks;
     core->lock = PyThread_allocate_lock();
     if (core->lock == NULL) {
         Py_DECREF(core);
@@ -365,6 +399,7 @@ PyObject *core_new(PyTypeObject *type, PyObject *words, PyObject *named)
 void core_dealloc(Core *core)
 {
     PyTypeObject *type = Py_TYPE((PyObject *)core);
+    core_after_fork(core);
     interner_free(&core->interner);
     core->next->previous = core->previous;
     core->previous->next = core->next;
@@ -434,6 +469,10 @@ static int load(PyObject *module)
     int64_t here = PyInterpreterState_GetID(PyInterpreterState_Get());
     if (interpreter >= 0 && here != interpreter) {
         PyErr_SetString(PyExc_ImportError, "lasso can't be used in a subinterpreter beside another interpreter that uses it");
+        return -1;
+    }
+    if (interpreter < 0 && pthread_atfork(NULL, NULL, count_fork) != 0) {
+        PyErr_NoMemory();
         return -1;
     }
     PyObject *errors = PyImport_ImportModule("lasso.errors");

@@ -46,7 +46,8 @@ size_t interner_texts(struct interner *interner, size_t from, struct lasso_text 
 void interner_free(struct interner *interner);
 
 /* An interner as Python holds it. A call that keeps the GIL needs no lock. A call that lets the GIL go holds `lock` and sets `busy`, and every
- * other call waits for it in `core_enter`. While `lock` is held no Python code runs, so no thread waits for itself.
+ * other call waits for it in `core_enter`. While `lock` is held no Python code runs, so no thread waits for itself. In a forked child no such call
+ * ever ends: its interner is left, and its handles hold none.
  *
  * A handle of a shared interner is used by one thread. All handles of it are in a ring, so that any thread can close them: one that is busy is
  * freed at the end of its call. */
@@ -56,8 +57,12 @@ typedef struct core {
     PyThread_type_lock lock;
     bool busy;
     bool closes;
+    unsigned forks; /* how many forks there were when it was entered last */
     struct core *next, *previous;
 } Core;
+
+/* Leaves an interner that a call of the parent's was in, if the process was forked since it was entered last. Every call begins so. */
+void core_after_fork(Core *core);
 
 /* Waits until no other thread is in a call that let the GIL go. Until the GIL is let go next, the interner is the caller's. */
 void core_enter(Core *core);

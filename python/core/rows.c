@@ -2,6 +2,7 @@
 #include "core.h"
 
 #include <math.h>
+#include <stdlib.h>
 #include <string.h>
 
 enum { AHEAD = 16 };
@@ -255,7 +256,6 @@ PyObject *core_rows(Core *core, PyObject *words)
     int appends;
     Py_buffer codes;
     struct items items;
-    struct batch batch;
     if (!PyArg_ParseTuple(words, "OnnnO!Op", &object, &start, &stop, &first, &PyTuple_Type, &nulls, &target, &appends)
         || items_of(object, &items) < 0)
         return NULL;
@@ -263,6 +263,8 @@ PyObject *core_rows(Core *core, PyObject *words)
         items_end(&items);
         return NULL;
     }
+    /* A thread's stack may have no room for it. */
+    struct batch *batch = malloc(sizeof *batch);
     core_enter(core);
     /* Another thread may have changed the list since it was counted. */
     items.count = items.list != NULL ? PyList_Size(items.list) : items.count;
@@ -270,11 +272,14 @@ PyObject *core_rows(Core *core, PyObject *words)
         PyErr_SetString(PyExc_RuntimeError, "the texts changed while they were encoded");
     else if (!interner_is_live(&core->interner))
         raise_status(LASSO_NO_INTERNER, -1);
+    else if (batch == NULL)
+        raise_status(LASSO_NO_MEMORY, -1);
     else {
-        batch_begin(&batch, &core->interner, appends, codes.buf, (size_t)(first + start));
-        batch.lets_go = core->interner.is_shared ? core : NULL;
-        pass(core, &items, start, stop, first, nulls, &batch);
+        batch_begin(batch, &core->interner, appends, codes.buf, (size_t)(first + start));
+        batch->lets_go = core->interner.is_shared ? core : NULL;
+        pass(core, &items, start, stop, first, nulls, batch);
     }
+    free(batch);
     PyBuffer_Release(&codes);
     items_end(&items);
     if (PyErr_Occurred())

@@ -29,6 +29,7 @@ static PyObject *seat_join(Core *seat, PyObject *none)
     (void)none;
     if (other == NULL)
         return NULL;
+    core_after_fork(seat);
     uint32_t status = lasso_shared_join(&seat->interner.shared, &other->interner.shared);
     if (status != LASSO_DONE) {
         Py_DECREF(other);
@@ -46,6 +47,7 @@ static PyObject *seat_close(Core *seat, PyObject *none)
 {
     Core *each = seat;
     (void)none;
+    core_after_fork(seat);
     do {
         if (each->busy)
             each->closes = true;

@@ -22,9 +22,9 @@ class Interner(Core):
 
     ``limit`` is how many bytes the texts' buckets may take; None is no limit. The first bucket has 4,096 bytes whatever the limit. ``seed`` is a
     number below 2^128, by which texts are hashed; None is a new one of the system's random numbers. Codes are the same whatever it is. Threads may
-    share an interner: each call waits for one that lets others run meanwhile. ``encode`` and ``get_many`` let other threads between blocks of
-    rows. Its memory is given back at the end of a ``with`` block, by ``close``, or when the interner is garbage. It is not for a child that
-    ``os.fork`` made while other threads ran: there its calls may wait for ever.
+    share an interner: each call waits for one that lets others run meanwhile, and a child that ``os.fork`` makes during such a call has it
+    closed. ``encode`` and ``get_many`` let other threads between blocks of rows. Its memory is given back at the end of a ``with`` block, by
+    ``close``, or when the interner is garbage.
     """
 
     def __init__(self, limit: int | None = None, *, seed: int | None = None) -> None:

@@ -30,7 +30,7 @@ class SharedInterner:
     Each thread has a handle of its own, which is made when the thread uses the interner first, and freed when the thread ends. ``encode`` and
     ``get_many`` let other threads run meanwhile, also those that encode into the same interner. There is no limit. ``seed`` is a number below 2^128 by
     which texts are hashed, or None for a random one; no code depends on it. The memory is given back at the end of a ``with`` block, by ``close``,
-    or when the interner is garbage. It is not for a child that ``os.fork`` made while other threads ran.
+    or when the interner is garbage. A child that ``os.fork`` makes while another thread is in ``encode`` or ``get_many`` has it closed.
     """
 
     __slots__ = ("__dict__", "__weakref__", "_first", "_seats")

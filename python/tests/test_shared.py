@@ -4,14 +4,18 @@ from __future__ import annotations
 
 import copy
 import ctypes
+import os
 import pickle
 import random
+import signal
 import struct
+import subprocess
 import sys
 import threading
 import time
 from array import array
 from collections.abc import Callable, Iterator
+from functools import partial
 from typing import Any
 
 import pytest
@@ -355,3 +359,42 @@ def test_each_interner_has_its_own_codes() -> None:
     with SharedInterner() as one, SharedInterner() as other:
         one.encode(["red", "blue"])
         assert (other.intern("blue"), one.intern("blue"), list(array("I", other.encode(["red"])))) == (0, 1, [1])
+
+
+@pytest.mark.parametrize("kind", [Interner, SharedInterner])
+def test_a_forked_child_waits_for_no_call_of_its_parent(kind: type[Interner] | type[SharedInterner]) -> None:
+    column, closed = Columns([f"text {row}" for row in range(200000)]), 0
+    for _ in range(20):
+        with kind() as interner:
+            thread = threading.Thread(target=interner.encode, args=(column,))
+            thread.start()
+            time.sleep(0.005)
+            child = os.fork()
+            if child == 0:
+                signal.alarm(120)
+                try:
+                    interner.intern("more")
+                    interner.encode(column)
+                    os._exit(0)
+                except InternerClosed:
+                    os._exit(1 if interner.closed and len(interner) == 0 else 2)
+                finally:
+                    os._exit(3)
+            thread.join()
+            assert len(interner) == 200000
+            ended = os.waitstatus_to_exitcode(os.waitpid(child, 0)[1])
+        assert ended in (0, 1)
+        closed += ended
+        if closed:
+            return
+    raise AssertionError("no fork was in the middle of a call")
+
+
+@pytest.mark.parametrize("kind", ["Interner", "SharedInterner"])
+def test_a_thread_may_have_little_stack(kind: str) -> None:
+    code = "import sys, threading; from lasso import *; threading.stack_size(32768); threading.Thread(target=lambda: print(%s)).start()"
+    run = partial(subprocess.run, stdout=subprocess.PIPE, text=True, check=False)
+    if run([sys.executable, "-c", code % "sorted('ba')"]).returncode:
+        pytest.skip("Python has no threads of 32 KiB here")
+    ran = run([sys.executable, "-c", code % f"set({kind}().encode(['red', 'blue'] * 2000))"])
+    assert (ran.returncode, ran.stdout) == (0, "{0, 1}\n")

@@ -343,10 +343,11 @@ impl<K, S> ThreadedRodeo<K, S> {
     /// Out of memory.
     #[must_use]
     pub fn into_reader(self) -> RodeoReader<K, S> {
-        let room = (self.len(), self.current_memory_usage());
+        // The bytes of the capacity take no memory here either.
+        let bytes = self.lock_counted().up_to_now(&self.users);
         let mut handle = or_panic(Handle::with_room(
-            room.0,
-            room.1,
+            self.len(),
+            bytes,
             usize::MAX,
             Seed::random(),
         ));

@@ -333,6 +333,10 @@ fn it_is_frozen_under_the_same_keys() {
     let resolver: RodeoResolver<MicroSpur> = rodeo.into_resolver();
     assert!(resolver.strings().eq(texts()));
     assert!(ThreadedRodeo::default().into_reader().is_empty());
+    // A capacity that no memory has.
+    let large = limited(usize::MAX, usize::MAX);
+    let red = large.get_or_intern("red");
+    assert_eq!(large.into_reader().resolve(&red), "red");
     assert!(ThreadedRodeo::default().into_resolver().is_empty());
 }
 
