@@ -11,7 +11,7 @@ import sys
 import tempfile
 from dataclasses import dataclass
 
-from edits import HERE, Edit, Unfit, places
+from edits import HERE, Edit, Unfit, places, proof_files
 
 
 def link(source, target):
@@ -121,7 +121,7 @@ def end_of(said):
 
 
 def texts_with(edits, folder):
-    """Of each file that the mutants change, its text as it is and with all of them."""
+    """Of each file that the mutants change, its text as it is and with all of them, or None if it goes."""
     texts = {}
     for file in {edit.file for edit in edits}:
         with open(os.path.join(folder, file), encoding="utf-8") as source:
@@ -134,6 +134,9 @@ def texts_with(edits, folder):
         for start, end, new, _ in reversed(changes):
             text = text[:start] + new + text[end:]
         texts[file] = (whole, text)
+    for file in (file for edit in edits for file in proof_files(edit, folder)):
+        with open(os.path.join(folder, file), encoding="utf-8") as source:
+            texts[file] = (source.read(), None)
     return texts
 
 
@@ -142,6 +145,9 @@ def applied(edits, folder):
     """The crate's files with the mutants, and afterwards as they were."""
     texts = texts_with(edits, folder)
     for file, (_, text) in texts.items():
+        if text is None:
+            os.remove(os.path.join(folder, file))
+            continue
         with open(os.path.join(folder, file), "w", encoding="utf-8") as target:
             target.write(text)
     try:
