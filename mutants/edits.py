@@ -44,7 +44,7 @@ class Edit:
     examples: list = field(default_factory=list)
     ends: bool = True  # whether its test or its case is to end: it may wait for ever
     gate: str = ""  # what the gate asks of it: `a goal` or `the prover`, or `a run`; nothing if it doesn't try it
-    unproved: bool = False  # whether the proof files of its function go with it
+    heir: str = ""  # the function, beside its own, that gets the proof files of its own, or `none`; nothing if they stay
 
 
 def path_of(crate):
@@ -86,10 +86,10 @@ def edit_of(crate, name, lines):
     gate = gate_of(f"{crate}/{name}", values["gate"], bool(tests or cases))
     if values["ends"] not in ([], ["never"]) or values["ends"] and not tests and not cases:
         raise Unfit(f"{crate}/{name}: a line `ends:` says `never`, of a mutant with a test or a case")
-    if values["proof"] not in ([], ["none"]) or values["proof"] and not function:
-        raise Unfit(f"{crate}/{name}: a line `proof:` says `none`, of a mutant of a function")
-    changes = list(zip(values["old"], values["new"]))
-    return Edit(crate, name, values["file"][0], function, changes, tests, cases, examples, not values["ends"], gate, bool(values["proof"]))
+    if len(values["proof"]) > 1 or values["proof"] and not function:
+        raise Unfit(f"{crate}/{name}: one line `proof:` at most, of a mutant of a function")
+    changes, heir = list(zip(values["old"], values["new"])), "".join(values["proof"])
+    return Edit(crate, name, values["file"][0], function, changes, tests, cases, examples, not values["ends"], gate, heir)
 
 
 def gate_of(name, lines, is_run):
@@ -135,11 +135,26 @@ def places(edit, text):
     return found
 
 
+def path_in_crate(edit):
+    """The path of the edit's function below its crate."""
+    return edit.function.removeprefix(f"{edit.crate}::")
+
+
 def proof_files(edit, folder):
-    """The proof files of the edit's function in the crate's folder, if they go with it."""
-    path = edit.function.removeprefix(f"{edit.crate}::").replace("::", "/")
-    found = glob.glob(f"{glob.escape(folder)}/proofs/{path}/*.antt") if edit.unproved else []
+    """The proof files in the crate's folder that don't stay with the edit's function."""
+    path = path_in_crate(edit).replace("::", "/")
+    found = glob.glob(f"{glob.escape(folder)}/proofs/{path}/*.antt") if edit.heir else []
     return sorted(os.path.relpath(file, folder) for file in found)
+
+
+def of_heir(edit, file, text):
+    """Where a proof file of the edit's function goes, and its text there, which names the heir."""
+    path = path_in_crate(edit)
+    name = path.rsplit("::", 1)[-1]
+    own = re.escape(path.replace("::", ".").removesuffix(name))
+    text = re.sub(rf"^(use Rattle\.{edit.crate}\.(?:specs\.contracts|proofs)\.{own}){name}(?=[. ])", rf"\g<1>{edit.heir}", text, flags=re.MULTILINE)
+    folder, kind = os.path.split(file)
+    return os.path.join(os.path.dirname(folder), edit.heir, kind), re.sub(rf"\b{name}_spec\b", f"{edit.heir}_spec", text)
 
 
 def contract_before(edit, text):
@@ -180,8 +195,10 @@ def test_fit(edit):
     folder = os.path.join(HERE, "crates", edit.crate)
     with open(os.path.join(folder, edit.file), encoding="utf-8") as source:
         text = source.read()
-    if edit.unproved and not proof_files(edit, folder):
+    if edit.heir and not proof_files(edit, folder):
         raise Unfit(f"{edit.crate}/{edit.name}: its function has no proof file that could go")
+    if edit.heir not in ("", "none", *(name for _, new in edit.changes for name in FUNCTION.findall(new))):
+        raise Unfit(f"{edit.crate}/{edit.name}: it makes no function {edit.heir}")
     if edit.file.startswith("src/"):
         test_compiles(edit, text)
     places(edit, text)

@@ -7,12 +7,11 @@ import subprocess
 import tempfile
 
 from copies import Outcome, Result, applied, end_of, tell
-from edits import FUNCTION, Unfit, files_with_tests, places
+from edits import Unfit, files_with_tests, places
 
 VERDICT = re.compile(r"^fn (\S+): (.*)$", re.MULTILINE)
 PROOF_ERROR = re.compile(r"^\./proofs/(\S+)/(?:Answers|Proof)\.antt:\d+:\d+: error: ", re.MULTILINE)
 CALLS = re.compile(r"(?:no proof: |not proved; )(?:it calls|it passes the block) ")
-CALLED = re.compile(r"`(?:\w+::)*(\w+)`")
 BY_HAND = "not proved; the borrow checker does not cover"
 JUDGED = re.compile(r"^(?:only=|logic=not-proved)", re.MULTILINE)
 ENDED = re.compile(r"^checked (\S+), \d+ of \d+$", re.MULTILINE)
@@ -74,10 +73,7 @@ def outcome(edit, verdicts, said):
     in_its_proof = any(f"{edit.crate}::{path.replace('/', '::')}" == edit.function for path in PROOF_ERROR.findall(said))
     if verdict.startswith(BY_HAND) or in_its_proof:
         return Outcome.BY_A_GOAL if edit.examples else Outcome.BY_LITTLE
-    if not CALLS.match(verdict):
-        return Outcome.BY_A_GOAL
-    made = {name for _, new in edit.changes for name in FUNCTION.findall(new)}
-    return Outcome.LET_THROUGH if edit.unproved and made.issuperset(CALLED.findall(verdict)) else Outcome.WAITS
+    return Outcome.WAITS if CALLS.match(verdict) else Outcome.BY_A_GOAL
 
 
 def lines_of(edit, folder):
