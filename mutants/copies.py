@@ -11,7 +11,7 @@ import sys
 import tempfile
 from dataclasses import dataclass
 
-from edits import HERE, Edit, Unfit, places
+from edits import HERE, Edit, Unfit, of_heir, places, proof_files
 
 
 def link(source, target):
@@ -121,7 +121,7 @@ def end_of(said):
 
 
 def texts_with(edits, folder):
-    """Of each file that the mutants change, its text as it is and with all of them."""
+    """Of each file that the mutants change, its text as it is and with all of them, or None where there is no such file."""
     texts = {}
     for file in {edit.file for edit in edits}:
         with open(os.path.join(folder, file), encoding="utf-8") as source:
@@ -134,7 +134,34 @@ def texts_with(edits, folder):
         for start, end, new, _ in reversed(changes):
             text = text[:start] + new + text[end:]
         texts[file] = (whole, text)
+    for edit in edits:
+        texts |= proofs_with(edit, folder)
     return texts
+
+
+def proofs_with(edit, folder):
+    """Of each proof file that the mutant takes from its function and gives to another, its text as it is and afterwards."""
+    texts = {}
+    for file in proof_files(edit, folder):
+        with open(os.path.join(folder, file), encoding="utf-8") as source:
+            whole = source.read()
+        texts[file] = (whole, None)
+        if edit.heir != "none":
+            path, text = of_heir(edit, file, whole)
+            texts[path] = (None, text)
+    return texts
+
+
+def put(path, text):
+    """Writes the file, in a folder that may be new, or removes it, with a folder that is empty then."""
+    if text is not None:
+        os.makedirs(os.path.dirname(path), exist_ok=True)
+        with open(path, "w", encoding="utf-8") as target:
+            target.write(text)
+        return
+    os.remove(path)
+    with contextlib.suppress(OSError):
+        os.rmdir(os.path.dirname(path))
 
 
 @contextlib.contextmanager
@@ -142,11 +169,9 @@ def applied(edits, folder):
     """The crate's files with the mutants, and afterwards as they were."""
     texts = texts_with(edits, folder)
     for file, (_, text) in texts.items():
-        with open(os.path.join(folder, file), "w", encoding="utf-8") as target:
-            target.write(text)
+        put(os.path.join(folder, file), text)
     try:
         yield
     finally:
         for file, (whole, _) in texts.items():
-            with open(os.path.join(folder, file), "w", encoding="utf-8") as target:
-                target.write(whole)
+            put(os.path.join(folder, file), whole)

@@ -14,7 +14,7 @@ TYPE_OR_CRATE = re.compile(r"(?<![\w:])(?:([A-Z]\w*)(?=::|\(| \{)|(lasso\w*)::)"
 KNOWN_EVERYWHERE = ("Some", "Ok", "Err", "Vec", "String", "Box", "Option")
 EDITED = re.compile(r"(src|specs|proofs)/[\w/+-]+\.(rt|antt)")
 EXAMPLES = "lasso_shared"
-KEYS = ("file", "function", "old", "new", "test", "case", "example", "gate", "ends")
+KEYS = ("file", "function", "old", "new", "proof", "test", "case", "example", "gate", "ends")
 # What has to refuse a mutant that the gate gives to the prover.
 BY_A_GOAL, BY_THE_PROVER = "a goal", "the prover"
 GATE = re.compile(rf"(\w+)(?:, ({BY_A_GOAL}|{BY_THE_PROVER}))?")
@@ -44,6 +44,7 @@ class Edit:
     examples: list = field(default_factory=list)
     ends: bool = True  # whether its test or its case is to end: it may wait for ever
     gate: str = ""  # what the gate asks of it: `a goal` or `the prover`, or `a run`; nothing if it doesn't try it
+    heir: str = ""  # the function, beside its own, that gets the proof files of its own, or `none`; nothing if they stay
 
 
 def path_of(crate):
@@ -85,7 +86,10 @@ def edit_of(crate, name, lines):
     gate = gate_of(f"{crate}/{name}", values["gate"], bool(tests or cases))
     if values["ends"] not in ([], ["never"]) or values["ends"] and not tests and not cases:
         raise Unfit(f"{crate}/{name}: a line `ends:` says `never`, of a mutant with a test or a case")
-    return Edit(crate, name, values["file"][0], function, list(zip(values["old"], values["new"])), tests, cases, examples, not values["ends"], gate)
+    if len(values["proof"]) > 1 or values["proof"] and not function:
+        raise Unfit(f"{crate}/{name}: one line `proof:` at most, of a mutant of a function")
+    changes, heir = list(zip(values["old"], values["new"])), "".join(values["proof"])
+    return Edit(crate, name, values["file"][0], function, changes, tests, cases, examples, not values["ends"], gate, heir)
 
 
 def gate_of(name, lines, is_run):
@@ -131,6 +135,28 @@ def places(edit, text):
     return found
 
 
+def path_in_crate(edit):
+    """The path of the edit's function below its crate."""
+    return edit.function.removeprefix(f"{edit.crate}::")
+
+
+def proof_files(edit, folder):
+    """The proof files in the crate's folder that don't stay with the edit's function."""
+    path = path_in_crate(edit).replace("::", "/")
+    found = glob.glob(f"{glob.escape(folder)}/proofs/{path}/*.antt") if edit.heir else []
+    return sorted(os.path.relpath(file, folder) for file in found)
+
+
+def of_heir(edit, file, text):
+    """Where a proof file of the edit's function goes, and its text there, which names the heir."""
+    path = path_in_crate(edit)
+    name = path.rsplit("::", 1)[-1]
+    own = re.escape(path.replace("::", ".").removesuffix(name))
+    text = re.sub(rf"^(use Rattle\.{edit.crate}\.(?:specs\.contracts|proofs)\.{own}){name}(?=[. ])", rf"\g<1>{edit.heir}", text, flags=re.MULTILINE)
+    folder, kind = os.path.split(file)
+    return os.path.join(os.path.dirname(folder), edit.heir, kind), re.sub(rf"\b{name}_spec\b", f"{edit.heir}_spec", text)
+
+
 def contract_before(edit, text):
     """What stands from the head of the function that the edit is of up to its first change."""
     end = places(edit, text)[0][0] + len(edit.changes[0][0])
@@ -166,8 +192,13 @@ def test_compiles(edit, text):
 
 def test_fit(edit):
     """Refuses an edit that cannot be applied."""
-    with open(os.path.join(HERE, "crates", edit.crate, edit.file), encoding="utf-8") as source:
+    folder = os.path.join(HERE, "crates", edit.crate)
+    with open(os.path.join(folder, edit.file), encoding="utf-8") as source:
         text = source.read()
+    if edit.heir and not proof_files(edit, folder):
+        raise Unfit(f"{edit.crate}/{edit.name}: its function has no proof file that could go")
+    if edit.heir not in ("", "none", *(name for _, new in edit.changes for name in FUNCTION.findall(new))):
+        raise Unfit(f"{edit.crate}/{edit.name}: it makes no function {edit.heir}")
     if edit.file.startswith("src/"):
         test_compiles(edit, text)
     places(edit, text)
