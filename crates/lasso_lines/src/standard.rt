@@ -6,7 +6,7 @@ ghost use Rattle.lasso_lines.specs.Stream.{Grows, Stays, OnlyGrows, Takes, taken
 use crate::stream::{ByteReader, ByteWriter, StreamError, push_line};
 use lasso_input::failures::Failures;
 use std::alloc::{AllocError, Global};
-use std::io::{Read, Write};
+use std::io::{BufRead, BufReader, Read, Write};
 use std::marker::Model;
 
 /// The size of a buffer in bytes.
@@ -15,27 +15,21 @@ pub const BUFFER: usize = 65536;
 /// A reader of std with a buffer of 64 KiB.
 #[derive(Drop)]
 pub struct StandardReader<R: Read + Drop> {
-    inner: R,
-    buffer: Vec<u8>,
-    used: usize,
-    filled: usize,
+    inner: BufReader<R>,
     failures: Failures,
 }
 
 impl<R: Read + Drop> Model for StandardReader<R> {
-    ghost use Rattle.std.specs.Prelude.{◌<◌, ◌≤◌, drop, take, length};
-    ghost use Rattle.std.specs.Io.KnownBytes.{prepend_known};
+    ghost use Rattle.std.specs.Io.Buffered.{reader_buffer, reader_remaining};
     ghost use Rattle.lasso_lines.specs.Stream.{ReaderView};
 
     ghost Value = { ReaderView };
 
     ghost view = { λ r. record {
-      at_hand = drop r.used (take r.filled r.buffer.items);
-      left = prepend_known (drop r.used (take r.filled r.buffer.items)) (R.remaining r.inner);
+      at_hand = reader_buffer r.inner;
+      left = reader_remaining R.remaining r.inner;
       failures = r.failures.count;
     } };
-
-    ghost invariant = { λ r. (r.used ≤ r.filled) × (r.filled ≤ length r.buffer.items) × (0 < length r.buffer.items) };
 }
 
 impl<R: Read + Drop> StandardReader<R> {
@@ -45,11 +39,11 @@ impl<R: Read + Drop> StandardReader<R> {
         ensures left { IfOk result (λ r. r.left ≡ R.remaining inner) }
         ensures failures { IfOk result (λ r. r.failures ≡ 0) }
     {
+        let Ok(inner) = BufReader::with_capacity(alloc, BUFFER, inner) else {
+            return Err(AllocError);
+        };
         Ok(StandardReader {
             inner,
-            buffer: vec![in alloc; 0; BUFFER]?,
-            used: 0,
-            filled: 0,
             failures: Failures::none(),
         })
     }
@@ -63,19 +57,12 @@ impl<R: Read + Drop> ByteReader for StandardReader<R> {
     ghost failures = { λ r. r.failures };
 
     fn buffer(&self) -> &[u8] {
-        &self.buffer[self.used..self.filled]
+        self.inner.buffer()
     }
 
     fn fill_buf(&mut self) -> Result<(), StreamError> {
-        if self.used < self.filled {
-            return Ok(());
-        }
-        match self.inner.read(&mut self.buffer) {
-            Ok(count) => {
-                self.used = 0;
-                self.filled = count;
-                Ok(())
-            }
+        match self.inner.fill_buf() {
+            Ok(_) => Ok(()),
             Err(_) => {
                 self.failures = self.failures.and_one();
                 Err(StreamError)
@@ -84,7 +71,7 @@ impl<R: Read + Drop> ByteReader for StandardReader<R> {
     }
 
     fn consume(&mut self, count: usize) {
-        self.used += count;
+        self.inner.consume(count);
     }
 }
 

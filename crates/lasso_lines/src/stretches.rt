@@ -96,11 +96,7 @@ pub(crate) fn answer_lines<'a, R: Wait, O: ByteWriter>(
 pub(crate) fn next_number<R: Wait>(rt: &R, number: u64) -> u64
     ensures { result ≡ number + 1 }
 {
-    if let Some(next) = number.checked_add(1) {
-        return next;
-    }
-    for _ in rt.forever() {}
-    unreachable!()
+    later_number(rt, number, 1)
 }
 
 // The number of the line that comes `lines` lines later. Waits forever past the greatest number, as `next_number` does.
