@@ -1,5 +1,5 @@
 //! What a copy of a list of texts asks for: the count of their bytes, and one bucket that has room for them.
-ghost use Rattle.std.specs.Prelude.{◌≡◌, ◌≤◌, ◌<◌, ◌^◌, Err, IfOk, IfErr, length, SomeIff};
+ghost use Rattle.std.specs.Prelude.{◌≡◌, ◌≤◌, ◌<◌, ◌^◌, Err, IfOk, IfErr, IsOk, length, SomeIff};
 ghost use Rattle.lasso_parts.specs.declared.util.LassoErrorKind.TheVariants.{FailedAllocation};
 ghost use Rattle.lasso_single.specs.Copies.{bytes_of, bucket_for, clone_size};
 
@@ -12,6 +12,7 @@ pub fn one_bucket<T: Texts>(texts: &T, len: usize) -> LassoResult<Capacity>
     requires { len ≡ length (T.list texts.now) }
     ensures bytes { IfOk result (λ capacity. capacity.bytes ≡ clone_size (T.list texts.now)) }
     ensures strings { IfOk result (λ capacity. capacity.strings ≡ len) }
+    ensures made { bytes_of (T.list texts.now) < 2 ^ 64 → IsOk result }
     ensures counted { IfOk result (λ _. bytes_of (T.list texts.now) < 2 ^ 64) }
     ensures refused { IfErr result (λ error. error ≡ FailedAllocation) }
     ensures overflow { 2 ^ 64 ≤ bytes_of (T.list texts.now) → result ≡ Err FailedAllocation }

@@ -2,7 +2,7 @@
 //! numbers.
 ghost use Rattle.std.specs.Prelude.{◌<◌};
 
-use std::alloc::{AllocError, Global};
+use std::alloc::{AllocError, Allocator, Global};
 use std::slice::Iter;
 use std::test::Fail;
 
@@ -21,8 +21,11 @@ pub fn lettered(alloc: Global, letter: &str, count: u32) -> Result<Vec<String>, 
     Ok(texts)
 }
 
-/// The first `count` texts of five digits, from `00000` on.
-pub fn numbered(alloc: Global, count: usize) -> Result<Vec<String>, AllocError> {
+/// The first `count` texts of five digits, from `00000` on. The list and the texts own memory of the allocator.
+pub fn numbered<A: Allocator + Copy>(
+    alloc: A,
+    count: usize,
+) -> Result<Vec<String<A>, A>, AllocError> {
     let mut texts = Vec::new(alloc);
     for number in 0..count {
         texts.push(format!(in alloc; "{number:05}")?)?;

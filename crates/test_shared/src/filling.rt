@@ -13,6 +13,7 @@ use std::slice::Iter;
 use std::sync::Wait;
 use std::test::*;
 use test_common::keys::BelowTwo;
+use test_common::refusing::Refusing;
 use test_common::texts::{is_next, numbered};
 use test_steps::calls::{Shared, len, limit, made, usage};
 use test_steps::cases::PLAIN;
@@ -150,6 +151,37 @@ fn fill_the_first_bucket<R: AllocGlobal + Wait>(
 fn a_new_interner_takes_the_bytes_of_its_items_alone(rt: HostRuntime) -> Result<(), Fail> {
     for (count, length) in FULL.iter() {
         is_so_at(&rt, fill_the_first_bucket(&rt, *count, *length)?, *length);
+    }
+    Ok(())
+}
+
+// Fills an interner from ten items that own memory, by the call of this number. Returns how many texts it has.
+fn of_owned<R: AllocGlobal + Wait>(
+    rt: &R,
+    memory: &Refusing<Global>,
+    call: usize,
+) -> Result<usize, Fail> {
+    let items = numbered(memory, 10)?;
+    let shared: Shared = ThreadedRodeo::new(rt.alloc())?;
+    if call == 0 {
+        shared.extend(rt, items)?;
+        return Ok(shared.len());
+    }
+    if call == 1 {
+        let mut pass = shared.pass();
+        shared.extend_as(rt, &mut pass, &mut items.into_iter())?;
+        return Ok(shared.len());
+    }
+    let made: Shared = ThreadedRodeo::from_iter(rt.alloc(), rt, items)?;
+    Ok(made.len())
+}
+
+#[test]
+fn items_that_own_memory_are_freed(rt: HostRuntime) -> Result<(), Fail> {
+    let memory = Refusing::new(rt.alloc(), 0);
+    for call in 0..3usize {
+        is_so_at(&rt, of_owned(&rt, &memory, call)? == 10, call);
+        is_so_at(&rt, memory.bytes_out() == 0, call);
     }
     Ok(())
 }

@@ -152,6 +152,13 @@ fn a_random_seed_is_the_bytes_of_the_source(rt: HostRuntime) {
 }
 
 #[test]
+fn debug_text_shows_no_seed(rt: HostRuntime) -> Result<(), Fail> {
+    let printed = format!(in rt.alloc(); "{:?}", TextState::with_seed(7, 9))?;
+    assert!(rt; printed.as_str() == "TextState { .. }");
+    Ok(())
+}
+
+#[test]
 fn the_system_gives_seeds_that_differ(rt: HostRuntime) -> Result<(), Fail> {
     let (first, second) = (TextState::random(&rt)?, TextState::random(&rt)?);
     assert!(rt; first != second);
@@ -246,11 +253,19 @@ fn texts_given_room_first_go_in_without_a_growth(rt: HostRuntime) -> Result<(), 
     Ok(())
 }
 
-// Whether a clone has a thousand texts, and each was hashed once for it.
+// How many texts are cloned. A list that grows by doubling has room for 2048 then.
+const CLONED: usize = 1030;
+
+// How many bytes a clone may take: 16 for each text in the list, 5 for each of the fewest slots of which three quarters
+// are as many, 2048, the 3010 of the numbers below 1030 in decimal, and less than 1000 for the list of one bucket.
+const MOST_OF_A_CLONE: usize = 16_480 + 10_240 + 3010 + 1000;
+
+// Whether a clone has these texts, each was hashed once for it, and it took no more room than they need.
 fn is_cloned(rodeo: &Counted<'_>, made: &Cell<u64>) -> Result<bool, Fail> {
     let before = made.get();
     let copy = rodeo.try_clone()?;
-    Ok(made.get().saturating_sub(before) == 1000 && has_count(&copy, 1000))
+    let hashed_once = made.get().saturating_sub(before) == CLONED as u64;
+    Ok(hashed_once && has_count(&copy, CLONED) && copy.allocated_bytes() < MOST_OF_A_CLONE)
 }
 
 fn clones<R: AllocGlobal + Abort>(
@@ -260,14 +275,14 @@ fn clones<R: AllocGlobal + Abort>(
 ) -> Result<(), Fail> {
     is_so(
         rt,
-        interns_numbers(rt.alloc(), rodeo, 1000, 4096),
+        interns_numbers(rt.alloc(), rodeo, CLONED, 4096),
         "the texts",
     );
     is_so(rt, is_cloned(rodeo, made)?, "the clone");
     Ok(())
 }
 
-// A growing index in the clone would hash its texts again.
+// A growing index in the clone would hash its texts again, and a growing list would take more room.
 #[test]
 fn a_clone_has_room_for_its_texts(rt: HostRuntime) -> Result<(), Fail> {
     let made = Cell::new(0);

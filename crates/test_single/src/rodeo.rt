@@ -75,16 +75,23 @@ fn made_by(alloc: Global, maker: usize) -> LassoResult<Small> {
     }
 }
 
-// Whether this number of texts fits in the new interner before its list grows.
-fn has_room(made: LassoResult<Small>, strings: usize) -> Result<bool, Fail> {
-    Ok(made?.capacity() >= strings)
+// Numbers of texts, and how many bytes an interner with room for them may take: 16 for each text in the list, 5 for each
+// of the fewest slots of which three quarters are as many (2048 and 128), the bucket, and less than 1000 for the list of
+// buckets.
+const THOUSAND: (usize, usize) = (1000, 16_000 + 10_240 + 4096 + 1000);
+const FIFTY: (usize, usize) = (50, 800 + 640 + 4096 + 1000);
+
+// Whether this number of texts fits in the new interner before its list grows, and it takes fewer bytes than these.
+fn has_room(made: LassoResult<Small>, room: (usize, usize)) -> Result<bool, Fail> {
+    let rodeo = made?;
+    Ok(rodeo.capacity() >= room.0 && rodeo.allocated_bytes() < room.1)
 }
 
 #[test]
 fn makers_have_room_for_a_number_of_texts(rt: HostRuntime) -> Result<(), Fail> {
     for maker in 0..8usize {
-        let strings = if maker < 4 { 1000 } else { 50 };
-        is_so_at(&rt, has_room(made_by(rt.alloc(), maker), strings)?, maker);
+        let room = if maker < 4 { THOUSAND } else { FIFTY };
+        is_so_at(&rt, has_room(made_by(rt.alloc(), maker), room)?, maker);
     }
     Ok(())
 }

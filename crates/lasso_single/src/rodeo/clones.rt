@@ -79,8 +79,9 @@ impl<K: Key, S: BuildHasher + Clone, A: Allocator + Clone> Rodeo<K, S, A> {
 
     /// Forgets every text, as `clear` does, and copies those of the source here under the same keys, static
     /// ones too, into this interner's own buckets and under its own limit. Its index then asks a clone of the
-    /// source's hasher. If the limit has no room for a text, or it runs out of memory, it stops there and
-    /// clears again: there is no text then. The bytes copied count as after a clear.
+    /// source's hasher; after a refusal, that one or its own. If the limit has no room for a text, or it runs
+    /// out of memory, it stops there and clears again: there is no text then. The bytes copied count as after
+    /// a clear.
     ///
     /// ```rust
     /// let rodeo: SpurRodeo = Rodeo::from_iter(rt.alloc(), ["red", "green"])?;

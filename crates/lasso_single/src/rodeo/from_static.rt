@@ -16,8 +16,9 @@ use std::hash::BuildHasher;
 impl<K: Key, S: BuildHasher + Default + Drop, A: Allocator + Clone> Rodeo<K, S, A> {
     /// An interner that begins with these keywords: the keyword at position n has the key of position n, and every text
     /// interned later has a greater key. So a key below `keywords.len()` is a keyword's. The keywords are not copied. No keyword
-    /// may come twice; `are_distinct` is the test. Capacity and limit are the defaults (4096 bytes, no limit). Fails
-    /// with `KeySpaceExhaustion` if the key type has too few keys for the keywords, and otherwise only when out of memory.
+    /// may come twice; `are_distinct` is the test. There is room for the keywords; the first bucket has 4096 bytes, and
+    /// there is no limit. Fails with `KeySpaceExhaustion` if the key type has too few keys for the keywords, and otherwise
+    /// only when out of memory.
     ///
     /// ```rust
     /// let keywords = ["if", "else", "while"];

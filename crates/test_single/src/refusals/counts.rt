@@ -1,7 +1,12 @@
-//! `allocated_bytes` of an interner and of its frozen forms is what the allocator gave out.
+//! `allocated_bytes` of an interner and of its frozen forms is what the allocator gave out. They give it back, with the
+//! memory of their hasher and of the items that they take.
+ghost use Rattle.std.specs.Hash.FoldHasher as folding;
+
 use crate::interners::is_so_at;
 use crate::refusals::*;
 use lasso_parts::keys::{LargeSpur, MicroSpur, MiniSpur};
+use std::hash::{BuildHasher, FoldHasher};
+use test_common::texts::numbered;
 
 static TEXTS: [&str; 10] = [
     "a",
@@ -269,6 +274,97 @@ fn capacity_is_the_room_that_there_is(rt: HostRuntime) -> Result<(), Fail> {
     for strings in [0, 1, 2, 3, 7, 8, 49, 50, 51, 100, 128, 1000] {
         let is_right = has_the_room_it_says(rt.alloc(), strings)?;
         is_so_at(&rt, is_right, strings);
+    }
+    Ok(())
+}
+
+// Interners filled from items that own memory, which go with the call that takes them.
+
+// How many items there are.
+const ITEMS: usize = 10;
+
+fn of_extended(memory: &Memory) -> LassoResult<usize> {
+    let mut rodeo = Counted::<&Memory>::new(memory)?;
+    rodeo.extend(numbered(memory, ITEMS)?)?;
+    Ok(rodeo.len())
+}
+
+fn of_collected(memory: &Memory) -> LassoResult<usize> {
+    let rodeo = Counted::<&Memory>::from_iter(memory, numbered(memory, ITEMS)?)?;
+    Ok(rodeo.len())
+}
+
+// Whether all items were interned, or memory was refused.
+fn are_all_or_refused(memory: &Memory, count: LassoResult<usize>) -> bool {
+    match count {
+        Ok(count) => count == ITEMS,
+        Err(_refusal) => memory.has_refused_anew(),
+    }
+}
+
+fn fills_from_owned<R: AllocGlobal + Abort>(rt: &R, memory: &Memory) -> Result<(), Fail> {
+    let extended = of_extended(memory);
+    is_so(rt, are_all_or_refused(memory, extended), "extended");
+    is_so(rt, memory.bytes_out() == 0, "the bytes after that");
+    let collected = of_collected(memory);
+    is_so(rt, are_all_or_refused(memory, collected), "collected");
+    Ok(())
+}
+
+#[test]
+fn items_that_own_memory_are_freed(rt: HostRuntime) -> Result<(), Fail> {
+    each_refused(&rt, fills_from_owned)
+}
+
+// Makes hashers of the fixed seed, and owns memory.
+#[derive(Drop)]
+struct OwningState<'m> {
+    name: String<&'m Memory>,
+}
+
+impl BuildHasher for OwningState<'_> {
+    type Hasher = FoldHasher;
+
+    ghost build_hasher = { λ _. folding.initial };
+
+    fn build_hasher(&self) -> FoldHasher {
+        FoldHasher::default()
+    }
+}
+
+// How many texts are interned: more than one block of any list of the interner has room for.
+const MANY: usize = 5000;
+
+// An interner of many texts, with a hasher that owns memory.
+fn of_many<'m>(
+    alloc: Global,
+    memory: &'m Memory,
+) -> Result<Rodeo<Spur, OwningState<'m>, &'m Memory>, Fail> {
+    let name = String::from_str(memory, "a hasher that owns memory")?;
+    let mut rodeo = Rodeo::with_hasher(memory, OwningState { name })?;
+    for text in numbered(alloc, MANY)?.iter() {
+        rodeo.try_get_or_intern(text.as_str())?;
+    }
+    Ok(rodeo)
+}
+
+// How many texts the form of this number has: an interner, its reader, its resolver, and its reader's resolver.
+fn count_in(alloc: Global, memory: &Memory, form: usize) -> Result<usize, Fail> {
+    let rodeo = of_many(alloc, memory)?;
+    Ok(match form {
+        0 => rodeo.len(),
+        1 => rodeo.into_reader().len(),
+        2 => rodeo.into_resolver().len(),
+        _ => rodeo.into_reader().into_resolver().len(),
+    })
+}
+
+#[test]
+fn forms_of_many_texts_are_freed(rt: HostRuntime) -> Result<(), Fail> {
+    let memory = Refusing::new(rt.alloc(), 0);
+    for form in 0..4usize {
+        is_so_at(&rt, count_in(rt.alloc(), &memory, form)? == MANY, form);
+        is_so_at(&rt, memory.bytes_out() == 0, form);
     }
     Ok(())
 }
