@@ -4,7 +4,6 @@ ghost use Rattle.lasso_codes.specs.Merge.{DictionariesAreDistinct, MergedColumns
 ghost use Rattle.lasso_codes.specs.Recode.{DictionariesMergeInSteps, JoiningGivesOneColumn, MergingGivesOneDictionary, RecodingKeepsLines};
 
 /// Decoding what `encode` wrote gives the lines of its input, whatever follows the column.
-#[tactic(auto, using(crate::proofs::ReadBack::decoding_gives_lines_lem))]
 pub fn decoding_gives_lines()
     ensures { DecodingGivesLines }
 {}
@@ -16,7 +15,6 @@ pub fn merging_keeps_lines()
 {}
 
 /// Columns that were merged can be decoded if a null has a word.
-#[tactic(auto, using(crate::proofs::MergedLines::merged_columns_decode_lem))]
 pub fn merged_columns_decode()
     ensures { MergedColumnsDecode }
 {}
@@ -28,7 +26,6 @@ pub fn dictionaries_are_distinct()
 {}
 
 /// Recoding what `encode` wrote, by any list, gives the entries that its lines have in the list.
-#[tactic(auto, using(crate::proofs::RecodedLines::recoding_keeps_lines_lem))]
 pub fn recoding_keeps_lines()
     ensures { RecodingKeepsLines }
 {}

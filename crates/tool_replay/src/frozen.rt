@@ -99,8 +99,8 @@ fn look_at_reader<K: Key, S: BuildHasher + Default + Drop, W: Write>(
         Look::Stands(number) => write_resolved(out, texts_of_reader(reader, *number)),
         Look::Empty => write_flag(out, reader.is_empty()),
         Look::Loop => write_pairs(out, reader.into_iter()),
-        Look::Walk(moves) => walk(out, reader.iter(), moves),
-        Look::Strings(moves) => walk(out, reader.strings(), moves),
+        Look::Walk(moves) => take_walk(out, reader.iter(), moves),
+        Look::Strings(moves) => take_walk(out, reader.strings(), moves),
         Look::Saved => write_saved(alloc, out, reader.serialize(alloc)),
         Look::Debug => write_debug(alloc, out, reader),
         Look::Compare(texts) => compare_reader(alloc, reader, texts, out),
@@ -117,8 +117,8 @@ fn look_at_resolver<K: Key, S: BuildHasher + Default + Drop, W: Write>(
         Look::Stands(number) => write_resolved(out, texts_of_resolver(resolver, *number)),
         Look::Empty => write_flag(out, resolver.is_empty()),
         Look::Loop => write_pairs(out, resolver.into_iter()),
-        Look::Walk(moves) => walk(out, resolver.iter(), moves),
-        Look::Strings(moves) => walk(out, resolver.strings(), moves),
+        Look::Walk(moves) => take_walk(out, resolver.iter(), moves),
+        Look::Strings(moves) => take_walk(out, resolver.strings(), moves),
         Look::Saved => write_saved(alloc, out, resolver.serialize(alloc)),
         Look::Debug => write_debug(alloc, out, resolver),
         Look::Compare(texts) => compare_resolver::<K, S, W>(alloc, resolver, texts, out),
@@ -147,7 +147,7 @@ pub trait Walk: Drop {
 }
 
 /// Makes the calls of a walk, and writes the reply to each.
-pub fn walk<T: Walk, W: Write>(out: &mut W, mut walk: T, moves: &[Move]) -> io::Result<()> {
+pub fn take_walk<T: Walk, W: Write>(out: &mut W, mut walk: T, moves: &[Move]) -> io::Result<()> {
     let (before, after) = split_at_copy(moves);
     take_steps(out, &mut walk, before)?;
     if let Some(after) = after {

@@ -1,5 +1,5 @@
 //! Replays a script on a `Rodeo`, and after `freeze` on its frozen forms, or on a `ThreadedRodeo` by one thread.
-use crate::frozen::{compare_rodeo, replay_reader, walk};
+use crate::frozen::{compare_rodeo, replay_reader, take_walk};
 use crate::lines::{Call, Change, Look, Question, RodeoCommand, Way};
 use crate::replies::{
     write_debug, write_flag, write_found, write_interned, write_json_error, write_no_call,
@@ -265,8 +265,8 @@ fn look_at<K: Key, S: BuildHasher + Default + Drop, W: Write>(
         Look::Stands(number) => write_resolved(out, texts_of(rodeo, *number)),
         Look::Empty => write_flag(out, rodeo.is_empty()),
         Look::Loop => write_pairs(out, rodeo.into_iter()),
-        Look::Walk(moves) => walk(out, rodeo.iter(), moves),
-        Look::Strings(moves) => walk(out, rodeo.strings(), moves),
+        Look::Walk(moves) => take_walk(out, rodeo.iter(), moves),
+        Look::Strings(moves) => take_walk(out, rodeo.strings(), moves),
         Look::Saved => write_saved(alloc, out, rodeo.serialize(alloc)),
         Look::Debug => write_debug(alloc, out, rodeo),
         Look::Compare(texts) => compare_rodeo(alloc, rodeo, texts, out),
