@@ -79,6 +79,7 @@ fn made_by(alloc: Global, maker: usize) -> LassoResult<Small> {
 // of the fewest slots of which three quarters are as many (2048 and 128), the bucket, and less than 1000 for the list of
 // buckets.
 const THOUSAND: (usize, usize) = (1000, 16_000 + 10_240 + 4096 + 1000);
+
 const FIFTY: (usize, usize) = (50, 800 + 640 + 4096 + 1000);
 
 // Whether this number of texts fits in the new interner before its list grows, and it takes fewer bytes than these.

@@ -332,7 +332,7 @@ impl BuildHasher for OwningState<'_> {
     }
 }
 
-// How many texts are interned: more than one block of any list of the interner has room for.
+// How many texts are interned. They have 25,000 bytes, more than the first bucket.
 const MANY: usize = 5000;
 
 // An interner of many texts, with a hasher that owns memory.
