@@ -1,5 +1,5 @@
-"""The table of interners that threads share, from C and from Rust: lasso_shared beside one interner under a mutex, and the crate
-rust/lasso_proved beside lasso 0.7.3 and the maps that Rust has for threads."""
+"""The tables of interners from C, beside GLib, and of those that threads share, from C and from Rust: lasso_shared beside one interner under a
+mutex, and the crate rust/lasso_proved beside lasso 0.7.3 and the maps that Rust has for threads."""
 import os
 import sys
 from statistics import median
@@ -19,13 +19,20 @@ ROUNDS = 7
 PROGRAMS = {
     "c": [OVER_C, "shared"],
     "mutex": [OVER_C, "mutex"],
+    "glib": [OVER_C, "glib"],
+    "alone": [OVER_C, "alone"],
+    "glib-alone": [OVER_C, "glib-alone"],
     "rust": [OVER_RUST],
     "lasso": [f"{LASSO}/interners", "default", "round"],
     "lasso-fx": [f"{LASSO}/interners", "fx", "round"],
     "maps": [MAPS, "maps", "round"],
 }
+# One thread without a lock: ours, and what it is compared with.
+ALONE = ("alone", "glib-alone")
+ALONE_NAMES = ("zipf", "distinct", "mid")
+ALONE_CALLS = ("new", "present", "absent", "resolve")
 # Ours, and what it is compared with.
-PAIRS = (("c", "mutex"), ("rust", "lasso"), ("rust", "lasso-fx"), ("rust", "maps"))
+PAIRS = (("c", "mutex"), ("c", "glib"), ("rust", "lasso"), ("rust", "lasso-fx"), ("rust", "maps"))
 NONE = (None, None, None)
 # The goal of the ratio, by the pair, the input or None for each, and the call: for each number of threads, or None.
 GOALS = {
@@ -43,7 +50,8 @@ def build_handles():
         build_library()
         os.environ["LASSO_LIB_DIR"] = f"{os.getcwd()}/out"
     library = f"{os.environ['LASSO_LIB_DIR']}/liblasso.a"
-    said_of(["cc", "-O2", "-Wall", "-Wextra", "-std=c11", "-pthread", "-o", OVER_C, "bench/threads.c", "-I", "crates/lasso_c/include", library])
+    glib = said_of(["pkg-config", "--cflags", "--libs", "glib-2.0"]).split()
+    said_of(["cc", "-O2", "-Wall", "-Wextra", "-std=c11", "-pthread", "-o", OVER_C, "bench/threads.c", "-I", "crates/lasso_c/include", library, *glib])
     build_crate("proved", "serde")
     if not build_rivals() or not is_lasso_built():
         sys.exit(f"lasso 0.7.3 or the maps can't be fetched or built ({OUT}/*.log): LASSO_SOURCE=path names a folder that has lasso")
@@ -52,9 +60,10 @@ def build_handles():
 def rounds_of_handles(first):
     """All rounds, each program in turn: lines of an input, a program, a call, a number of threads and nanoseconds."""
     for _ in range(ROUNDS):
-        for name in NAMES:
+        for name in dict.fromkeys((*NAMES, *ALONE_NAMES)):
             for program, words in PROGRAMS.items():
-                yield from said_lines(f"{name} {program}", [*first, *words], f"{INPUTS}/{name}")
+                if name in (ALONE_NAMES if program in ALONE else NAMES):
+                    yield from said_lines(f"{name} {program}", [*first, *words], f"{INPUTS}/{name}")
 
 
 def cell(ours, others, goal):
@@ -75,13 +84,22 @@ def print_pair(times, ours, other):
             print(f"| {name}, {call} | " + " | ".join(cell(*both, goal) for both, goal in zip(found, goals)))
 
 
+def print_alone(times):
+    print("one thread, no lock: the least nanoseconds of lasso and of GLib, and their ratio (that of the middle ones)")
+    for name in ALONE_NAMES:
+        for call in ALONE_CALLS:
+            ours, others = (times[name, program, call, "1"] for program in ALONE)
+            print(f"| {name}, {call} | {min(ours):.0f} | {min(others):.0f} | {cell(ours, others, None)} |")
+
+
 def measure_handles():
     build_handles()
-    for name in NAMES:
+    for name in (*NAMES, *ALONE_NAMES):
         make_input(name)
     first = priority()
     print("\n".join(occasion()), flush=True)
     times = times_by_key(keep("handles", rounds_of_handles(first)), 4)
     print(f"load at the end: {load()}")
+    print_alone(times)
     for pair in PAIRS:
         print_pair(times, *pair)
