@@ -31,8 +31,8 @@ PROGRAMS = {
 ALONE = ("alone", "glib-alone")
 ALONE_NAMES = ("zipf", "distinct", "mid")
 ALONE_CALLS = ("new", "present", "absent", "resolve")
-# Ours, and what it is compared with.
-PAIRS = (("c", "mutex"), ("c", "glib"), ("rust", "lasso"), ("rust", "lasso-fx"), ("rust", "maps"))
+# Ours, and what it is compared with, in the order of a cell.
+TABLES = {"c": ("mutex", "glib"), "rust": ("lasso", "maps", "lasso-fx")}
 NONE = (None, None, None)
 # The goal of the ratio, by the pair, the input or None for each, and the call: for each number of threads, or None.
 GOALS = {
@@ -66,30 +66,35 @@ def rounds_of_handles(first):
                     yield from said_lines(f"{name} {program}", [*first, *words], f"{INPUTS}/{name}")
 
 
-def cell(ours, others, goal):
-    """The ratio of the least times and of the middle ones, with the goal of the first."""
-    ratio = min(ours) / min(others)
-    words = f"{ratio:.2f} ({median(ours) / median(others):.2f})"
+def ratio(ours, others, goal=None):
+    """The ratio of the least times with its goal, in bold if that is missed."""
+    found = min(ours) / min(others)
     if goal is None:
-        return words
-    return f"{words}/{goal}" if ratio <= goal else f"**{words}/{goal}**"
+        return f"{found:.2f}"
+    return f"{found:.2f}/{goal}" if found <= goal else f"**{found:.2f}/{goal}**"
 
 
-def print_pair(times, ours, other):
-    print(f"{ours} to {other}: least (middle), by 1, 2 and 4 threads")
+def print_table(times, ours, others):
+    """The table of a program of ours: in each cell the ratio to each of the others."""
+    print(f"{ours}, to {', '.join(others)}, by 1, 2 and 4 threads")
+    middles = []
     for name in NAMES:
         for call in CALLS:
-            goals = GOALS.get((ours, other, name, call), GOALS.get((ours, other, None, call), NONE))
-            found = [[times[name, program, call, str(threads)] for program in (ours, other)] for threads in THREADS]
-            print(f"| {name}, {call} | " + " | ".join(cell(*both, goal) for both, goal in zip(found, goals)))
+            row = f"| {name}, {call} |"
+            for at, threads in enumerate(THREADS):
+                found = [times[name, program, call, str(threads)] for program in (ours, *others)]
+                goals = [GOALS.get((ours, other, name, call), GOALS.get((ours, other, None, call), NONE))[at] for other in others]
+                row += f" {', '.join(ratio(found[0], other, goal) for other, goal in zip(found[1:], goals))} |"
+                middles += [median(found[0]) / median(other) / min(found[0]) * min(other) for other in found[1:]]
+            print(row)
+    print(f"ratios of middle times are {min(middles):.2f} to {max(middles):.2f} of these")
 
 
 def print_alone(times):
-    print("one thread, no lock: the least nanoseconds of lasso and of GLib, and their ratio (that of the middle ones)")
-    for name in ALONE_NAMES:
-        for call in ALONE_CALLS:
-            ours, others = (times[name, program, call, "1"] for program in ALONE)
-            print(f"| {name}, {call} | {min(ours):.0f} | {min(others):.0f} | {cell(ours, others, None)} |")
+    """The table of one thread without a lock: nanoseconds of a call over lasso and over GLib, and their ratio."""
+    for call in ALONE_CALLS:
+        found = [[times[name, program, call, "1"] for program in ALONE] for name in ALONE_NAMES]
+        print(f"| {call} | " + " | ".join(f"{min(ours):.0f}, {min(others):.0f}: {ratio(ours, others)}" for ours, others in found) + " |")
 
 
 def measure_handles():
@@ -101,5 +106,5 @@ def measure_handles():
     times = times_by_key(keep("handles", rounds_of_handles(first)), 4)
     print(f"load at the end: {load()}")
     print_alone(times)
-    for pair in PAIRS:
-        print_pair(times, *pair)
+    for ours, others in TABLES.items():
+        print_table(times, ours, others)
