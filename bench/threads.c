@@ -250,17 +250,18 @@ static struct work read_work(struct interner *filled)
 static void time_calls(struct interner *filled, const struct work *work, int threads)
 {
     struct interner fresh = {.kind = filled->kind, .has_lock = filled->has_lock};
-    struct part present[MOST_THREADS] = {{0}}, absent[MOST_THREADS] = {{0}}, fill[MOST_THREADS] = {{0}}, resolve[MOST_THREADS] = {{0}};
+    struct part absent[1] = {{.interner = filled, .lines = &work->absent, .count = work->absent.count}};
+    struct part present[MOST_THREADS] = {{0}}, fill[MOST_THREADS] = {{0}}, resolve[MOST_THREADS] = {{0}};
     size_t texts = work->texts.count, share = (texts + (size_t)threads - 1) / (size_t)threads;
     for (int at = 0; at < threads; at++) {
         size_t first = share * (size_t)at, left = first < texts ? texts - first : 0;
         present[at] = (struct part){.interner = filled, .lines = &work->again, .count = work->again.count};
-        absent[at] = (struct part){.interner = filled, .lines = &work->absent, .count = work->again.count};
         resolve[at] = (struct part){.interner = filled, .codes = work->codes, .count = work->again.count};
         fill[at] = (struct part){.interner = &fresh, .lines = &work->texts, .first = first, .count = left < share ? left : share};
     }
     time_parts("present", threads, present, intern_all, (uint64_t)threads * work->positions);
-    time_parts("absent", threads, absent, get_all, (uint64_t)threads * work->again.count);
+    if (threads == 1)
+        time_parts("absent", 1, absent, get_all, work->again.count);
     begin(&fresh);
     time_parts("new", threads, fill, intern_all, (uint64_t)texts * (texts - 1) / 2);
     end(&fresh);
