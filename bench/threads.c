@@ -250,7 +250,7 @@ static struct work read_work(struct interner *filled)
 static void time_calls(struct interner *filled, const struct work *work, int threads)
 {
     struct interner fresh = {.kind = filled->kind, .has_lock = filled->has_lock};
-    struct part absent[1] = {{.interner = filled, .lines = &work->absent, .count = work->absent.count}};
+    struct part absent = {.interner = filled, .lines = &work->absent, .count = work->absent.count};
     struct part present[MOST_THREADS] = {{0}}, fill[MOST_THREADS] = {{0}}, resolve[MOST_THREADS] = {{0}};
     size_t texts = work->texts.count, share = (texts + (size_t)threads - 1) / (size_t)threads;
     for (int at = 0; at < threads; at++) {
@@ -261,7 +261,7 @@ static void time_calls(struct interner *filled, const struct work *work, int thr
     }
     time_parts("present", threads, present, intern_all, (uint64_t)threads * work->positions);
     if (threads == 1)
-        time_parts("absent", 1, absent, get_all, work->again.count);
+        time_parts("absent", 1, &absent, get_all, work->again.count);
     begin(&fresh);
     time_parts("new", threads, fill, intern_all, (uint64_t)texts * (texts - 1) / 2);
     end(&fresh);
