@@ -39,6 +39,7 @@ mod limits;
 mod reader;
 mod resolver;
 mod rodeo;
+mod seats;
 #[cfg(feature = "serialize")]
 mod serialize;
 mod threaded;
