@@ -68,7 +68,7 @@ int main(int argc, char **argv)
 {
     if (argc != 3)
         fail("usage: batches SIZE CODES < LINES");
-    struct lines lines = read_lines(stdin);
+    struct lines lines = read_lines(stdin, false);
     size_t size = strtoul(argv[1], NULL, 10);
     uint32_t *codes = room(lines.count * sizeof *codes);
     struct lasso lasso = LASSO_NONE;

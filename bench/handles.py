@@ -1,5 +1,5 @@
-"""The table of interners that threads share, from C and from Rust: lasso_shared beside one interner under a mutex, and the crate
-rust/lasso_proved beside lasso 0.7.3 and the maps that Rust has for threads."""
+"""The tables of interners from C, beside GLib, and of those that threads share, from C and from Rust: lasso_shared beside one interner under a
+mutex, and the crate rust/lasso_proved beside lasso 0.7.3 and the maps that Rust has for threads."""
 import os
 import sys
 from statistics import median
@@ -19,13 +19,20 @@ ROUNDS = 7
 PROGRAMS = {
     "c": [OVER_C, "shared"],
     "mutex": [OVER_C, "mutex"],
+    "glib": [OVER_C, "glib"],
+    "alone": [OVER_C, "alone"],
+    "glib-alone": [OVER_C, "glib-alone"],
     "rust": [OVER_RUST, "round"],
     "lasso": [LASSO, "round", "default"],
     "lasso-fx": [LASSO, "round", "fx"],
     "maps": [MAPS, "maps", "round"],
 }
-# Ours, and what it is compared with.
-PAIRS = (("c", "mutex"), ("rust", "lasso"), ("rust", "lasso-fx"), ("rust", "maps"))
+# One thread without a lock: ours, and what it is compared with.
+ALONE = ("alone", "glib-alone")
+ALONE_NAMES = ("zipf", "distinct", "mid")
+ALONE_CALLS = ("new", "present", "absent", "resolve")
+# Ours, and what it is compared with, in the order of a cell.
+TABLES = {"c": ("mutex", "glib"), "rust": ("lasso", "maps", "lasso-fx")}
 NONE = (None, None, None)
 # The goal of the ratio, by the pair, the input or None for each, and the call: for each number of threads, or None.
 GOALS = {
@@ -43,7 +50,8 @@ def build_handles():
         build_library()
         os.environ["LASSO_LIB_DIR"] = f"{os.getcwd()}/out"
     library = os.path.abspath(f"{os.environ['LASSO_LIB_DIR']}/liblasso.a")
-    said_of(["cc", "-O2", "-Wall", "-Wextra", "-std=c11", "-pthread", "-o", OVER_C, "bench/threads.c", "-I", "crates/lasso_c/include", library])
+    glib = said_of(["pkg-config", "--cflags", "--libs", "glib-2.0"]).split()
+    said_of(["cc", "-O2", "-Wall", "-Wextra", "-std=c11", "-pthread", "-o", OVER_C, "bench/threads.c", "-I", "crates/lasso_c/include", library, *glib])
     build_crate("proved", "serde")
     if not build_rivals() or not is_lasso_built():
         sys.exit(f"lasso 0.7.3 or the maps can't be fetched or built ({OUT}/*.log): LASSO_SOURCE=path names a folder that has lasso")
@@ -52,36 +60,51 @@ def build_handles():
 def rounds_of_handles(first):
     """All rounds, each program in turn: lines of an input, a program, a call, a number of threads and nanoseconds."""
     for _ in range(ROUNDS):
-        for name in NAMES:
+        for name in dict.fromkeys((*NAMES, *ALONE_NAMES)):
             for program, words in PROGRAMS.items():
-                yield from said_lines(f"{name} {program}", [*first, *words], f"{INPUTS}/{name}")
+                if name in (ALONE_NAMES if program in ALONE else NAMES):
+                    yield from said_lines(f"{name} {program}", [*first, *words], f"{INPUTS}/{name}")
 
 
-def cell(ours, others, goal):
-    """The ratio of the least times and of the middle ones, with the goal of the first."""
-    ratio = min(ours) / min(others)
-    words = f"{ratio:.2f} ({median(ours) / median(others):.2f})"
+def ratio(ours, others, goal=None):
+    """The ratio of the least times with its goal, in bold if that is missed."""
+    found = min(ours) / min(others)
     if goal is None:
-        return words
-    return f"{words}/{goal}" if ratio <= goal else f"**{words}/{goal}**"
+        return f"{found:.2f}"
+    return f"{found:.2f}/{goal}" if found <= goal else f"**{found:.2f}/{goal}**"
 
 
-def print_pair(times, ours, other):
-    print(f"{ours} to {other}: least (middle), by 1, 2 and 4 threads")
+def print_table(times, ours, others):
+    """The table of a program of ours: in each cell the ratio to each of the others."""
+    print(f"{ours}, to {', '.join(others)}, by 1, 2 and 4 threads")
+    middles = []
     for name in NAMES:
         for call in CALLS:
-            goals = GOALS.get((ours, other, name, call), GOALS.get((ours, other, None, call), NONE))
-            found = [[times[name, program, call, str(threads)] for program in (ours, other)] for threads in THREADS]
-            print(f"| {name}, {call} | " + " | ".join(cell(*both, goal) for both, goal in zip(found, goals)))
+            row = f"| {name}, {call} |"
+            for at, threads in enumerate(THREADS):
+                found = [times[name, program, call, str(threads)] for program in (ours, *others)]
+                goals = [GOALS.get((ours, other, name, call), GOALS.get((ours, other, None, call), NONE))[at] for other in others]
+                row += f" {', '.join(ratio(found[0], other, goal) for other, goal in zip(found[1:], goals))} |"
+                middles += [median(found[0]) / median(other) / min(found[0]) * min(other) for other in found[1:]]
+            print(row)
+    print(f"ratios of middle times are {min(middles):.2f} to {max(middles):.2f} of these")
+
+
+def print_alone(times):
+    """The table of one thread without a lock: nanoseconds of a call over lasso and over GLib, and their ratio."""
+    for call in ALONE_CALLS:
+        found = [[times[name, program, call, "1"] for program in ALONE] for name in ALONE_NAMES]
+        print(f"| {call} | " + " | ".join(f"{min(ours):.0f}, {min(others):.0f}: {ratio(ours, others)}" for ours, others in found) + " |")
 
 
 def measure_handles():
     build_handles()
-    for name in NAMES:
+    for name in (*NAMES, *ALONE_NAMES):
         make_input(name)
     first = priority()
     print("\n".join(occasion()), flush=True)
     times = times_by_key(keep("handles", rounds_of_handles(first)), 4)
     print(f"load at the end: {load()}")
-    for pair in PAIRS:
-        print_pair(times, *pair)
+    print_alone(times)
+    for ours, others in TABLES.items():
+        print_table(times, ours, others)

@@ -2,6 +2,7 @@
 #ifndef LINES_H
 #define LINES_H
 
+#include <stdbool.h>
 #include <stdint.h>
 #include <stdio.h>
 #include <stdlib.h>
@@ -47,7 +48,8 @@ static uint8_t *read_all(FILE *stream, size_t *length)
     return bytes;
 }
 
-static struct lines read_lines(FILE *stream)
+/* The lines of a stream; has_ends: with a NUL in place of each line feed, which then ends the text in the buffer. */
+static struct lines read_lines(FILE *stream, bool has_ends)
 {
     struct lines lines = {NULL, 0, NULL, 0};
     size_t length;
@@ -60,10 +62,11 @@ static struct lines read_lines(FILE *stream)
     lines.offsets = room((lines.count + 1) * sizeof *lines.offsets);
     lines.offsets[0] = 0;
     for (size_t at = 0, line = 0; at < length; at++) {
-        if (bytes[at] == '\n')
+        bool is_end = bytes[at] == '\n';
+        if (!is_end || has_ends)
+            bytes[lines.length++] = is_end ? 0 : bytes[at];
+        if (is_end)
             lines.offsets[++line] = (int32_t)lines.length;
-        else
-            bytes[lines.length++] = bytes[at];
     }
     return lines;
 }

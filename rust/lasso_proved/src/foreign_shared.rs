@@ -12,11 +12,10 @@
 use crate::error::or_panic;
 use crate::foreign::{outcome, unexpected, LassoText, Seed};
 use crate::iter::TextList;
+use crate::seats::{Place, Seats, SEATS};
 use crate::LassoResult;
-use std::cell::Cell;
 use std::ffi::c_void;
 use std::panic::RefUnwindSafe;
-use std::sync::atomic::{AtomicUsize, Ordering};
 use std::sync::{Mutex, MutexGuard, PoisonError};
 use std::{ptr, thread};
 
@@ -79,13 +78,10 @@ impl Drop for User {
     }
 }
 
-// How many handles an interner has at most. Threads beyond that share them.
-const SEATS: usize = 32;
-
-static NEXT_SEAT: AtomicUsize = AtomicUsize::new(0);
+static TAKEN: Seats = Seats::new();
 
 thread_local! {
-    static SEAT: Cell<usize> = Cell::new(NEXT_SEAT.fetch_add(1, Ordering::Relaxed) % SEATS);
+    static PLACE: Place<'static> = TAKEN.take();
 }
 
 // A lock on lines of memory of its own.
@@ -116,7 +112,9 @@ impl Users {
     /// The calling thread's handle. It is made when it is first used.
     #[inline]
     fn user(&self) -> LassoResult<MutexGuard<'_, User>> {
-        let mut user = lock(&self.seats[SEAT.with(Cell::get)]);
+        // A thread that ends, and has given its seat back, uses the first.
+        let number = PLACE.try_with(|place| place.number).unwrap_or(0);
+        let mut user = lock(&self.seats[number]);
         if !user.0.live {
             // The last seat's holder waits for no other seat.
             let mut first = lock(&self.seats[SEATS]);

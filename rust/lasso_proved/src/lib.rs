@@ -38,6 +38,7 @@ mod limits;
 mod reader;
 mod resolver;
 mod rodeo;
+mod seats;
 #[cfg(feature = "serialize")]
 mod serialize;
 mod threaded;
