@@ -162,6 +162,14 @@ pub(super) fn read_dictionary(
     lasso_columns::read_dictionary(alloc, limits, hasher, bytes, offsets)
 }
 
+pub(super) fn write_wide(
+    alloc: Global,
+    rodeo: &SpurRodeo,
+    from: usize,
+) -> Result<Layout<u64>, WriteError> {
+    lasso_columns::write_dictionary(alloc, rodeo, from)
+}
+
 pub(super) fn read_wide(
     alloc: Global,
     limit: usize,

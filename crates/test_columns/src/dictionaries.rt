@@ -1,9 +1,10 @@
 //! Dictionaries that are written as bytes and offsets, and read again. The expected values are worked out by
 //! hand, or computed from numbers.
 use crate::calls::{
-    all_right, ends_so, has_texts, interner, read_dictionary, read_wide, write_dictionary,
+    all_right, append_dictionary, ends_so, has_texts, interner, read_dictionary, read_wide,
+    write_dictionary, write_wide,
 };
-use crate::long_columns::{Numbers, first_of, printed, slices};
+use crate::long_columns::{COUNT, Numbers, first_of, printed, slices};
 use crate::parts::{Script, with_each_refused};
 use lasso::{FixedState, LassoErrorKind, MemoryLimits, SpurRodeo};
 use lasso_columns::{Dictionary, Layout, Offset, ReadError, WriteError};
@@ -183,6 +184,28 @@ fn what_was_written_is_read(rt: HostRuntime) -> Result<(), Fail> {
     all_right(&rt, reads(rt.alloc(), &WHOLE), 1)
 }
 
+fn writes_none(alloc: Global, rodeo: &SpurRodeo) -> Result<bool, WriteError> {
+    match write_dictionary(alloc, rodeo, 0) {
+        Ok(layout) => Ok(is_layout(&layout, (0, b"", &[0]))),
+        Err(error) => Err(error),
+    }
+}
+
+fn empty_is_written(alloc: Global) -> Result<bool, Fail> {
+    let rodeo = interner(alloc, &[])?;
+    Ok(writes_none(alloc, &rodeo)?)
+}
+
+#[test]
+fn a_dictionary_may_have_no_texts(rt: HostRuntime) -> Result<(), Fail> {
+    static READINGS: [Reading; 2] = [
+        (usize::MAX, 4096, (b"", &[0], None, &[])),
+        (usize::MAX, 5, (b"bytes", &[], None, &[])),
+    ];
+    ends_so(&rt, empty_is_written(rt.alloc()), "no texts")?;
+    all_right(&rt, reads(rt.alloc(), &READINGS), READINGS.len())
+}
+
 // The first bucket has one byte, whatever the limit.
 #[test]
 fn a_limit_of_zero_leaves_room_for_a_byte(rt: HostRuntime) -> Result<(), Fail> {
@@ -198,10 +221,61 @@ fn a_limit_of_zero_leaves_room_for_a_byte(rt: HostRuntime) -> Result<(), Fail> {
     all_right(&rt, reads(rt.alloc(), &READINGS), READINGS.len())
 }
 
+// Whether there are 20,000 texts of five bytes.
+fn are_of_five(layout: &Layout<u64>) -> bool {
+    for at in 0..layout.offsets.len() {
+        if layout.offsets[at] != (at as u64).wrapping_mul(5) {
+            return false;
+        }
+    }
+    layout.bytes.len() == 100_000 && layout.offsets.len() == 20_001
+}
+
+// Whether the interner that is read from the layout has just these texts.
+fn is_read_again(alloc: Global, layout: &Layout<u64>, texts: &[&str]) -> Result<bool, ReadError> {
+    let rodeo = read_wide(alloc, 100_000, &layout.bytes, &layout.offsets)?;
+    Ok(has_texts(&rodeo, texts))
+}
+
+// Writes the texts from 0 and reads them.
+fn reads_again(alloc: Global, rodeo: &SpurRodeo, texts: &[&str]) -> Result<bool, Fail> {
+    let layout = write_wide(alloc, rodeo, 0)?;
+    let read = is_read_again(alloc, &layout, texts);
+    Ok(read? && are_of_five(&layout))
+}
+
+fn appends_layout(
+    rodeo: &mut SpurRodeo,
+    layout: &Layout<u32>,
+    texts: &[&str],
+) -> Result<bool, ReadError> {
+    append_dictionary(rodeo, &layout.bytes, &layout.offsets)?;
+    Ok(has_texts(rodeo, texts))
+}
+
+// Writes the texts from 12,345 and appends them to the texts before that position.
+fn appends_again(alloc: Global, rodeo: &SpurRodeo, texts: &[&str]) -> Result<bool, Fail> {
+    let mut read = interner(alloc, texts.get(..12_345).ok_or("too few")?)?;
+    let layout = write_dictionary(alloc, rodeo, 12_345)?;
+    Ok(appends_layout(&mut read, &layout, texts)?)
+}
+
+fn comes_back(alloc: Global, texts: &[&str]) -> Result<bool, Fail> {
+    let rodeo = interner(alloc, texts)?;
+    Ok(reads_again(alloc, &rodeo, texts)? && appends_again(alloc, &rodeo, texts)?)
+}
+
 // The first `count` texts of a column without doubles.
 fn distinct_texts(alloc: Global, count: u32) -> Result<Vec<String>, Fail> {
     let numbers = first_of(alloc, Numbers::Distinct, count)?;
     printed(alloc, &numbers)
+}
+
+#[test]
+fn many_texts_are_written_and_read(rt: HostRuntime) -> Result<(), Fail> {
+    let printed = distinct_texts(rt.alloc(), COUNT)?;
+    let texts = slices(rt.alloc(), &printed)?;
+    ends_so(&rt, comes_back(rt.alloc(), &texts), "the texts")
 }
 
 fn layout_of(alloc: Global, texts: &[&str]) -> Result<Layout<u32>, Fail> {

@@ -94,6 +94,40 @@ pub(super) fn are_encoded<R: AllocGlobal + Threads + Sync>(
     decodes(rt.alloc(), rodeo, codes, texts)
 }
 
+// Whether a column has these codes over an interner of one text or none, and is decoded from them.
+pub(super) fn is_encoded<R: AllocGlobal + Threads + Sync>(
+    rt: &R,
+    opening: &[&str],
+    column: &Column,
+    way: Way,
+) -> Result<bool, Fail> {
+    let texts = slices(rt.alloc(), &column.texts)?;
+    are_encoded(rt, opening, &texts, &column.codes, way)
+}
+
+// Whether a long column is encoded over an interner without texts, and decoded.
+pub(super) fn encodes_long<R: AllocGlobal + Threads + Sync>(
+    rt: &R,
+    numbers: Numbers,
+    ways: &[Way],
+) -> Result<bool, Fail> {
+    let column = make_column(rt.alloc(), numbers, COUNT)?;
+    for at in 0..ways.len() {
+        if !is_encoded(rt, &[], &column, ways[at])? {
+            return Ok(false);
+        }
+    }
+    Ok(true)
+}
+
+#[test]
+fn long_columns_are_encoded_and_decoded(rt: HostRuntime) -> Result<(), Fail> {
+    static WAYS: [Way; 2] = [Way::Texts, Way::Lines];
+    ends_so(&rt, encodes_long(&rt, Numbers::Repeated, &WAYS), "repeated")?;
+    ends_so(&rt, encodes_long(&rt, Numbers::Distinct, &WAYS), "distinct")?;
+    ends_so(&rt, encodes_long(&rt, Numbers::Mixed, &WAYS), "mixed")
+}
+
 fn merges_into(
     alloc: Global,
     opening: &[&str],
@@ -120,6 +154,47 @@ pub(super) fn merges(
 ) -> Result<bool, Fail> {
     let from = interner(alloc, texts)?.into_reader();
     merges_into(alloc, opening, &from, codes, count)
+}
+
+fn codes_of_both(alloc: Global, first: &[u32], second: &[u32]) -> Result<Vec<u32>, Fail> {
+    let mut numbers = first.to_vec(alloc)?;
+    numbers.extend_from_slice(second)?;
+    codes_of(alloc, &numbers)
+}
+
+// Merges the texts of the second column, each of which comes once, into an interner of those of the first.
+// `codes` are those of the second column's texts after the first.
+fn merges_columns(
+    alloc: Global,
+    first: &[String],
+    second: &[String],
+    codes: &[u32],
+    count: usize,
+) -> Result<bool, Fail> {
+    let opening = slices(alloc, first)?;
+    let texts = slices(alloc, second)?;
+    merges(alloc, &opening, &texts, codes, count)
+}
+
+// Merges a column that prints the second numbers into an interner of the first.
+fn merges_numbers(alloc: Global, first: &[u32], second: &[u32]) -> Result<bool, Fail> {
+    let codes = codes_of_both(alloc, first, second)?;
+    let added = codes.get(first.len()..).ok_or("too few codes")?;
+    let first = printed(alloc, first)?;
+    let second = printed(alloc, second)?;
+    merges_columns(alloc, &first, &second, added, distinct_of(&codes))
+}
+
+// The second dictionary has 20,000 texts, some of which the first has too.
+#[test]
+fn dictionaries_of_many_texts_are_merged(rt: HostRuntime) -> Result<(), Fail> {
+    let first = first_of(rt.alloc(), Numbers::Repeated, COUNT)?;
+    let second = first_of(rt.alloc(), Numbers::Distinct, COUNT)?;
+    ends_so(
+        &rt,
+        merges_numbers(rt.alloc(), &first, &second),
+        "the codes",
+    )
 }
 
 // Encodes the texts by these workers over a new interner that threads share, which then has `count` texts.

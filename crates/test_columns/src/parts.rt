@@ -1,8 +1,13 @@
 //! Columns that are encoded in parts. The expected codes are computed from the numbers, and are the same
 //! for each number of workers. Calls on an interner whose allocator refuses each of its requests in turn.
-use crate::calls::{distinct_of, encode_in_parts, ends_so, has_texts, stand_for};
-use crate::long_columns::{Numbers, Way, make_column, slices};
-use lasso::{FixedState, LassoErrorKind, LassoResult, MemoryLimits, Rodeo, Spur};
+use crate::calls::{distinct_of, encode_in_parts, ends_so, has_texts, interner, stand_for};
+use crate::columns::limit_refuses;
+use crate::long_columns::{
+    COUNT, Column, Numbers, Way, are_encoded, encodes_long, make_column, slices,
+};
+use lasso::{
+    Capacity, FixedState, LassoErrorKind, LassoResult, MemoryLimits, Rodeo, Spur, SpurRodeo,
+};
 use lasso_columns::{Layout, ReadError, append_dictionary, read_dictionary};
 use std::alloc::{Allocator, Global};
 use std::process::Abort;
@@ -20,6 +25,98 @@ static WAYS: [Way; 5] = [
     Way::Parts(7),
 ];
 
+// Each part keeps its list, or gives up after its first texts, or some of them do.
+#[test]
+fn parts_have_the_codes_of_one_thread(rt: HostRuntime) -> Result<(), Fail> {
+    ends_so(&rt, encodes_long(&rt, Numbers::Repeated, &WAYS), "kept")?;
+    ends_so(&rt, encodes_long(&rt, Numbers::Distinct, &WAYS), "given up")?;
+    ends_so(&rt, encodes_long(&rt, Numbers::Mixed, &WAYS), "some")
+}
+
+// An interner with room for this number of texts of five bytes, and no more.
+fn interner_for(alloc: Global, texts: usize) -> LassoResult<SpurRodeo> {
+    let bytes = texts.clamp(1, 1000) * 5;
+    let capacity = Capacity::for_bytes(bytes);
+    Rodeo::with_capacity_and_memory_limits(alloc, capacity, MemoryLimits::new(bytes))
+}
+
+// Whether the limit refuses the text after these codes. The interner then has just the texts of the codes,
+// which resolve to them.
+fn ends_after<R: AllocGlobal + Threads + Sync>(
+    rt: &R,
+    rodeo: &mut SpurRodeo,
+    texts: &[&str],
+    wanted: &[u32],
+    workers: usize,
+) -> Result<bool, Fail> {
+    let mut codes = Vec::new(rt.alloc());
+    let refusal = encode_in_parts(rt, rodeo, texts, &mut codes, workers).err();
+    let right = codes.as_slice() == wanted
+        && rodeo.len() == distinct_of(wanted)
+        && stand_for(rodeo, wanted, texts);
+    Ok(limit_refuses(refusal)? && right)
+}
+
+fn limit_ends_at<R: AllocGlobal + Threads + Sync>(
+    rt: &R,
+    texts: &[&str],
+    wanted: &[u32],
+    workers: usize,
+    most: usize,
+) -> Result<bool, Fail> {
+    let mut rodeo = interner_for(rt.alloc(), most)?;
+    ends_after(rt, &mut rodeo, texts, wanted, workers)
+}
+
+// The codes before the first that is `most`, or none if there is no such code.
+fn codes_before(codes: &[u32], most: u32) -> &[u32] {
+    for at in 0..codes.len() {
+        if codes[at] == most {
+            return &codes[..at];
+        }
+    }
+    &[]
+}
+
+// Whether the limit refuses the first text whose code would be `most`, with each number of workers.
+fn limit_ends_column<R: AllocGlobal + Threads + Sync>(
+    rt: &R,
+    column: &Column,
+    most: u32,
+) -> Result<bool, Fail> {
+    let texts = slices(rt.alloc(), &column.texts)?;
+    let wanted = codes_before(&column.codes, most);
+    for at in 0..WORKERS.len() {
+        if !limit_ends_at(rt, &texts, wanted, WORKERS[at], most as usize)? {
+            return Ok(false);
+        }
+    }
+    Ok(!wanted.is_empty())
+}
+
+fn limit_ends<R: AllocGlobal + Threads + Sync>(
+    rt: &R,
+    numbers: Numbers,
+    most: u32,
+    more: u32,
+) -> Result<bool, Fail> {
+    let column = make_column(rt.alloc(), numbers, COUNT)?;
+    Ok(limit_ends_column(rt, &column, most)? && limit_ends_column(rt, &column, more)?)
+}
+
+// In the second column the parts gave up before.
+#[test]
+fn the_limit_ends_a_column_of_parts(rt: HostRuntime) -> Result<(), Fail> {
+    ends_so(&rt, limit_ends(&rt, Numbers::Repeated, 40, 180), "kept")?;
+    ends_so(&rt, limit_ends(&rt, Numbers::Mixed, 120, 900), "given up")
+}
+
+#[test]
+fn an_empty_column_has_no_codes(rt: HostRuntime) -> Result<(), Fail> {
+    let parts = Way::Parts(4);
+    ends_so(&rt, are_encoded(&rt, &[], &[], &[], parts), "no codes")
+}
+
 // `count` texts that repeat three words.
 fn words(alloc: Global, count: usize) -> Result<Vec<&'static str>, Fail> {
     let mut texts = Vec::new(alloc);
@@ -27,6 +124,27 @@ fn words(alloc: Global, count: usize) -> Result<Vec<&'static str>, Fail> {
         texts.push(["one", "two", "three"][place % 3])?;
     }
     Ok(texts)
+}
+
+// Their codes in an interner that has one other text.
+fn codes_of_words(alloc: Global, count: usize) -> Result<Vec<u32>, Fail> {
+    let mut codes = Vec::new(alloc);
+    for place in 0..count {
+        codes.push((place % 3) as u32 + 1)?;
+    }
+    Ok(codes)
+}
+
+// Parts long enough that two threads rewrite the codes of each.
+#[test]
+fn long_parts_are_rewritten(rt: HostRuntime) -> Result<(), Fail> {
+    let texts = words(rt.alloc(), 150_000)?;
+    let codes = codes_of_words(rt.alloc(), 150_000)?;
+    ends_so(
+        &rt,
+        are_encoded(&rt, &["zero"], &texts, &codes, Way::Parts(2)),
+        "the codes",
+    )
 }
 
 // Each memory request of the caller's interner is refused once. The texts before the refused one then have

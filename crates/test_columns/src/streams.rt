@@ -383,6 +383,110 @@ fn kinds_of_failed_reads(rt: HostRuntime) -> Result<(), Fail> {
     Ok(())
 }
 
+// An odd line among many that are alike.
+#[derive(Clone, Copy)]
+enum Odd {
+    Text,
+    Null,
+    NotText,
+    Refused,
+}
+
+static ODD: [Odd; 4] = [Odd::Text, Odd::Null, Odd::NotText, Odd::Refused];
+
+const LINES: usize = 40;
+
+fn odd_line(odd: Odd) -> &'static [u8] {
+    match odd {
+        Odd::Text => b"b\n",
+        Odd::Null => b"-\n",
+        Odd::NotText => b"\xff\n",
+        Odd::Refused => b"long\n",
+    }
+}
+
+// Lines that are alike, with the odd one at this place.
+fn lines_with(alloc: Global, odd: Odd, place: usize) -> Result<Vec<u8>, Fail> {
+    let mut bytes = Vec::new(alloc);
+    for line in 0..LINES {
+        bytes.extend_from_slice(if line == place { odd_line(odd) } else { b"a\n" })?;
+    }
+    Ok(bytes)
+}
+
+fn ended_with(odd: Odd, place: usize) -> Ended {
+    match odd {
+        Odd::Text | Odd::Null => Ended::Well,
+        Odd::NotText => Ended::NotText(place.saturating_add(1)),
+        Odd::Refused => Ended::Refused(place.saturating_add(1)),
+    }
+}
+
+// The entry of a line. A new text before all others has the code 0.
+fn entry_at(odd: Odd, place: usize, line: usize) -> u32 {
+    match odd {
+        Odd::Null if line == place => NULL,
+        Odd::Text if (line == place) == (place > 0) => 1,
+        _ => 0,
+    }
+}
+
+// Whether these are the entries, up to the odd line if that ends it.
+fn are_wanted(entries: &[u32], odd: Odd, place: usize) -> bool {
+    let count = match odd {
+        Odd::Text | Odd::Null => LINES,
+        Odd::NotText | Odd::Refused => place,
+    };
+    if entries.len() != count {
+        return false;
+    }
+    for line in 0..entries.len() {
+        if entries[line] != entry_at(odd, place, line) {
+            return false;
+        }
+    }
+    true
+}
+
+fn is_right_with<R: AllocGlobal + Threads + Sync>(
+    rt: &R,
+    odd: Odd,
+    place: usize,
+    rounds: Rounds,
+) -> Result<bool, Fail> {
+    let mut rodeo = of_three_bytes(rt.alloc())?;
+    let mut entries = Vec::new(rt.alloc());
+    let bytes = lines_with(rt.alloc(), odd, place)?;
+    let mut input = BufReader::with_capacity(rt.alloc(), 5, bytes.as_slice())?;
+    let ended = encode_stream(rt, &mut input, &mut rodeo, &mut entries, rounds);
+    Ok(ends(ended, ended_with(odd, place))? && are_wanted(&entries, odd, place))
+}
+
+// The first place that is not right, or the number of lines.
+fn right_places<R: AllocGlobal + Threads + Sync>(
+    rt: &R,
+    odd: Odd,
+    rounds: Rounds,
+) -> Result<usize, Fail> {
+    for place in 0..LINES {
+        if !is_right_with(rt, odd, place, rounds)? {
+            return Ok(place);
+        }
+    }
+    Ok(LINES)
+}
+
+// Most lines are alike, so the blocks are encoded in rounds.
+#[test]
+fn an_odd_line_in_each_block(rt: HostRuntime) -> Result<(), Fail> {
+    for odd in &ODD {
+        all_right(&rt, right_places(&rt, *odd, rounds_of(2, 3)), LINES)?;
+        all_right(&rt, right_places(&rt, *odd, rounds_of(5, 1)), LINES)?;
+        all_right(&rt, right_places(&rt, *odd, rounds_of(5, 10)), LINES)?;
+    }
+    Ok(())
+}
+
 // Streams that take thousands of rounds, and blocks that take thousands of reads.
 
 // Whether all of this number of empty lines are encoded, by reads of a byte.

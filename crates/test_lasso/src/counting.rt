@@ -147,6 +147,33 @@ fn counts_of_a_text(rt: HostRuntime) -> Result<(), Fail> {
     ends_so(&rt, words_are_counted(&rt, &COUNTED), "ten words")
 }
 
+// Whether the keys of the words have these counts.
+fn has_counts<R: AllocGlobal + Threads + Wait + Sync>(
+    rt: &R,
+    rodeo: &SpurThreadedRodeo,
+    words: &[&str],
+    counts: &[usize],
+) -> LassoResult<bool> {
+    match counted(rt, rodeo, words) {
+        Ok(counted) => {
+            Ok(counted.keys.len() == words.len() && counted.counts.as_slice() == counts)
+        }
+        Err(error) => Err(error),
+    }
+}
+
+fn few_are_counted<R: AllocGlobal + Threads + Wait + Sync>(rt: &R) -> Result<bool, Fail> {
+    let rodeo = fresh(rt.alloc())?;
+    let none = has_counts(rt, &rodeo, &[], &[]);
+    let twice = has_counts(rt, &rodeo, &["again", "again"], &[2]);
+    Ok(none? && twice?)
+}
+
+#[test]
+fn counts_of_few_words(rt: HostRuntime) -> Result<(), Fail> {
+    ends_so(&rt, few_are_counted(&rt), "no word and two")
+}
+
 // A set of texts has each text once, at the position at which it came.
 
 #[test]
@@ -168,6 +195,18 @@ fn a_set_has_the_positions_of_its_texts(rt: HostRuntime) -> Result<(), Fail> {
 }
 
 // Two lists, counted by two threads.
+
+fn are_counted<R: Threads>(rt: &R, left: &[&str], right: &[&str], wanted: (usize, usize)) -> bool {
+    let found = counts(rt, left, right);
+    found.0 == wanted.0 && found.1 == wanted.1
+}
+
+#[test]
+fn texts_of_two_lists(rt: HostRuntime) {
+    let whole = are_counted(&rt, &["to", "be"], &["or", "not", "to"], (2, 3));
+    is_so(&rt, whole, "two lists");
+    is_so(&rt, are_counted(&rt, &[], &["be"], (0, 1)), "an empty list");
+}
 
 // Two texts are compared by their keys.
 

@@ -6,6 +6,7 @@
 mod lists;
 mod makers;
 mod shared;
+mod single;
 
 use crate::refused::makers::{Interner, Scenario, State, Way, shows};
 use lasso::{

@@ -283,8 +283,9 @@ fn capacity_is_the_room_that_there_is(rt: HostRuntime) -> Result<(), Fail> {
 // How many items there are.
 const ITEMS: usize = 10;
 
+// The interner has no room, so that interning an item allocates.
 fn of_extended(memory: &Memory) -> LassoResult<usize> {
-    let mut rodeo = Counted::<&Memory>::new(memory)?;
+    let mut rodeo = Counted::<&Memory>::with_capacity(memory, Capacity::minimal())?;
     rodeo.extend(numbered(memory, ITEMS)?)?;
     Ok(rodeo.len())
 }
