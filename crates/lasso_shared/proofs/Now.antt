@@ -1,5 +1,5 @@
 -- Calls that do not wait: what their reply is, where there is one, and what they leave where there is none.
-use Rattle.std.proofs.Common.{◌≡◌, ◌≢◌, ℕ, List, [], ◌∷◌, length, Option, Some, None, append-nil, inl, refl, subst}
+use Rattle.std.proofs.Common.{◌≡◌, ◌≢◌, ℕ, List, [], ◌∷◌, length, Option, Some, None, append-nil, refl, subst}
 use Rattle.std.specs.Prelude.{◌⊎◌, Result, Ok, Err, IfErr, IfSome, OnErr, OnOk, IsSomeAnd}
 use mathlib.Core.List.{IsPrefix}
 use Rattle.lasso_parts.specs.Texts.{Text, key_of}
@@ -13,7 +13,7 @@ use Rattle.lasso_log.specs.Views.{InternerId, list_of}
 use Rattle.lasso_shared.specs.Shards.{PutsLast}
 use Rattle.lasso_log.proofs.Tickets.{since_trans}
 use Rattle.lasso_shared.proofs.Called.{called_later, got}
-use Rattle.lasso_shared.proofs.Stored.{called_put, charged_bytes, past_earlier, refused_later, since_append, takes_later}
+use Rattle.lasso_shared.proofs.Stored.{called_put, charged_bytes, refused_later, since_append, takes_later}
 
 -- what a pass may have stored, after steps without an event
 pub store_later : (p : ℕ) (a b c : List NoteView) (text : Text) → Since p a b [] → ((own : List Event) × ((own ≡ []) ⊎ Stores Copied text own) × Since p b c own) → (own : List Event) × ((own ≡ []) ⊎ Stores Copied text own) × Since p a c own

@@ -1,7 +1,7 @@
 -- What a call with a pass says of the texts that the pass had seen, and of the key that it returns.
 --
 -- What the pass had seen begins what it has then seen. So these are the laws of `CallerLaws`, for a text that was seen right before the call.
-use Rattle.std.proofs.Common.{◌≡◌, ℕ, Option, Some, None, Result, Ok, Err, IfOk, IfSome, refl}
+use Rattle.std.proofs.Common.{◌≡◌, ℕ, Option, Some, None, Result, Ok, Err, IfOk, IfSome}
 use Rattle.std.specs.Prelude.{Bool, IsTrue}
 use mathlib.Core.List.{IsPrefix}
 use Rattle.lasso_parts.specs.Texts.{Text}

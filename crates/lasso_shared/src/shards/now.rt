@@ -117,7 +117,12 @@ impl<K: Key, S: BuildHasher + Drop> Shards<K, S> {
     }
 
     // Makes room for one text in the shard's index. Out of memory, the shard keeps its texts.
-    fn grow_index(&self, shard: &mut Shard<K, S>, pass: &Pass<K>, number: usize) -> LassoResult<()>
+    pub(super) fn grow_index(
+        &self,
+        shard: &mut Shard<K, S>,
+        pass: &Pass<K>,
+        number: usize,
+    ) -> LassoResult<()>
         requires of { pass.now.of ≡ self.now.log }
         requires held { IsLocked (hash_by S.BuildHasher S.Hasher.Hasher self.now.hasher) number self.now.log shard.old }
         requires begins { IsPrefix shard.old.known.notes pass.now.notes }
@@ -187,8 +192,10 @@ impl<K: Key, S: BuildHasher + Drop> Shards<K, S> {
         Some(Ok(range.fill(self.log.era(), text)))
     }
 
-    // Appends the text as `append_at` does. Where that would wait, it returns `None`, and nothing is appended.
-    fn append_at_now(
+    // Appends the text. The shard must be whole for what the pass has seen, and the spine must have seen that list. If the key
+    // type has no key for the position, the cell is given back. It returns `None`, and appends nothing, if the length is not the
+    // spine's, or if the cell is not made or is filled.
+    pub(super) fn append_at_now(
         &self,
         tally: &mut Tally<K, S>,
         shard: &mut Shard<K, S>,
@@ -211,6 +218,7 @@ impl<K: Key, S: BuildHasher + Drop> Shards<K, S> {
         ensures busy { IsNone result → pass.new ≡ pass.old }
         ensures held { IsLocked (hash_by S.BuildHasher S.Hasher.Hasher self.now.hasher) (shard_of hash) self.now.log shard.new }
         ensures tally { IsTally (hash_by S.BuildHasher S.Hasher.Hasher self.now.hasher) self.now.log tally.new.spine tally.new.counts }
+        ensures kept { tally.new.spine.kept ≡ tally.old.spine.kept - 1 }
     {
         pass.prove_legal();
         let Some(key) = K::try_from_usize(tally.spine.len() as usize) else {

@@ -26,8 +26,9 @@ use crate::shards::tag::number_of;
 use lasso_log::log::{CellsAhead, KeptCell, Pass};
 use lasso_log::shared_memory::piece::Piece;
 use lasso_parts::keys::Key;
-use lasso_parts::util::{LassoError, LassoErrorKind, LassoResult};
+use lasso_parts::util::LassoResult;
 use std::hash::BuildHasher;
+use std::hint::spin_loop;
 use std::sync::Wait;
 
 impl<K: Key, S: BuildHasher + Drop> Shards<K, S> {
@@ -69,8 +70,7 @@ impl<K: Key, S: BuildHasher + Drop> Shards<K, S> {
         ensures ahead { IfOk result (λ a. (a.of ≡ self.now.log) × (a.notes ≡ pass.new.notes)) }
         ensures refused { IfErr result (λ error. error ≡ FailedAllocation) }
     {
-        let seen_texts = self.log.seen_texts(pass);
-        shard.index.reserve_one(&seen_texts, &self.hasher)?;
+        self.grow_index(shard, pass, number)?;
         self.cells_ahead(rt, pass)
     }
 
@@ -104,8 +104,8 @@ impl<K: Key, S: BuildHasher + Drop> Shards<K, S> {
         }
     }
 
-    // Appends the text. The shard must be whole for what the pass has seen, and the spine must have seen that list. If the key
-    // type has no key for the position, the cell is given back.
+    // Appends the text as `append_at_now` does. If that appends nothing, which can't be while the spine is held, it waits for
+    // ever.
     fn append_at<R: Wait>(
         &self,
         rt: &R,
@@ -131,19 +131,13 @@ impl<K: Key, S: BuildHasher + Drop> Shards<K, S> {
         ensures tally { IsTally (hash_by S.BuildHasher S.Hasher.Hasher self.now.hasher) self.now.log tally.new.spine tally.new.counts }
         ensures kept { tally.new.spine.kept ≡ tally.old.spine.kept - 1 }
     {
-        pass.prove_legal();
-        let Some(key) = K::try_from_usize(tally.spine.len() as usize) else {
-            tally.spine.give_back(cell);
-            return Err(LassoError::new(LassoErrorKind::KeySpaceExhaustion));
-        };
-        self.log.append(rt, &mut tally.spine, pass, cell, text);
-        // The length of the longer list fits in 64 bits, so the shard's count, which is not above it, can't overflow.
-        let _len = tally.spine.len();
-        shard.index.insert_reserved(hash, key);
-        shard.known = pass.snapshot();
-        shard.count += 1;
-        tally.counts[number_of(hash)] = shard.count;
-        Ok(key)
+        if let Some(reply) = self.append_at_now(tally, shard, pass, cell, hash, text) {
+            return reply;
+        }
+        for _ in rt.forever() {
+            spin_loop();
+        }
+        unreachable!()
     }
 
     // Appends the text, once the shard is whole for what the pass has then seen. The caller has made cells

@@ -1,4 +1,4 @@
-use Rattle.std.proofs.Common.{◌≡◌, ◌⊎◌, List, Result, Ok, Err, IfErr, inr, sym, ◌∙◌, subst, arith, rules}
+use Rattle.std.proofs.Common.{List, Result, Ok, Err, IfErr, inr, sym, ◌∙◌, subst, arith, rules}
 use Rattle.std.proofs.lemmas.Result.{err_from_is_err_and}
 use Rattle.lasso_parts.specs.Texts.{Text}
 use Rattle.lasso_log.specs.Replies.{Copied, Intern, Interned}

@@ -1,4 +1,4 @@
-use Rattle.std.proofs.Common.{List, Ok, Err, refl, sym, subst, arith}
+use Rattle.std.proofs.Common.{List, refl, sym, subst, arith}
 use Rattle.std.proofs.lemmas.Result.{err_from_is_err_and}
 use Rattle.lasso_parts.specs.Texts.{Text}
 use Rattle.lasso_single.proofs.KeyLists.{texts_more, texts_split}
