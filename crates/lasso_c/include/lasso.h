@@ -508,8 +508,9 @@ void lasso_free(struct lasso *lasso);
 /*
  * A handle of an interner that threads share, or none. Begin with LASSO_SHARED_NONE, which is all zero.
  *
- * One growing list of distinct texts explains every reply of a handle: it is the same list for all handles of the
- * interner, and a code is a position in it. So a text has one code in all threads, and keeps it.
+ * One growing list of distinct texts, with its buckets and limit, explains every reply of a handle: it is the same
+ * list for all handles of the interner, and a code is a position in it. So a text has one code in all threads, and
+ * keeps it.
  *
  * Each thread has a handle of its own, which lasso_shared_join makes from any handle of the interner. Join in the
  * thread that owns that handle, before the other thread starts. One call at a time uses a handle, even to read;
@@ -593,8 +594,8 @@ uint32_t lasso_shared_join(struct lasso_shared *shared, struct lasso_shared *oth
  *
  * Returns LASSO_NOT_UTF8; LASSO_NO_INTERNER; LASSO_BUSY; for an absent text LASSO_NO_MEMORY, LASSO_LIMIT_REACHED if no
  * bucket has room for it and it has more bytes than the limit leaves, or LASSO_NO_CODE_LEFT; else LASSO_DONE. With
- * LASSO_NO_CODE_LEFT the text's bytes in a bucket stay taken. With LASSO_BUSY they don't, as far as tests tell: what is
- * proved leaves it open.
+ * LASSO_NO_CODE_LEFT the text's bytes (or a new bucket) stay taken. With LASSO_BUSY they don't, as far as tests tell:
+ * what is proved leaves it open.
  */
 uint32_t lasso_shared_intern(struct lasso_shared *shared, const uint8_t *text, size_t text_length, uint32_t *code);
 

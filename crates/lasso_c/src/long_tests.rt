@@ -4,6 +4,10 @@ use crate::interner::{
     lasso_get, lasso_intern, lasso_intern_batch, lasso_intern_batch_nulls, lasso_len,
 };
 use crate::large::{lasso_intern_batch_large, lasso_intern_batch_nulls_large};
+use crate::shared::batches::lasso_shared_intern_batch;
+use crate::shared::handle::LassoShared;
+use crate::shared::making::lasso_shared_new;
+use crate::shared::{lasso_shared_get, lasso_shared_intern, lasso_shared_len};
 use crate::tests::checks::{Seen, UNSET, is_as_told, told};
 use crate::tests::steps::{Step, clones, walk_on};
 use crate::{lasso_encode, lasso_encode_nulls};
@@ -278,6 +282,65 @@ fn many_texts_are_interned_one_by_one(rt: HostRuntime) -> Result<(), Fail> {
         let text = vec![in rt.alloc(); b'a'; *length]?;
         let code = number(lasso_len(&mut lasso))?;
         is_as_told(&rt, interns_one(&mut lasso, &text, code), *length)?;
+    }
+    Ok(())
+}
+
+// Makes a handle of a new shared interner.
+fn makes_shared(alloc: Global) -> Result<LassoShared, Fail> {
+    let mut shared = LassoShared::none(alloc);
+    match lasso_shared_new(alloc, &mut shared) {
+        0 => Ok(shared),
+        _ => Err(Fail::from("no shared interner was made")),
+    }
+}
+
+// Interns the text, which is new, by the handle, and looks it up.
+fn shares_one(shared: &mut LassoShared, text: &[u8], code: u32) -> Seen {
+    let (mut interned, mut found) = (77, 77);
+    let status = lasso_shared_intern(shared, text, &mut interned);
+    let looked_up = lasso_shared_get(shared, text, &mut found);
+    let is_found = (looked_up, found) == (0, code);
+    (status, (status, interned) == (0, code) && is_found)
+}
+
+#[test]
+fn many_texts_are_shared_one_by_one(rt: HostRuntime) -> Result<(), Fail> {
+    let mut shared = makes_shared(rt.alloc())?;
+    for code in 0..30_000u32 {
+        let text = format!(in rt.alloc(); "{code}")?;
+        is_as_told(&rt, shares_one(&mut shared, text.as_bytes(), code), 1)?;
+    }
+    for length in &LENGTHS {
+        let text = vec![in rt.alloc(); b'a'; *length]?;
+        let code = number(lasso_shared_len(&mut shared))?;
+        is_as_told(&rt, shares_one(&mut shared, &text, code), *length)?;
+    }
+    Ok(())
+}
+
+// Interns the column by one call, into a new shared interner.
+fn shares<R: Abort + AllocGlobal>(rt: &R, column: &Column) -> Result<(), Fail> {
+    let mut shared = makes_shared(rt.alloc())?;
+    let mut codes = vec![in rt.alloc(); 9u32; column.plain.len()]?;
+    let mut report = UNSET;
+    let status = lasso_shared_intern_batch(
+        &mut shared,
+        &column.bytes,
+        &column.offsets,
+        &mut codes,
+        &mut report,
+    );
+    let is_told = told(status, &report) == (0, (column.plain.len(), 0, 0));
+    is_as_told(rt, (status, is_told && codes == column.plain), 1)
+}
+
+#[test]
+fn batches_of_many_and_long_texts_are_shared(rt: HostRuntime) -> Result<(), Fail> {
+    shares(&rt, &numbers_below(rt.alloc(), "", 30_000)?)?;
+    shares(&rt, &long_texts(rt.alloc())?)?;
+    for letters in &LETTERS {
+        shares(&rt, &numbers_below(rt.alloc(), letters, 300)?)?;
     }
     Ok(())
 }

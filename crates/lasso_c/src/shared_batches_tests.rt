@@ -11,7 +11,7 @@ use std::alloc::Global;
 use std::process::Abort;
 use std::test::Fail;
 
-// A text of more bytes than a bucket of 64 KiB would have left after others, and than an entry of a list.
+// A text of more bytes than an entry of a list.
 const LONG: &[u8] = b"a text of more bytes than an entry";
 
 // A call on a handle of a shared interner, with what it has to give.

@@ -148,6 +148,23 @@ fn a_limit_is_of_all_handles(rt: HostRuntime) -> Result<(), Fail> {
     walk(&rt, true, &FALLING)
 }
 
+// The first bucket has 4096 bytes, of which a leaves 96, and the second one twice as many, of which b leaves 8092. Both have room
+// for c. It goes into the newer one, so d fits in neither and takes a third one, of 16384 bytes.
+static NEWEST: [Step; 7] = [
+    Step::Interns(0, (b'a', 4000), (0, 0)),
+    Step::Takes(0, (0, 4096)),
+    Step::Interns(0, (b'b', 100), (0, 1)),
+    Step::Takes(0, (0, 12288)),
+    Step::Interns(0, (b'c', 50), (0, 2)),
+    Step::Interns(0, (b'd', 8092), (0, 3)),
+    Step::Takes(0, (0, 28672)),
+];
+
+#[test]
+fn a_text_goes_into_the_newest_bucket_with_room(rt: HostRuntime) -> Result<(), Fail> {
+    walk(&rt, true, &NEWEST)
+}
+
 static NO_INTERNER: [Step; 4] = [
     Step::Limits(0, 10, 12),
     Step::IsLimited(0, (12, 77)),

@@ -47,15 +47,18 @@ fn a_text_of_each_length_is_found(rt: HostRuntime) -> Result<(), Fail> {
 
 #[test]
 fn a_text_of_each_length_is_found_by_a_pass(rt: HostRuntime) -> Result<(), Fail> {
-    static STEPS: [Step; 6] = [
+    static STEPS: [Step; 9] = [
         New(Way::CopiedByPass, "a-"),
         Finds("a.", None),
         ByNew(Call::Finds("a.", None)),
         New(Way::StaticByPass, "b-"),
         Finds("b.", None),
         ByNew(Call::Finds("b.", None)),
+        New(Way::Now, "c-"),
+        Finds("c.", None),
+        ByNew(Call::Finds("c.", None)),
     ];
-    static LAST: [Step; 1] = [Counts(82)];
+    static LAST: [Step; 1] = [Counts(123)];
     runs_in_one(&rt, Maker::Default, &STEPS, &LENGTHS, &LAST)
 }
 

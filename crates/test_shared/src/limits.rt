@@ -10,7 +10,7 @@ use lasso_parts::util::{LassoErrorKind, MemoryLimits};
 use std::alloc::{AllocError, Global};
 use std::sync::Wait;
 use std::test::*;
-use std::thread::{Threads, join};
+use std::thread::{Threads, join, yield_now};
 use test_steps::calls::{
     Caller, DefaultCaller, Shared, len, limit, limited, made, set_limit, usage,
 };
@@ -283,24 +283,42 @@ fn refused_of<R: Wait>(rt: &R, shared: &Shared, texts: &[String]) -> Option<usiz
     Some(refused)
 }
 
-// Sets the limit with the pass, or without one.
-fn raise<R: Wait>(rt: &R, caller: &mut DefaultCaller<'_>, bytes: usize, plainly: bool) {
-    if plainly {
-        set_limit(rt, caller.shared, bytes);
-    } else {
-        caller.set_limits(rt, MemoryLimits::new(bytes));
+// How a limit is set: without a pass, with one, or with one and without waiting.
+#[derive(Clone, Copy)]
+enum Setting {
+    Plain,
+    ByPass,
+    Now,
+}
+
+// Sets the limit by the call.
+fn raise<R: Wait>(rt: &R, caller: &mut DefaultCaller<'_>, bytes: usize, setting: Setting) {
+    match setting {
+        Setting::Plain => set_limit(rt, caller.shared, bytes),
+        Setting::ByPass => caller.set_limits(rt, MemoryLimits::new(bytes)),
+        Setting::Now => raise_now(rt, caller, bytes),
+    }
+}
+
+// Sets the limit without waiting, again until nobody is in the way.
+fn raise_now<R: Wait>(rt: &R, caller: &mut DefaultCaller<'_>, bytes: usize) {
+    for _ in rt.forever() {
+        if caller.set_limits_now(MemoryLimits::new(bytes)) {
+            break;
+        }
+        yield_now();
     }
 }
 
 // Raises the limit byte by byte until all texts are seen, but not for ever. Returns how many times.
-fn raised<R: Wait>(rt: &R, shared: &Shared, plainly: bool) -> usize {
+fn raised<R: Wait>(rt: &R, shared: &Shared, setting: Setting) -> usize {
     let mut caller = Caller::new(shared);
     for raised in 0..TURNS {
         if caller.seen() >= EACH as usize {
             return raised;
         }
         let bytes = NEEDED.saturating_add(raised);
-        raise(rt, &mut caller, bytes, plainly);
+        raise(rt, &mut caller, bytes, setting);
     }
     TURNS
 }
@@ -311,12 +329,12 @@ fn rises_beside<R: Threads + Wait + Sync>(
     rt: &R,
     shared: &Shared,
     texts: &[String],
-    plainly: bool,
+    setting: Setting,
 ) -> bool {
     let (refused, raised) = join(
         rt,
         || refused_of(rt, shared, texts),
-        || raised(rt, shared, plainly),
+        || raised(rt, shared, setting),
     );
     let last = NEEDED.saturating_add(raised.saturating_sub(1));
     refused == Some(0) && limit(rt, shared) == last
@@ -326,10 +344,10 @@ fn rises_beside<R: Threads + Wait + Sync>(
 fn refuses_nothing<R: AllocGlobal + Threads + Wait + Sync>(
     rt: &R,
     texts: &[String],
-    plainly: bool,
+    setting: Setting,
 ) -> Result<bool, Fail> {
     let shared: Shared = limited(rt.alloc(), 1, NEEDED)?;
-    let none = rises_beside(rt, &shared, texts, plainly);
+    let none = rises_beside(rt, &shared, texts, setting);
     Ok(none && len(&shared) == EACH as usize && usage(rt, &shared) == NEEDED)
 }
 
@@ -337,8 +355,21 @@ fn refuses_nothing<R: AllocGlobal + Threads + Wait + Sync>(
 fn a_limit_that_rises_refuses_nothing(rt: HostRuntime) -> Result<(), Fail> {
     let texts = eights(rt.alloc())?;
     for _ in 0..10u32 {
-        is_so(&rt, refuses_nothing(&rt, &texts, false)?, "with a pass");
-        is_so(&rt, refuses_nothing(&rt, &texts, true)?, "without a pass");
+        is_so(
+            &rt,
+            refuses_nothing(&rt, &texts, Setting::Plain)?,
+            "without a pass",
+        );
+        is_so(
+            &rt,
+            refuses_nothing(&rt, &texts, Setting::ByPass)?,
+            "with a pass",
+        );
+        is_so(
+            &rt,
+            refuses_nothing(&rt, &texts, Setting::Now)?,
+            "without waiting",
+        );
     }
     Ok(())
 }

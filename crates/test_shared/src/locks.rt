@@ -175,6 +175,83 @@ fn a_thread_reads_while_another_changes(rt: HostRuntime) {
     );
 }
 
+// Calls that do not wait, beside a holder.
+
+// The number in the lock.
+fn count_now(lock: &TaggedMutex<Count>) -> Option<u64>
+    requires { lock.now ≡ 5000 }
+{
+    let (guard, count) = lock.lock_now()?;
+    let number = count.number;
+    guard.put_back(count);
+    Some(number)
+}
+
+// The first number in the lock.
+fn read_now(lock: &TaggedRwLock<Pair>) -> Option<u64> {
+    let reading = lock.read_now()?;
+    let number = reading.get().first;
+    reading.unlock();
+    Some(number)
+}
+
+// Puts 3 and 12 into the lock. Returns the first number that was there before.
+fn change_now(lock: &TaggedRwLock<Pair>) -> Option<u64>
+    requires { lock.now ≡ 9 }
+{
+    let (guard, mut pair) = lock.write_now()?;
+    let number = pair.first;
+    pair.first = 3;
+    pair.second = 12;
+    guard.put_back(pair);
+    Some(number)
+}
+
+#[test]
+fn a_taken_value_is_not_there_now(rt: HostRuntime) {
+    let lock = TaggedMutex::new(Count { number: 7 }, &5000);
+    assert!(rt; count_now(&lock) == Some(7));
+    let (guard, count) = lock.lock(&rt);
+    assert!(rt; count_now(&lock) == None);
+    guard.put_back(count);
+    assert!(rt; count_now(&lock) == Some(7));
+}
+
+#[test]
+fn a_refused_writer_keeps_no_reader_out(rt: HostRuntime) {
+    let lock = TaggedRwLock::new(
+        Pair {
+            first: 1,
+            second: 10,
+        },
+        &9,
+    );
+    let reading = lock.read(&rt);
+    assert!(rt; change_now(&lock) == None);
+    assert!(rt; read_now(&lock) == Some(1));
+    reading.unlock();
+    assert!(rt; read_now(&lock) == Some(1));
+    assert!(rt; change_now(&lock) == Some(1));
+    assert!(rt; read_now(&lock) == Some(3));
+}
+
+#[test]
+fn a_writer_keeps_calls_out_that_do_not_wait(rt: HostRuntime) {
+    let lock = TaggedRwLock::new(
+        Pair {
+            first: 1,
+            second: 10,
+        },
+        &9,
+    );
+    let (guard, pair) = lock.write(&rt);
+    assert!(rt; read_now(&lock) == None);
+    assert!(rt; change_now(&lock) == None);
+    guard.put_back(pair);
+    assert!(rt; read_now(&lock) == Some(1));
+    assert!(rt; change_now(&lock) == Some(1));
+}
+
 // Claims beside one another, and claims by two threads.
 
 fn read(latch: &Latch<Count>) -> Option<u64> {

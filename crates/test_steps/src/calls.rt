@@ -270,6 +270,19 @@ impl<'a, K: Key, S: BuildHasher + Drop> Caller<'a, K, S> {
         self.shared.try_get_or_intern_as(rt, &mut self.pass, text)
     }
 
+    /// Interns a copied text without waiting. `None` if others are in the way.
+    pub fn copied_now(&mut self, text: &str) -> Option<LassoResult<K>> {
+        self.shared.intern_now_as(&mut self.pass, text)
+    }
+
+    /// The number of the text, if it is present, without waiting. `None` if others are in the way.
+    pub fn found_now(&mut self, text: &str) -> Option<Option<usize>> {
+        match self.shared.get_now_as(&mut self.pass, text)? {
+            Some(key) => Some(Some(key.into_usize())),
+            None => Some(None),
+        }
+    }
+
     /// The number of the text, if it is present.
     pub fn found<R: Wait>(&mut self, rt: &R, text: &str) -> Option<usize> {
         match self.shared.get_as(rt, &mut self.pass, text) {
@@ -309,6 +322,12 @@ impl<'a, K: Key, S: BuildHasher + Drop> Caller<'a, K, S> {
         self.shared.try_resolve_as(&mut self.pass, key) == text
     }
 
+    /// The text with this number in the list that the pass then sees, if it has one.
+    pub fn listed(&mut self, number: usize) -> Option<&str> {
+        let list = self.shared.seen_list_as(&mut self.pass);
+        self.shared.text_at(&list, number)
+    }
+
     /// The limit and the usage.
     pub fn sums<R: Wait>(&mut self, rt: &R) -> (usize, usize) {
         let limit = self.shared.max_memory_usage_as(rt, &mut self.pass);
@@ -316,6 +335,18 @@ impl<'a, K: Key, S: BuildHasher + Drop> Caller<'a, K, S> {
             limit,
             self.shared.current_memory_usage_as(rt, &mut self.pass),
         )
+    }
+
+    /// The limit and the usage, without waiting. `None` if others are in the way.
+    pub fn sums_now(&mut self) -> Option<(usize, usize)> {
+        let limit = self.shared.max_memory_usage_now_as(&mut self.pass)?;
+        let usage = self.shared.current_memory_usage_now_as(&mut self.pass)?;
+        Some((limit, usage))
+    }
+
+    /// Sets the limit without waiting, unless others are in the way. Returns whether it did.
+    pub fn set_limits_now(&mut self, limits: MemoryLimits) -> bool {
+        self.shared.set_memory_limits_now_as(&mut self.pass, limits)
     }
 
     /// Sets the limit.

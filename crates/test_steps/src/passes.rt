@@ -1,7 +1,7 @@
 //! Rows that passes make, also of calls that take a list of texts.
 use crate::calls::{Caller, Shared};
 use crate::cases::{Case, step_of};
-use crate::steps::{Call, Reply, Step, holds, is_reply};
+use crate::steps::{Call, Reply, Step, found_now, holds, is_reply};
 use crate::texts::{KeyNumbers, count_of, items_of, may_have};
 use lasso_parts::keys::Key;
 use lasso_parts::util::{LassoErrorKind, LassoResult, MemoryLimits};
@@ -9,7 +9,7 @@ use lasso_shared::threaded::ThreadedRodeo;
 use std::alloc::Global;
 use std::hash::BuildHasher;
 use std::sync::Wait;
-use std::thread::{Threads, join};
+use std::thread::{Threads, join, yield_now};
 
 // The number of the key, or the refusal.
 fn number_of<K: Key>(reply: LassoResult<K>) -> LassoResult<usize> {
@@ -35,7 +35,7 @@ fn interns_by<K: Key, S: BuildHasher + Drop, R: Wait>(
     is_reply(number_of(reply), wanted)
 }
 
-// Whether the key with this number stands for the text, or for none, by each call with the pass.
+// Whether the key with this number stands for the text, or for none, by each call with the pass, and so in its list.
 fn reads_by<K: Key, S: BuildHasher + Drop>(
     caller: &mut Caller<'_, K, S>,
     number: usize,
@@ -44,7 +44,7 @@ fn reads_by<K: Key, S: BuildHasher + Drop>(
     match K::try_from_usize(number) {
         Some(key) => {
             let is_key = caller.has(key) == text.is_some();
-            Ok(caller.resolves(key, text) && is_key)
+            Ok(caller.resolves(key, text) && is_key && caller.listed(number) == text)
         }
         None => Ok(text.is_none()),
     }
@@ -123,6 +123,20 @@ fn holds_more_by<K: Key, S: BuildHasher + Drop, R: AllocGlobal + Wait>(
     }
 }
 
+// The limit and the usage, read without waiting, again until nobody is in the way.
+fn sums_now<K: Key, S: BuildHasher + Drop, R: Wait>(
+    rt: &R,
+    caller: &mut Caller<'_, K, S>,
+) -> (usize, usize) {
+    for _ in rt.forever() {
+        if let Some(sums) = caller.sums_now() {
+            return sums;
+        }
+        yield_now();
+    }
+    unreachable!()
+}
+
 // Makes the call by the pass. Returns whether it returned what it has to.
 fn holds_by<K: Key, S: BuildHasher + Drop, R: AllocGlobal + Wait>(
     rt: &R,
@@ -132,10 +146,16 @@ fn holds_by<K: Key, S: BuildHasher + Drop, R: AllocGlobal + Wait>(
     match call {
         Call::Copies(text, wanted) => interns_by(rt, caller, true, text, wanted),
         Call::Keeps(text, wanted) => interns_by(rt, caller, false, text, wanted),
-        Call::Finds(text, number) => Ok(caller.found(rt, text) == number),
+        Call::Finds(text, number) => {
+            let found = caller.found(rt, text);
+            Ok(found == number && found_now(rt, caller, text) == number)
+        }
         Call::Reads(number, text) => reads_by(caller, number, text),
         Call::Counts(count) => Ok(caller.seen() == count),
-        Call::Sums(limit, usage) => Ok(caller.sums(rt) == (limit, usage)),
+        Call::Sums(limit, usage) => {
+            let sums = caller.sums(rt);
+            Ok(sums == (limit, usage) && sums_now(rt, caller) == sums)
+        }
         Call::Uses(usage) => Ok(caller.sums(rt).1 == usage),
         _ => holds_more_by(rt, caller, call),
     }

@@ -10,6 +10,7 @@ use lasso_parts::util::{LassoErrorKind, LassoResult};
 use lasso_shared::threaded::ThreadedRodeo;
 use std::hash::BuildHasher;
 use std::sync::Wait;
+use std::thread::yield_now;
 
 /// A number, or why a call is refused.
 pub type Reply = Result<usize, LassoErrorKind>;
@@ -30,23 +31,32 @@ pub enum Way {
     Item,
     CopiedByPass,
     StaticByPass,
+    /// By a new pass without waiting, again until nobody is in the way.
+    Now,
     /// The call of the case.
     Given,
 }
 
 /// Each call that interns a text.
-pub static WAYS: [Way; 7] = [
+pub static WAYS: [Way; 8] = [
     Way::TryCopied,
     Way::Copied,
     Way::Item,
     Way::CopiedByPass,
+    Way::Now,
     Way::TryStatic,
     Way::Static,
     Way::StaticByPass,
 ];
 
 /// Those that copy it.
-pub static COPYING: [Way; 4] = [Way::TryCopied, Way::Copied, Way::Item, Way::CopiedByPass];
+pub static COPYING: [Way; 5] = [
+    Way::TryCopied,
+    Way::Copied,
+    Way::Item,
+    Way::CopiedByPass,
+    Way::Now,
+];
 
 /// Those that keep it.
 pub static KEEPING: [Way; 3] = [Way::TryStatic, Way::Static, Way::StaticByPass];
@@ -67,6 +77,7 @@ pub fn interned<K: Key, S: BuildHasher + Drop, R: Wait>(
         Way::Item => item_number(rt, shared, text),
         Way::CopiedByPass => copied_by_pass(rt, shared, text),
         Way::StaticByPass => kept_by_pass(rt, shared, text),
+        Way::Now => copied_now(rt, shared, text),
     }
 }
 
@@ -98,6 +109,37 @@ fn kept_by_pass<K: Key, S: BuildHasher + Drop, R: Wait>(
     Ok(Caller::new(shared).kept(rt, text)?.into_usize())
 }
 
+// Interns a copied text by a new pass without waiting, again until nobody is in the way. Returns its number.
+fn copied_now<K: Key, S: BuildHasher + Drop, R: Wait>(
+    rt: &R,
+    shared: &ThreadedRodeo<K, S>,
+    text: &str,
+) -> LassoResult<usize> {
+    let mut caller = Caller::new(shared);
+    for _ in rt.forever() {
+        if let Some(reply) = caller.copied_now(text) {
+            return Ok(reply?.into_usize());
+        }
+        yield_now();
+    }
+    unreachable!()
+}
+
+// The number of the text, if it is present, looked up without waiting, again until nobody is in the way.
+pub(crate) fn found_now<K: Key, S: BuildHasher + Drop, R: Wait>(
+    rt: &R,
+    caller: &mut Caller<'_, K, S>,
+    text: &str,
+) -> Option<usize> {
+    for _ in rt.forever() {
+        if let Some(found) = caller.found_now(text) {
+            return found;
+        }
+        yield_now();
+    }
+    unreachable!()
+}
+
 /// A call by a pass, and what it has to return.
 #[derive(Clone, Copy)]
 pub enum Call {
@@ -105,13 +147,13 @@ pub enum Call {
     Copies(&'static str, Reply),
     /// Interns a static text, and returns its number, or why it is refused.
     Keeps(&'static str, Reply),
-    /// Looks the text up. It has this number, or is absent.
+    /// Looks the text up, with and without waiting. It has this number, or is absent.
     Finds(&'static str, Option<usize>),
     /// Reads the text of the key with this number, if it has one.
     Reads(usize, Option<&'static str>),
     /// Counts the texts.
     Counts(usize),
-    /// Reads the limit and how many bytes all buckets take.
+    /// Reads the limit and how many bytes all buckets take, with and without waiting.
     Sums(usize, usize),
     /// Reads the same, of which only the bytes are known.
     Uses(usize),
@@ -141,7 +183,7 @@ pub enum Step {
     Interns(Way, &'static str, Reply),
     /// Interns a copied text, again if memory runs out, and returns its number, or why it is refused.
     Takes(&'static str, Reply),
-    /// Looks the text up by `get` and by `contains`. It has this number, or is absent.
+    /// Looks the text up by `get`, `contains` and `get_now_as`. It has this number, or is absent.
     Finds(&'static str, Option<usize>),
     /// Reads the text of the key with this number, if it has one, by each call without a pass.
     Reads(usize, Option<&'static str>),
@@ -206,14 +248,16 @@ pub fn has_len<K: Key, S: BuildHasher + Drop>(shared: &ThreadedRodeo<K, S>, coun
     len(shared) == count && shared.is_empty() == (count == 0)
 }
 
-/// Whether `get` and `contains` find the text under this number, or not at all.
+/// Whether `get`, `contains` and `get_now_as` find the text under this number, or not at all.
 pub fn finds<K: Key, S: BuildHasher + Drop, R: Wait>(
     rt: &R,
     shared: &ThreadedRodeo<K, S>,
     text: &str,
     number: Option<usize>,
 ) -> bool {
-    found(rt, shared, text) == number && contains(rt, shared, text) == number.is_some()
+    found(rt, shared, text) == number
+        && contains(rt, shared, text) == number.is_some()
+        && found_now(rt, &mut Caller::new(shared), text) == number
 }
 
 // Whether the key stands for the text, or for none, by each call without a pass.

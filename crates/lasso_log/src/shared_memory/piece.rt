@@ -12,7 +12,7 @@ use crate::shared_memory::rights::{Free, Lent};
 use std::marker::{Model, Send, Sync};
 use std::str::from_utf8_unchecked;
 
-/// The one right to fill some bytes of a bucket. It must be spent, by `fill` or `let_go`. A contract sees which bytes they are.
+/// The one right to fill some bytes of a bucket. It must be spent, by `fill`. A contract sees which bytes they are.
 pub struct Range {
     pub(crate) ptr: *mut u8,
     pub(crate) len: usize,

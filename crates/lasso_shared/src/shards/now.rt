@@ -1,6 +1,6 @@
 //! Calls that do not wait, for callers that may not wait: an exported function of a static library takes no right to it.
 //!
-//! Where a waiting call waits for a lock, these look a few times, and then return `None`. The pass has made no event then, and the
+//! Where a waiting call waits for a lock, these look a few times, and then return `None`. No text was appended then, and the
 //! caller may try again. A new text's shard and the spine are locked before its bytes are taken: so nobody is in the way from then
 //! on. That is not proved: the bytes may stay taken if a word moves while the spine is locked, as the contracts say.
 ghost use Rattle.std.specs.Prelude.{◌≡◌, ◌≢◌, ◌<◌, ◌-◌, [], List, Err, IfErr, IfOk, IfSome, IsNone, OnErr, OnOk};

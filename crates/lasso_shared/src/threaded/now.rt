@@ -17,7 +17,7 @@ use std::hash::BuildHasher;
 impl<K: Key, S: BuildHasher + Drop> ThreadedRodeo<K, S> {
     /// Returns the text's key, and appends a copy of an absent text first, as `try_get_or_intern_as` does, with its errors. It
     /// returns `None` if other calls are in the way: no text was appended then. Of an absent text the bytes may stay taken; that
-    /// this never happens is tested. It does not wait.
+    /// this never happens is tested beside the gate. It does not wait.
     ///
     /// ```rust
     /// let rodeo: SpurThreadedRodeo = ThreadedRodeo::default(rt.alloc())?;
