@@ -75,8 +75,14 @@ def test_results_and_interners_give_their_memory_back() -> None:
 def test_a_call_that_the_collector_lets_in_is_waited_for() -> None:
     interner, codes, begun, count = Interner(), array("I", bytes(4 * 1001)), threading.Event(), 1_000_000
     offsets, data = array("i", range(0, 7 * count + 7, 7)), b"".join(b"%07d" % row for row in range(count))
-    many = producers.Column("u", [None, offsets.tobytes(), data], count)
-    thread = threading.Thread(target=lambda: (begun.wait(), interner.encode(many)))
+    many, given = producers.Column("u", [None, offsets.tobytes(), data], count), threading.Event()
+
+    def encode() -> None:
+        begun.wait()
+        given.set()
+        interner.encode(many)
+
+    thread = threading.Thread(target=encode)
 
     def collected(phase: str, told: dict[str, int]) -> None:
         try:
@@ -84,21 +90,28 @@ def test_a_call_that_the_collector_lets_in_is_waited_for() -> None:
         except BufferError:  # The call has the codes. It makes the exception of its last text if the others are not interned yet.
             if not begun.is_set() and len(interner) == 0:
                 begun.set()
+                given.wait()
                 time.sleep(0.05)
 
-    before = gc.get_threshold()
+    before, rows, kept = gc.get_threshold(), [*map(str, range(1000)), "\ud800"], [set[int]()]
     thread.start()
     gc.callbacks.append(collected)
-    gc.set_threshold(1)
+    gc.set_threshold(50)
     try:
-        for held in range(4):
+        # Of some number of objects before the call it is the call's own that the collector comes at.
+        for held in range(60):
             interner.clear()
-            garbage: list[Any] = [[] for _ in range(held)]
             with pytest.raises(NotUtf8, match="at text 1000"):
-                interner._rows([*map(str, range(1000)), "\ud800"], 0, 1001, 0, (), codes, True)
-            garbage.clear()
+                gc.disable()
+                kept.clear()
+                gc.collect(0)
+                kept += [set() for _ in range(held)]
+                gc.enable()
+                interner._rows(rows, 0, 1001, 0, (), codes, True)
             if begun.is_set():
                 break
+        # Python 3.12 has it wait for the end of a call.
+        assert begun.is_set() or sys.version_info >= (3, 12)
     finally:
         gc.set_threshold(*before)
         gc.callbacks.remove(collected)
@@ -106,6 +119,8 @@ def test_a_call_that_the_collector_lets_in_is_waited_for() -> None:
         thread.join()
     texts = interner.texts()
     assert len(set(texts)) == len(texts) == count + 1000
+    # The call's texts come before those of the other one, or after them, and not among them.
+    assert list(codes[:1000]) in (list(range(1000)), list(range(count, count + 1000)))
 
 
 def test_codes_are_pickled_and_copied_as_numbers() -> None:

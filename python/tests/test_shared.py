@@ -152,15 +152,15 @@ def test_long_columns_are_encoded_at_once(shared: SharedInterner) -> None:
         assert [texts[code] for code in codes] == texts_of_rows
 
 
-@pytest.mark.parametrize("kind", [list, Columns])
-def test_others_run_while_a_column_is_encoded(shared: SharedInterner, kind: Any) -> None:
-    column = kind([f"text {row}" for row in range(50000)])
-    began, seen, ended = threading.Event(), [], []
+def ran_meanwhile(column: Any) -> bool:
+    """Whether this thread ran while another one encoded the column, which let it once at least."""
+    began, ended = threading.Event(), threading.Event()
 
     def encode() -> None:
-        began.set()
-        shared.encode(column)
-        ended.append(True)
+        with SharedInterner() as shared:
+            began.set()
+            shared.encode(column)
+            ended.set()
 
     interval = sys.getswitchinterval()
     thread = threading.Thread(target=encode)
@@ -169,11 +169,17 @@ def test_others_run_while_a_column_is_encoded(shared: SharedInterner, kind: Any)
         sys.setswitchinterval(1000)
         thread.start()
         began.wait()
-        seen.append(bool(ended))
+        return not ended.is_set()
     finally:
         sys.setswitchinterval(interval)
         thread.join()
-    assert seen == [False]
+
+
+@pytest.mark.parametrize("kind", [list, Columns])
+def test_others_run_while_a_column_is_encoded(kind: Any) -> None:
+    column = kind([f"text {row}" for row in range(50000)])
+    # On a busy machine a thread that may run does not always come to it in time.
+    assert any(ran_meanwhile(column) for _ in range(100))
 
 
 def test_numbers_texts_from_call_to_call(shared: SharedInterner) -> None:
@@ -304,7 +310,9 @@ def test_is_closed_while_others_go_on() -> None:
 
         def close() -> None:
             ready.wait()
-            while not shared.closed and len(shared) < 10000:
+            # Threads that all failed leave it as short as it is.
+            last = time.monotonic() + 60
+            while len(shared) < 10000 and time.monotonic() < last:
                 pass
             shared.close()
 
@@ -364,9 +372,16 @@ def test_each_interner_has_its_own_codes() -> None:
 @pytest.mark.parametrize("kind", [Interner, SharedInterner])
 def test_a_forked_child_waits_for_no_call_of_its_parent(kind: type[Interner] | type[SharedInterner]) -> None:
     column, closed = Columns([f"text {row}" for row in range(200000)]), 0
-    for _ in range(20):
+    for _ in range(100):
         with kind() as interner:
-            thread = threading.Thread(target=interner.encode, args=(column,))
+            over = threading.Event()
+
+            def encode() -> None:
+                # However fast or busy the machine is, this thread is in a call nearly always.
+                while not over.is_set():
+                    interner.encode(column)
+
+            thread = threading.Thread(target=encode)
             thread.start()
             time.sleep(0.005)
             child = os.fork()
@@ -380,6 +395,7 @@ def test_a_forked_child_waits_for_no_call_of_its_parent(kind: type[Interner] | t
                     os._exit(1 if interner.closed and len(interner) == 0 else 2)
                 finally:
                     os._exit(3)
+            over.set()
             thread.join()
             assert len(interner) == 200000
             ended = os.waitstatus_to_exitcode(os.waitpid(child, 0)[1])
