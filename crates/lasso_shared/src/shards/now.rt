@@ -117,12 +117,7 @@ impl<K: Key, S: BuildHasher + Drop> Shards<K, S> {
     }
 
     // Makes room for one text in the shard's index. Out of memory, the shard keeps its texts.
-    pub(super) fn grow_index(
-        &self,
-        shard: &mut Shard<K, S>,
-        pass: &Pass<K>,
-        number: usize,
-    ) -> LassoResult<()>
+    pub(super) fn grow_index(&self, shard: &mut Shard<K, S>, pass: &Pass<K>, number: usize) -> LassoResult<()>
         requires of { pass.now.of ≡ self.now.log }
         requires held { IsLocked (hash_by S.BuildHasher S.Hasher.Hasher self.now.hasher) number self.now.log shard.old }
         requires begins { IsPrefix shard.old.known.notes pass.now.notes }
