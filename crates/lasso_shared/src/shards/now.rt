@@ -187,9 +187,7 @@ impl<K: Key, S: BuildHasher + Drop> Shards<K, S> {
         Some(Ok(range.fill(self.log.era(), text)))
     }
 
-    // Appends the text. The shard must be whole for what the pass has seen, and the spine must have seen that list. If the key
-    // type has no key for the position, the cell is given back. It returns `None`, and appends nothing, if the length is not the
-    // spine's, or if the cell is not made or is filled.
+    // Appends the text as `append_at` does. Where that would wait, it returns `None`, and nothing is appended.
     pub(super) fn append_at_now(
         &self,
         tally: &mut Tally<K, S>,

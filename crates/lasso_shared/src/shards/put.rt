@@ -104,8 +104,8 @@ impl<K: Key, S: BuildHasher + Drop> Shards<K, S> {
         }
     }
 
-    // Appends the text as `append_at_now` does. If that appends nothing, which can't be while the spine is held, it waits for
-    // ever.
+    // Appends the text. The shard must be whole for what the pass has seen, and the spine must have seen that list. If the key
+    // type has no key for the position, the cell is given back.
     fn append_at<R: Wait>(
         &self,
         rt: &R,
@@ -134,6 +134,7 @@ impl<K: Key, S: BuildHasher + Drop> Shards<K, S> {
         if let Some(reply) = self.append_at_now(tally, shard, pass, cell, hash, text) {
             return reply;
         }
+        // The length is not the spine's, and never is again.
         for _ in rt.forever() {
             spin_loop();
         }
