@@ -117,7 +117,7 @@ impl<K: Key, S: BuildHasher + Drop> Shards<K, S> {
     }
 
     // Makes room for one text in the shard's index. Out of memory, the shard keeps its texts.
-    pub(super) fn grow_index(&self, shard: &mut Shard<K, S>, pass: &Pass<K>, number: usize) -> LassoResult<()>
+    fn grow_index(&self, shard: &mut Shard<K, S>, pass: &Pass<K>, number: usize) -> LassoResult<()>
         requires of { pass.now.of ≡ self.now.log }
         requires held { IsLocked (hash_by S.BuildHasher S.Hasher.Hasher self.now.hasher) number self.now.log shard.old }
         requires begins { IsPrefix shard.old.known.notes pass.now.notes }
@@ -188,7 +188,7 @@ impl<K: Key, S: BuildHasher + Drop> Shards<K, S> {
     }
 
     // Appends the text as `append_at` does. Where that would wait, it returns `None`, and nothing is appended.
-    pub(super) fn append_at_now(
+    fn append_at_now(
         &self,
         tally: &mut Tally<K, S>,
         shard: &mut Shard<K, S>,
@@ -211,7 +211,6 @@ impl<K: Key, S: BuildHasher + Drop> Shards<K, S> {
         ensures busy { IsNone result → pass.new ≡ pass.old }
         ensures held { IsLocked (hash_by S.BuildHasher S.Hasher.Hasher self.now.hasher) (shard_of hash) self.now.log shard.new }
         ensures tally { IsTally (hash_by S.BuildHasher S.Hasher.Hasher self.now.hasher) self.now.log tally.new.spine tally.new.counts }
-        ensures kept { tally.new.spine.kept ≡ tally.old.spine.kept - 1 }
     {
         pass.prove_legal();
         let Some(key) = K::try_from_usize(tally.spine.len() as usize) else {

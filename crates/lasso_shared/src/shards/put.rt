@@ -26,9 +26,8 @@ use crate::shards::tag::number_of;
 use lasso_log::log::{CellsAhead, KeptCell, Pass};
 use lasso_log::shared_memory::piece::Piece;
 use lasso_parts::keys::Key;
-use lasso_parts::util::LassoResult;
+use lasso_parts::util::{LassoError, LassoErrorKind, LassoResult};
 use std::hash::BuildHasher;
-use std::hint::spin_loop;
 use std::sync::Wait;
 
 impl<K: Key, S: BuildHasher + Drop> Shards<K, S> {
@@ -70,7 +69,8 @@ impl<K: Key, S: BuildHasher + Drop> Shards<K, S> {
         ensures ahead { IfOk result (λ a. (a.of ≡ self.now.log) × (a.notes ≡ pass.new.notes)) }
         ensures refused { IfErr result (λ error. error ≡ FailedAllocation) }
     {
-        self.grow_index(shard, pass, number)?;
+        let seen_texts = self.log.seen_texts(pass);
+        shard.index.reserve_one(&seen_texts, &self.hasher)?;
         self.cells_ahead(rt, pass)
     }
 
@@ -131,14 +131,19 @@ impl<K: Key, S: BuildHasher + Drop> Shards<K, S> {
         ensures tally { IsTally (hash_by S.BuildHasher S.Hasher.Hasher self.now.hasher) self.now.log tally.new.spine tally.new.counts }
         ensures kept { tally.new.spine.kept ≡ tally.old.spine.kept - 1 }
     {
-        if let Some(reply) = self.append_at_now(tally, shard, pass, cell, hash, text) {
-            return reply;
-        }
-        // The length is not the spine's, and never is again.
-        for _ in rt.forever() {
-            spin_loop();
-        }
-        unreachable!()
+        pass.prove_legal();
+        let Some(key) = K::try_from_usize(tally.spine.len() as usize) else {
+            tally.spine.give_back(cell);
+            return Err(LassoError::new(LassoErrorKind::KeySpaceExhaustion));
+        };
+        self.log.append(rt, &mut tally.spine, pass, cell, text);
+        // The length of the longer list fits in 64 bits, so the shard's count, which is not above it, can't overflow.
+        let _len = tally.spine.len();
+        shard.index.insert_reserved(hash, key);
+        shard.known = pass.snapshot();
+        shard.count += 1;
+        tally.counts[number_of(hash)] = shard.count;
+        Ok(key)
     }
 
     // Appends the text, once the shard is whole for what the pass has then seen. The caller has made cells
