@@ -66,8 +66,9 @@ static struct layout read_lines(const char *name)
         fail("the file is too long");
     rewind(file);
     struct layout lines = layout_with_room((size_t)size, (size_t)size + 2);
-    if (fread(lines.bytes, 1, (size_t)size, file) != (size_t)size)
-        fail("the file can't be read");
+    /* The files of /proc say that they have no bytes. */
+    if (fread(lines.bytes, 1, (size_t)size, file) != (size_t)size || fgetc(file) != EOF || ferror(file))
+        fail("the file can't be read, or is longer than it says");
     fclose(file);
 
     size_t count = 0, end = 0;

@@ -4,7 +4,8 @@
 The workers and this program see the folders by the same names. OUT gets, for each part, `columns/NAME`, the column of its lines alone,
 `dictionaries/NAME`, that column's distinct lines, and `codes/NAME`, the codes of its lines in OUT/dictionary: the distinct lines of all parts in
 the order of the parts' names. Dictionaries are merged FAN at a time, then those that come of it, until one is left. Each task is one run of
-`lasso_codes`: the program at `$LASSO_CODES`, or else the repository's, which the workers see by the same name too. A task that fails ends the
+`lasso_codes`: the program at `$LASSO_CODES`, or else the repository's, which the workers see by the same name too. Names are in the order that
+`LC_ALL=C` gives them; one that begins with a dot is refused, since `cat OUT/codes/*` would pass over it. A task that fails ends the
 program with what `lasso_codes` said; a task whose worker is lost is done again by another one, and ends the program if it is lost more often
 than the scheduler's `allowed-failures`.
 """
@@ -79,8 +80,17 @@ def merge_all(client, files, folder, dictionary):
     run_all(client, ["merge"], [(dictionary, files)])
 
 
+def names_of(parts):
+    """The names of the parts in their order."""
+    names = sorted((path.name for path in parts.iterdir()), key=os.fsencode)
+    hidden = [name for name in names if name.startswith(".")]
+    if hidden or not names:
+        raise RuntimeError(f"{parts}: {f'the name {hidden[0]} begins with a dot' if hidden else 'there are no parts'}")
+    return names
+
+
 def main(scheduler, parts, out):
-    names = sorted(path.name for path in parts.iterdir() if not path.name.startswith("."))
+    names = names_of(parts)
     columns, dictionaries, merged, codes = (out / name for name in ("columns", "dictionaries", "merged", "codes"))
     for folder in (columns, dictionaries, merged, codes):
         folder.mkdir(parents=True)

@@ -5,8 +5,8 @@ from __future__ import annotations
 import ctypes
 import errno
 import struct
-import threading
 from collections.abc import Callable, Iterator
+from concurrent.futures import ThreadPoolExecutor
 from typing import Any
 
 import pytest
@@ -299,14 +299,13 @@ def test_passes_on_the_errors_of_a_stream(interner: Interner) -> None:
 def test_goes_on_in_other_threads_during_long_chunks(interner: Interner) -> None:
     texts = [f"text {row % 5000}" for row in range(20000)]
     columns = [strings(texts) for _ in range(8)]
-    threads = [threading.Thread(target=interner.encode, args=(column,)) for column in columns]
-    for thread in threads:
-        thread.start()
-    while any(thread.is_alive() for thread in threads):
-        interner.intern("text 0")
-        assert interner.get("text") is None
-    for thread in threads:
-        thread.join()
+    with ThreadPoolExecutor(8) as threads:
+        running = [threads.submit(interner.encode, column) for column in columns]
+        while not all(each.done() for each in running):
+            interner.intern("text 0")
+            assert interner.get("text") is None
+    for each in running:
+        assert [interner[code] for code in each.result()] == texts
     assert (len(interner), all(map(given_back, columns))) == (5000, True)
 
 
