@@ -11,6 +11,8 @@ PROGRAM = crates/lasso_lines/out/lasso_lines
 CODES = crates/lasso_codes/out/lasso_codes
 LIBRARY = crates/lasso_c/out/liblasso_c.a
 JOINED = out/liblasso.a
+# The same without proof, in a folder that make install and make c don't read.
+UNPROVED = out/unproved/liblasso.a
 # A name with other letters would reach make, and the shell, as more than a name; no source has one.
 SOURCES = crates.txt $(shell LC_ALL=C find crates -type f \( -path '*/src/*' -o -path '*/specs/*' -o -path '*/proofs/*' \) \
 	-not -path '*/out/*' -not -path '*[!A-Za-z0-9_./+-]*')
@@ -37,7 +39,17 @@ define build
 	@rm -f crates/$(1)/out.begun crates/$(1)/out.log
 endef
 
-.PHONY: help try run codes c check test verify docs fmt bench examples reference all install uninstall deb clean input crate toolchain python
+# Writes lasso.pc, with a note, beside the library of a folder, and prints the library's paths.
+define offer
+	@install/pc "$$PWD/$(1)" "$$PWD/crates/lasso_c/include" "$$PWD/$(1)" '"$${libdir}/liblasso.a"' $(2) > $(1)/lasso.pc.new || { rm -f $(1)/lasso.pc.new; exit 1; }
+	@mv -f $(1)/lasso.pc.new $(1)/lasso.pc
+	@printf '%s\n' "header:     $$PWD/crates/lasso_c/include/lasso.h" \
+		"library:    $$PWD/$(1)/liblasso.a" \
+		"shared:     $$PWD/$(1)/liblasso.so.0" \
+		"pkg-config: PKG_CONFIG_PATH=$$PWD/$(1) pkg-config --cflags --libs lasso"
+endef
+
+.PHONY: help try try-c run codes c check test verify docs fmt bench examples reference all install uninstall deb clean input crate toolchain python
 
 #: make                              this list
 help:
@@ -60,6 +72,17 @@ try: input toolchain
 	elif grep -q '^run=ended ' "$$said"; then $(OWN_LINES) "$$said" >&2; \
 	else cat "$$said" >&2; fi; exit $$status
 
+#: make try-c                        builds the library for C without proof, at the speed of the proved one, into out/unproved, in a minute, and
+#:                                   prints its paths; C, Rust and Python take it in place of the proved one, as make c builds
+try-c: $(UNPROVED)
+	$(call offer,out/unproved,'not proved')
+	@echo "Nothing of this library is proved. make c proves the same library and builds it in out: half an hour on four cores." >&2
+
+$(UNPROVED): $(SOURCES) VERSION install/link install/unproved .ci/trying.py
+	@$(MAKE) -s toolchain python
+	@echo "building the library for C without proof" >&2
+	@install/unproved out/unproved
+
 #: make run FILE=path [ARGS=..]      proves lasso_lines if the sources changed, builds it, and runs it on the file
 run: input $(PROGRAM)
 	@set -f; $(PROGRAM) $$ARGS < "$$FILE"
@@ -80,12 +103,7 @@ $(CODES): $(SOURCES)
 
 #: make c                            proves the library for C if the sources changed, builds it, and prints its paths
 c: $(JOINED)
-	@install/pc "$$PWD/out" "$$PWD/crates/lasso_c/include" "$$PWD/out" '"$${libdir}/liblasso.a"' > out/lasso.pc.new || { rm -f out/lasso.pc.new; exit 1; }
-	@mv -f out/lasso.pc.new out/lasso.pc
-	@printf '%s\n' "header:     $$PWD/crates/lasso_c/include/lasso.h" \
-		"library:    $$PWD/$(JOINED)" \
-		"shared:     $$PWD/out/liblasso.so.0" \
-		"pkg-config: PKG_CONFIG_PATH=$$PWD/out pkg-config --cflags --libs lasso"
+	$(call offer,out)
 
 $(LIBRARY): $(SOURCES)
 	$(call build,lasso_c,lib,,$(LIBRARY))

@@ -1,16 +1,12 @@
-"""The tables of single calls: beside the best that Rust has and std, beside calls with all texts over texts of given sizes, and of the crate
-rust/lasso_proved; and of interners that are cleared and filled again, and of texts that collide under the fixed seed."""
-import os
+"""The tables of single calls: beside the best that Rust has and std, and beside calls with all texts over texts of given sizes; and of interners
+that are cleared and filled again, and of texts that collide under the fixed seed."""
 from statistics import median
 
 from measuring import CALLS as OURS
-from measuring import OUT, best_hashes, build_library, end_with, is_built_over_crates, keep, priority, reordered, rustc, said_lines, times_by_key
+from measuring import OUT, keep, priority, reordered, rustc, said_lines, times_by_key
 
 BEST = f"{OUT}/best/release/calls"
 STANDARD = f"{OUT}/calls-std"
-PROVED = f"{OUT}/proved/release/proved"
-# lasso 0.7.3, if UPSTREAM names a folder of its sources, whose Cargo.toml takes hashbrown from the system's packages.
-UPSTREAM = f"{OUT}/upstream/release/upstream"
 ROUNDS = 15
 SIZED_ROUNDS = 5
 CALLS = ("new", "present", "absent", "try_resolve", "reader", "resolver")
@@ -38,14 +34,6 @@ SIZED_GOALS = {
     ("absent", 35): {10_000: 1.02, 100_000: 0.95, 1_000_000: 0.85},
     ("absent", 200): {10_000: 1.02, 100_000: 0.95, 1_000_000: 0.85},
     ("resolve", 35): {10_000: 1.02, 100_000: 0.8, 1_000_000: 0.7},
-}
-
-# Of the crate, by the count and the bytes of texts.
-CRATE_GOALS = {
-    (100_000, 7): {"new": 1.1, "present": 1.1, "get": 1.2, "resolve": 1.2},
-    (100_000, 35): {"new": 1.0, "present": 1.2, "get": 1.2, "resolve": 1.2},
-    (100_000, 200): {"new": None, "present": None, "get": None, "resolve": None},
-    (10_000, 7): {"new": 1.1, "present": 1.3, "get": 1.3, "resolve": 2.0},
 }
 
 
@@ -115,31 +103,6 @@ def print_sized(lines):
             print(line.rstrip())
 
 
-def crate_ratios(ours, others):
-    """The ratio of the least times, and that of the middle ones, to the least of the others'."""
-    least, middle = min(map(min, others)), min(map(median, others))
-    return f"{least:>8.1f}{middle:>8.1f}", f"{min(ours) / least:>7.2f}{median(ours) / middle:>8.2f}"
-
-
-def print_crate(lines):
-    """Prints the table of the same lines of lasso_proved: the least and the middle of the rounds, of `ours` and of the baseline with the least one, the
-    ratios of ours to it, and the goal of the ratio of the least. The same ratios to `lasso`, which is lasso 0.7.3, come last."""
-    rounds = by_size(lines)
-    print(f"{'texts':<9}{'bytes':<7}{'call':<9}{'crate':>8}{'middle':>8}{'best':>8}{'middle':>8} {'program':<12}{'ratio':>7}{'middle':>8}{'goal':>7}"
-          f"{'lasso':>8}{'middle':>8}{'ratio':>7}{'middle':>8}")
-    for (count, size), goals in CRATE_GOALS.items():
-        for call, goal in goals.items():
-            times = rounds[count, size, call]
-            ours, lasso = times.pop("ours"), times.pop("lasso", None)
-            line = f"{count:<9}{size:<7}{call:<9}{min(ours):>8.1f}{median(ours):>8.1f}"
-            if times:
-                best, compared = crate_ratios(ours, times.values())
-                line += f"{best} {min(times, key=lambda name: min(times[name])):<12}{compared}{goal or '-':>7}"
-            if lasso:
-                line += "".join(crate_ratios(ours, [lasso]))
-            print(line)
-
-
 def rounds_of_calls(first, hashes):
     """All rounds of single calls, each program in turn."""
     for _ in range(ROUNDS):
@@ -169,38 +132,6 @@ def measure_calls(hashes):
     print_single(keep("calls", rounds_of_calls(first, hashes)))
     print()
     print_sized(keep("sizes", rounds_of_sized_calls(first, hashes)))
-
-
-def rounds_of_crate(first):
-    """All rounds of the crate's calls, each program in turn."""
-    hashes = best_hashes()
-    for _ in range(ROUNDS):
-        yield from said_lines("ours", [*first, PROVED])
-        if os.environ.get("UPSTREAM"):
-            yield from said_lines("lasso", [*first, UPSTREAM])
-        for name in hashes:
-            for kept in (name, f"kept-{name}"):
-                yield from said_lines(kept, [*first, BEST, kept, "few"])
-
-
-def build_crate(baseline, *crates):
-    """Builds a program over the crate or over lasso 0.7.3."""
-    if not is_built_over_crates(baseline, *crates):
-        end_with(baseline)
-
-
-def measure_rust():
-    """The table of the crate rust/lasso_proved."""
-    build_library()
-    os.environ["LASSO_LIB_DIR"] = f"{os.getcwd()}/out"
-    build_crate("proved", "serde")
-    if os.environ.get("UPSTREAM"):
-        link = f"{OUT}/upstream-source"
-        if os.path.islink(link):
-            os.remove(link)
-        os.symlink(os.path.realpath(os.environ["UPSTREAM"]), link)
-        build_crate("upstream", "hashbrown", "serde", "dashmap", "ahash")
-    print_crate(keep("rust", rounds_of_crate(priority())))
 
 
 def print_table(number, lines):

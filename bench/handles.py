@@ -1,17 +1,15 @@
 """The tables of interners from C, beside GLib, and of those that threads share, from C and from Rust: lasso_shared beside one interner under a
 mutex, and the crate rust/lasso_proved beside lasso 0.7.3 and the maps that Rust has for threads."""
-import os
 import sys
 from statistics import median
 
-from calls import build_crate
+from crate import PROVED, build_over_library
 from lasso import LASSO, is_lasso_built, load, occasion
-from measuring import INPUTS, OUT, build_library, keep, make_input, priority, said_lines, said_of, times_by_key
+from measuring import INPUTS, OUT, keep, make_input, priority, said_lines, said_of, times_by_key
 from threads import RUST as MAPS
 from threads import build_rivals
 
 OVER_C = f"{OUT}/threads"
-OVER_RUST = f"{OUT}/proved/release/proved"
 NAMES = ("zipf", "uniform", "distinct")
 CALLS = ("present", "new", "resolve")
 THREADS = (1, 2, 4)
@@ -22,7 +20,7 @@ PROGRAMS = {
     "glib": [OVER_C, "glib"],
     "alone": [OVER_C, "alone"],
     "glib-alone": [OVER_C, "glib-alone"],
-    "rust": [OVER_RUST, "round"],
+    "rust": [PROVED, "round"],
     "lasso": [LASSO, "round", "default"],
     "lasso-fx": [LASSO, "round", "fx"],
     "maps": [MAPS, "maps", "round"],
@@ -46,13 +44,9 @@ GOALS = {
 
 def build_handles():
     """Builds the programs over the library for C, which LASSO_LIB_DIR may name in place of the proved one, and their rivals."""
-    if "LASSO_LIB_DIR" not in os.environ:
-        build_library()
-        os.environ["LASSO_LIB_DIR"] = f"{os.getcwd()}/out"
-    library = os.path.abspath(f"{os.environ['LASSO_LIB_DIR']}/liblasso.a")
+    library = f"{build_over_library('serde')}/liblasso.a"
     glib = said_of(["pkg-config", "--cflags", "--libs", "glib-2.0"]).split()
     said_of(["cc", "-O2", "-Wall", "-Wextra", "-std=c11", "-pthread", "-o", OVER_C, "bench/threads.c", "-I", "crates/lasso_c/include", library, *glib])
-    build_crate("proved", "serde")
     if not build_rivals() or not is_lasso_built():
         sys.exit(f"lasso 0.7.3 or the maps can't be fetched or built ({OUT}/*.log): LASSO_SOURCE=path names a folder that has lasso")
 
@@ -90,6 +84,16 @@ def print_table(times, ours, others):
     print(f"ratios of middle times are {min(middles):.2f} to {max(middles):.2f} of these")
 
 
+def print_nanoseconds(times):
+    """The table of four threads: nanoseconds of a call of each program."""
+    programs = [program for ours, others in TABLES.items() for program in (ours, *others)]
+    print(f"| nanoseconds, {THREADS[-1]} threads | {' | '.join(programs)} |")
+    print("|---" * (len(programs) + 1) + "|")
+    for name in NAMES:
+        for call in CALLS:
+            print(f"| {name}, {call} | {' | '.join(f'{min(times[name, program, call, str(THREADS[-1])]):.0f}' for program in programs)} |")
+
+
 def print_alone(times):
     """The table of one thread without a lock: nanoseconds of a call over lasso and over GLib, and their ratio."""
     for call in ALONE_CALLS:
@@ -108,3 +112,4 @@ def measure_handles():
     print_alone(times)
     for ours, others in TABLES.items():
         print_table(times, ours, others)
+    print_nanoseconds(times)

@@ -9,7 +9,7 @@ use std::time::Instant;
 pub const COUNTS: [u32; 4] = [10_000, 90_000, 100_000, 1_000_000];
 
 /// How many texts there are, and the bytes of each, when `lasso_proved` is measured.
-pub const SIZES: [(u32, usize); 4] = [(100_000, 7), (100_000, 35), (100_000, 200), (10_000, 7)];
+pub const SIZES: [(u32, usize); 5] = [(100_000, 7), (100_000, 11), (100_000, 35), (100_000, 200), (10_000, 7)];
 
 /// How many texts there are in `tool_bench sizes`, and the bytes of each.
 pub const ALL_SIZES: [(u32, usize); 12] = [

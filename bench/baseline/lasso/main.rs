@@ -1,5 +1,5 @@
 //! lasso 0.7.3 with each hasher. The first word says what is done: `calls` prints how long single calls take in one round, over the texts
-//! of `tool_bench sizes`; `lines` does the job of `lasso_lines` without options; `round` and `fill` call the interner that threads
+//! of `tool_bench sizes`, and `few` over those of `bench/baseline/proved`; `lines` does the job of `lasso_lines` without options; `round` and `fill` call the interner that threads
 //! share, over the lines of standard input, as `bench/baseline/interners` calls others. The second says which hasher: `default`, `fx`,
 //! `ahash` or `fold`.
 mod hashers;
@@ -15,7 +15,7 @@ mod shared_rounds;
 use hashers::{Fold, Fx, A};
 use lasso::{Key, Rodeo, Spur, ThreadedRodeo};
 use report::Numbers;
-use rounds::{round_of_sizes, Texts, ALL_SIZES};
+use rounds::{round_of_sizes, Texts, ALL_SIZES, SIZES};
 use shared_rounds::Interner;
 use std::hash::BuildHasher;
 use std::io;
@@ -100,6 +100,10 @@ fn run<S: BuildHasher + Clone + Default + Send + Sync>(what: &str) -> io::Result
             round_of_sizes::<Rodeo<Spur, S>>(&ALL_SIZES);
             Ok(())
         }
+        "few" => {
+            round_of_sizes::<Rodeo<Spur, S>>(&SIZES);
+            Ok(())
+        }
         "lines" => report::run::<Rodeo<Spur, S>>(),
         _ => shared_rounds::run::<ThreadedRodeo<Spur, S>>(what),
     }
@@ -112,6 +116,6 @@ fn main() -> io::Result<()> {
         [what, "fx"] => run::<Fx>(what),
         [what, "ahash"] => run::<A>(what),
         [what, "fold"] => run::<Fold>(what),
-        _ => Err(io::Error::new(io::ErrorKind::Other, "usage: lasso calls|lines|round|fill default|fx|ahash|fold")),
+        _ => Err(io::Error::new(io::ErrorKind::Other, "usage: lasso calls|few|lines|round|fill default|fx|ahash|fold")),
     }
 }

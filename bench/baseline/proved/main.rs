@@ -1,10 +1,9 @@
-//! How long single calls of `lasso_proved`, or of lasso 0.7.3, take in one round, over texts of given sizes. With the word `round`, those
+//! How long single calls of `lasso_proved` take in one round, over texts of given sizes. With the word `round`, those
 //! of the `ThreadedRodeo` of `lasso_proved` over the lines of standard input, as `bench/baseline/interners` has others.
 #[path = "../opaque.rs"]
 mod opaque;
 #[path = "../rounds.rs"]
 mod rounds;
-#[cfg(feature = "threads")]
 #[path = "../interners/rounds.rs"]
 mod shared_rounds;
 
@@ -31,7 +30,7 @@ impl Texts for Rodeo {
 
     #[inline]
     fn last_byte(&self, key: Spur) -> Option<u8> {
-        self.resolve(&key).as_bytes().last().copied()
+        self.try_resolve(&key)?.as_bytes().last().copied()
     }
 
     #[inline]
@@ -40,7 +39,6 @@ impl Texts for Rodeo {
     }
 }
 
-#[cfg(feature = "threads")]
 impl shared_rounds::Interner for interner::ThreadedRodeo {
     type Key = Spur;
 
@@ -70,8 +68,7 @@ impl shared_rounds::Interner for interner::ThreadedRodeo {
 
 fn main() -> io::Result<()> {
     match std::env::args().nth(1).as_deref() {
-        #[cfg(feature = "threads")]
-        Some("round") => shared_rounds::run::<interner::ThreadedRodeo>("round"),
+                Some("round") => shared_rounds::run::<interner::ThreadedRodeo>("round"),
         None => {
             round_of_sizes::<Rodeo>(&SIZES);
             Ok(())
