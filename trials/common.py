@@ -1,7 +1,9 @@
-"""What trials and timings share: built programs, packages of the system, libraries in C that are loaded first, runs under valgrind, and runs
-with requests for memory refused in turn."""
+"""What scripts share: files that are read, copied and replaced, built programs, packages of the system, libraries in C that are loaded first, what a
+process used, runs under valgrind, and runs with requests for memory refused in turn."""
 import contextlib
 import glob
+import importlib.machinery
+import importlib.util
 import os
 import re
 import shutil
@@ -38,24 +40,75 @@ def said_of(words, **options):
     return done.stdout
 
 
+def read(path, errors="strict"):
+    """The text of a file."""
+    with open(path, encoding="utf-8", errors=errors) as source:
+        return source.read()
+
+
+def write(path, text):
+    """Writes a file, and the folders that it is in."""
+    os.makedirs(os.path.dirname(path) or ".", exist_ok=True)
+    with open(path, "w", encoding="utf-8") as target:
+        target.write(text)
+
+
+def module_in(path, name):
+    """The module of this name in a file, whatever the file's own name is."""
+    loader = importlib.machinery.SourceFileLoader(name, path)
+    module = importlib.util.module_from_spec(importlib.util.spec_from_loader(name, loader))
+    sys.modules[name] = module
+    loader.exec_module(module)
+    return module
+
+
+def listed_files(*parts):
+    """The files of the tree that git lists or does not ignore, below these parts of it or all."""
+    listed = subprocess.run(["git", "ls-files", "-z", "--cached", "--others", "--exclude-standard", *parts], cwd=HERE, stdout=subprocess.PIPE, check=True)
+    return [name for name in os.fsdecode(listed.stdout).split("\0") if name and os.path.lexists(f"{HERE}/{name}")]
+
+
+def copy_sources(tree, room):
+    """Copies what rt reads of the crates of a tree to the folder."""
+    for name in ("HANDLES", "crates.txt"):
+        shutil.copy2(f"{tree}/{name}", room)
+    for part in ("src", "specs", "proofs"):
+        for path in glob.glob(f"{glob.escape(tree)}/crates/*/{part}"):
+            shutil.copytree(path, os.path.join(room, os.path.relpath(path, tree)))
+
+
+def ended(process):
+    """Waits for the end of a process: what it used. Its status is then its return code."""
+    _, status, used = os.wait4(process.pid, 0)
+    process.returncode = os.waitstatus_to_exitcode(status)
+    return used
+
+
 def commit(*parts):
     """The commit of the tree, with a plus sign if the tree has other changes, or these parts of it."""
     changed = said_of(["git", "status", "--porcelain", "--", *parts], cwd=HERE)
     return said_of(["git", "rev-parse", "--short=8", "HEAD"], cwd=HERE).strip() + "+" * bool(changed)
 
 
+def is_installed(packages):
+    """Installs the packages by apt-get, which root alone may do. Whether that went well."""
+    if os.geteuid() != 0 or not shutil.which("apt-get"):
+        return False
+    print(f"installing {' '.join(packages)} by apt-get", file=sys.stderr, flush=True)
+    said = ""
+    for words in (["update", "-q"], ["install", "-q", "-y", "--no-install-recommends", *packages]):
+        ran = subprocess.run(["apt-get", *words], env={**os.environ, "DEBIAN_FRONTEND": "noninteractive"}, stdout=subprocess.PIPE, stderr=subprocess.STDOUT, check=False)
+        said += ran.stdout.decode("utf-8", "replace")
+    if ran.returncode:
+        print(said, end="", file=sys.stderr)
+    return ran.returncode == 0
+
+
 def install(packages):
-    """Installs the packages by apt-get. Where that can't be done, ends the command and names them."""
-    names = " ".join(packages)
-    if os.geteuid() == 0 and shutil.which("apt-get"):
-        print(f"installing {names} by apt-get", file=sys.stderr, flush=True)
-        kept = {"env": {**os.environ, "DEBIAN_FRONTEND": "noninteractive"}, "stdout": subprocess.PIPE, "stderr": subprocess.STDOUT, "text": True, "errors": "replace", "check": False}
-        told = subprocess.run(["apt-get", "update", "-q"], **kept).stdout
-        ran = subprocess.run(["apt-get", "install", "-q", "-y", "--no-install-recommends", *packages], **kept)
-        if ran.returncode == 0:
-            return
-        print(told + ran.stdout, end="", file=sys.stderr)
-    sys.exit(f"missing: {names}: on Debian, apt-get install {names} as root")
+    """Installs the packages. Where that can't be done, ends the command and names them."""
+    if not is_installed(packages):
+        names = " ".join(packages)
+        sys.exit(f"missing: {names}: on Debian, apt-get install {names} as root")
 
 
 def need(command, package=None):
@@ -108,6 +161,8 @@ def program_of(crate):
 def shim_of(source, room):
     """A C file, named from the top of the repository, as a library in this folder, to be loaded before others by LD_PRELOAD."""
     shim = os.path.join(room, os.path.basename(source).replace(".c", ".so"))
+    if not shutil.which("cc"):
+        sys.exit(f"{source} needs a C compiler with the name cc")
     said_of(["cc", "-O2", "-Wall", "-D_GNU_SOURCE", "-shared", "-fPIC", "-o", shim, f"{HERE}/{source}", "-ldl", "-pthread"])
     return shim
 
@@ -168,10 +223,7 @@ class Refuser:
             words = [os.path.abspath(words[0]), *words[1:]]
             done = subprocess.run(words, stdin=source, cwd=self.room, capture_output=True, env=environment, pass_fds=[told.fileno()], check=False)
             is_refused = told.seek(0, os.SEEK_END) > 0
-        found = ""
-        if os.path.exists(left):
-            with open(left, encoding="ascii") as file:
-                found = file.read().strip()
+        found = read(left).strip() if os.path.exists(left) else ""
         return Ran(done.returncode, done.stdout, done.stderr.decode("utf-8", "replace"), is_refused, found)
 
     def in_turn(self, words, data=b"", most=None):
