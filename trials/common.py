@@ -15,7 +15,7 @@ from dataclasses import dataclass
 
 HERE = os.path.dirname(os.path.dirname(os.path.abspath(__file__)))
 OUT = f"{HERE}/trials/out"
-sys.path[1:1] = [f"{HERE}/cases", f"{HERE}/reference"]
+sys.path[1:1] = [f"{HERE}/cases", f"{HERE}/reference", f"{HERE}/cases/tool_replay"]
 sys.dont_write_bytecode = True
 
 WATCH = ("valgrind", "--leak-check=full", "--show-leak-kinds=all")
