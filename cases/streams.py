@@ -31,17 +31,6 @@ class Ran:
     is_answered: bool = True  # each answer to what was typed came before more was typed
 
 
-def build_shim(here, room):
-    """Builds cases/shim.c in the folder, and returns the file."""
-    shim = os.path.join(room, "shim.so")
-    words = ["cc", "-O2", "-Wall", "-D_GNU_SOURCE", "-shared", "-fPIC", "-o", shim, os.path.join(here, "shim.c"), "-ldl", "-pthread"]
-    try:
-        subprocess.run(words, check=True)
-    except (FileNotFoundError, subprocess.CalledProcessError):
-        raise SystemExit("cases/run needs a C compiler with the name cc that can build cases/shim.c") from None
-    return shim
-
-
 class Streams:
     """The three standard streams of a run, as descriptors, and what comes of them."""
 
