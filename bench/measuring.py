@@ -9,7 +9,7 @@ import time
 from statistics import median
 
 sys.path.append(f"{os.path.dirname(os.path.dirname(os.path.abspath(__file__)))}/trials")
-from common import HERE, ended, is_installed, program_of, read, replaced, said_of  # noqa: E402,F401 pylint: disable=wrong-import-position
+from common import HERE, ended, is_installed, program_of, ran, read, replaced, said_of, write  # noqa: E402,F401 pylint: disable=wrong-import-position
 
 OUT = "bench/out"
 INPUTS = f"{OUT}/inputs"
@@ -32,15 +32,15 @@ def complain(*words):
 def keep(name, lines):
     """Writes the lines to a file that stays until the next run, and returns them."""
     lines = list(lines)
-    with open(f"{OUT}/{name}", "w", encoding="utf-8") as target:
-        target.writelines(f"{line}\n" for line in lines)
+    write(f"{OUT}/{name}", "".join(f"{line}\n" for line in lines))
     return lines
 
 
-def is_built(log, words, **options):
+def is_built(log, words):
     """Whether a command ends well; what it says is in a file of this name."""
-    with open(f"{OUT}/{log}.log", "w", encoding="utf-8") as said:
-        return subprocess.run(words, stdin=subprocess.DEVNULL, stdout=said, stderr=subprocess.STDOUT, check=False, **options).returncode == 0
+    status, said = ran(words)
+    write(f"{OUT}/{log}.log", said)
+    return status == 0
 
 
 def end_with(log):

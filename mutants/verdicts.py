@@ -8,7 +8,7 @@ import tempfile
 
 from edits import Unfit, files_with_tests, places
 from copies import Outcome, Result, applied, end_of, tell
-from common import read, write
+from common import ran, read, write
 
 VERDICT = re.compile(r"^fn (\S+): (.*)$", re.MULTILINE)
 PROOF_ERROR = re.compile(r"^\./proofs/(\S+)/(?:Answers|Proof)\.antt:\d+:\d+: error: ", re.MULTILINE)
@@ -50,22 +50,12 @@ def next_round(edits, most):
     return now, [edit for edit in edits if edit not in now]
 
 
-def said_by(words, folder, seconds=None, **options):
-    """The status of a command, or None if it had not ended in time, and all that it said."""
-    try:
-        ran = subprocess.run(words, cwd=folder, stdin=subprocess.DEVNULL, capture_output=True, timeout=seconds, check=False, **options)
-        status = ran.returncode
-    except subprocess.TimeoutExpired as late:
-        ran, status = late, None
-    return status, ((ran.stdout or b"") + (ran.stderr or b"")).decode("utf-8", "replace")
-
-
 def check(folder, functions=(), seconds=None):
     """How `rt check` ends of the crate, or of these functions alone, what it says of each function, and all it says. The status is None if it is not done in time."""
     jobs = os.environ.get("RT_JOBS")
     words = ["rt", "check", *(["--jobs", jobs] if jobs else [])]
     words += [word for function in functions for word in ("--only", function)]
-    status, said = said_by(words, folder, seconds)
+    status, said = ran(words, seconds, cwd=folder)
     return status, dict(VERDICT.findall(said)), said
 
 
@@ -183,7 +173,7 @@ def test_results(copy, crate, seconds=TEST_SECONDS):
     words = [f"{copy}/.ci/try", "--test", "--seconds", str(seconds)]
     if os.path.isdir(f"{copy}/cases/{crate}/modules"):
         words = [f"{copy}/cases/modules", crate]
-    _, said = said_by(words, folder)
+    _, said = ran(words, cwd=folder)
     results = results_in(said)
     if not results:
         raise Unfit(f"no test of {crate} ran:\n{end_of(said)}")
@@ -239,11 +229,11 @@ def program_of(copy, program, cases, room):
     file = os.path.join(room, f"{program}-{len(os.listdir(room))}")
     folder = f"{copy}/crates/{program}"
     if needs_proof(copy, program, cases):
-        status, said = said_by(["rt", "run", "--", "--version"], folder)
+        status, said = ran(["rt", "run", "--", "--version"], cwd=folder)
         if not status:
             os.replace(f"{folder}/out/{program}", file)
     else:
-        status, said = said_by([f"{copy}/cases/unproved", folder, file], copy)
+        status, said = ran([f"{copy}/cases/unproved", folder, file])
     if status:
         raise Unfit(f"{program} was not built:\n{end_of(said)}")
     return file
@@ -268,7 +258,7 @@ def result_of(copy, program, file, case):
     if program == REPLAY:
         return replays(copy, file, case)
     words = [f"{copy}/cases/run", "--program", f"{program}={file}", f"{program}/{case}"]
-    status, said = said_by(words, copy, env={**os.environ, "CASE_SECONDS": CASE_SECONDS})
+    status, said = ran(words, env={**os.environ, "CASE_SECONDS": CASE_SECONDS})
     if not re.search(r"^\d+ passed, \d+ failed$", said, re.MULTILINE):
         raise Unfit(f"the cases {case} of {program} did not run:\n{end_of(said)}")
     return "ok" if status == 0 else LATE if LATE in said else KILLED if "status -9" in said else "FAILED"

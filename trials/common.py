@@ -32,12 +32,22 @@ class Fault(Exception):
     """What a trial found wrong."""
 
 
+def ran(words, seconds=None, **options):
+    """The status of a command without an input, or None if it had not ended in time, and all that it wrote, standard error last."""
+    try:
+        done = subprocess.run(words, stdin=subprocess.DEVNULL, capture_output=True, timeout=seconds, check=False, **options)
+        status = done.returncode
+    except subprocess.TimeoutExpired as late:
+        done, status = late, None
+    return status, ((done.stdout or b"") + (done.stderr or b"")).decode("utf-8", "replace")
+
+
 def said_of(words, **options):
-    """What a command says, which has to end well; all of it is shown if it does not."""
-    done = subprocess.run(words, stdin=subprocess.DEVNULL, stdout=subprocess.PIPE, stderr=subprocess.STDOUT, text=True, errors="replace", check=False, **options)
-    if done.returncode:
-        sys.exit(f"{done.stdout}{' '.join(words)} ended with status {done.returncode}")
-    return done.stdout
+    """What a command writes, which has to end well; all of it is shown if it does not."""
+    status, said = ran(words, **options)
+    if status:
+        sys.exit(f"{said}{' '.join(words)} ended with status {status}")
+    return said
 
 
 def read(path, errors="strict"):
@@ -95,13 +105,13 @@ def is_installed(packages):
     if os.geteuid() != 0 or not shutil.which("apt-get"):
         return False
     print(f"installing {' '.join(packages)} by apt-get", file=sys.stderr, flush=True)
-    said = ""
+    said, quiet = "", {**os.environ, "DEBIAN_FRONTEND": "noninteractive"}
     for words in (["update", "-q"], ["install", "-q", "-y", "--no-install-recommends", *packages]):
-        ran = subprocess.run(["apt-get", *words], env={**os.environ, "DEBIAN_FRONTEND": "noninteractive"}, stdout=subprocess.PIPE, stderr=subprocess.STDOUT, check=False)
-        said += ran.stdout.decode("utf-8", "replace")
-    if ran.returncode:
+        status, more = ran(["apt-get", *words], env=quiet)
+        said += more
+    if status:
         print(said, end="", file=sys.stderr)
-    return ran.returncode == 0
+    return status == 0
 
 
 def install(packages):
@@ -172,11 +182,11 @@ def watched(start, name):
     need("valgrind")
     with tempfile.NamedTemporaryFile("r", encoding="utf-8", errors="replace") as log:
         # valgrind reads `%` in a name.
-        ran = start((*WATCH, f"--log-file={log.name.replace('%', '%%')}"))
+        result = start((*WATCH, f"--log-file={log.name.replace('%', '%%')}"))
         said = log.read()
     if WRONG.search(said) or NOTHING_LEFT not in said:
         raise Fault(f"{name}: under valgrind\n{said}")
-    return ran, int(USED.search(said).group(1).replace(",", ""))
+    return result, int(USED.search(said).group(1).replace(",", ""))
 
 
 def first_difference(found, wanted):
@@ -230,8 +240,8 @@ class Refuser:
         """The runs with the first request refused, the second and so on, each with its number: up to one that makes no request of that number, or this number of them."""
         number = 1
         while most is None or number <= most:
-            ran = self.run(words, number, data)
-            yield number, ran
-            if not ran.is_refused:
+            found = self.run(words, number, data)
+            yield number, found
+            if not found.is_refused:
                 return
             number += 1
