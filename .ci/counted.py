@@ -89,8 +89,11 @@ def run_all(parts, at_once):
 
 def total(results):
     """Prints how many passed and failed in all parts as the last line, and returns the status."""
-    passed = sum(result.passed for result in results)
-    failed = sum(result.failed for result in results)
+    return told(sum(result.passed for result in results), sum(result.failed for result in results))
+
+
+def told(passed, failed):
+    """Prints how many passed and failed, and returns the status."""
     print(f"{passed} passed, {failed} failed", flush=True)
     return 1 if failed or not passed else 0
 
