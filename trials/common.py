@@ -32,6 +32,14 @@ class Fault(Exception):
     """What a trial found wrong."""
 
 
+def run_trial(trial):
+    """Runs a trial over the words of the command line, and ends with its status or with what it found wrong."""
+    try:
+        sys.exit(trial(sys.argv[1:]))
+    except Fault as fault:
+        sys.exit(str(fault))
+
+
 def ran(words, seconds=None, **options):
     """The status of a command without an input, or None if it had not ended in time, and all that it wrote, standard error last."""
     try:
