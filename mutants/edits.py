@@ -10,7 +10,7 @@ from dataclasses import dataclass, field
 HERE = os.path.dirname(os.path.dirname(os.path.abspath(__file__)))
 sys.path[1:1] = [f"{HERE}/docs/reference", f"{HERE}/trials"]
 import sources  # pylint: disable=wrong-import-position
-from common import read  # pylint: disable=wrong-import-position
+from common import read, used_crates  # pylint: disable=wrong-import-position
 
 BY_SOME_HISTORY = re.compile(r"\bIsPlain(?:Call|Filling)\b")
 FUNCTION = re.compile(r"\bfn (\w+)")
@@ -181,7 +181,7 @@ def test_grounds(edit):
 
 def used_by(crate):
     """The crates that this one uses."""
-    return re.search(rf"^{crate}\b[^:]*:(.*)$", read(f"{HERE}/crates.txt"), re.MULTILINE).group(1).split()
+    return used_crates(read(f"{HERE}/crates.txt"))[crate]
 
 
 def test_compiles(edit, text):

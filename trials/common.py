@@ -23,6 +23,8 @@ NOTHING_LEFT = "in use at exit: 0 bytes in 0 blocks"
 WRONG = re.compile(r"ERROR SUMMARY: [1-9]")
 USED = re.compile(r"total heap usage: ([\d,]+) allocs")
 HALT = 60
+# A line of crates.txt.
+CRATE = re.compile(r"^(?P<crate>\w+)[^:#]*:(?P<used>.*)$")
 DEBIAN_PYTHON = "/usr/bin/python3"
 NONE_LEFT = "0 blocks, 0 bytes"
 KEEPS_ONE = "#include <stdlib.h>\nint main(void) { return malloc(7) == NULL; }\n"
@@ -78,6 +80,11 @@ def module_in(path, name):
     sys.modules[name] = module
     loader.exec_module(module)
     return module
+
+
+def used_crates(text):
+    """Of each crate of a crates.txt, those that it uses."""
+    return {line["crate"]: line["used"].split() for line in filter(None, map(CRATE.match, text.split("\n")))}
 
 
 def listed_files(*parts):
@@ -201,7 +208,7 @@ def first_difference(found, wanted):
     """Where bytes differ from those that are wanted, in words."""
     at = next((at for at, (one, other) in enumerate(zip(found, wanted)) if one != other), min(len(found), len(wanted)))
     start = max(at - 40, 0)
-    return f"from byte {at} on, of {len(found)} and {len(wanted)}: {found[start:at + 80]!r}, not {wanted[start:at + 80]!r}"
+    return f"from byte {at} on, of {len(found)} and {len(wanted)}: {found[start:start + 200]!r}, not {wanted[start:start + 200]!r}"
 
 
 @dataclass

@@ -9,9 +9,8 @@ import re
 import sys
 
 sys.path.insert(1, f"{os.path.dirname(os.path.dirname(os.path.dirname(os.path.abspath(__file__))))}/trials")
-from common import read  # noqa: E402
+from common import read, used_crates  # noqa: E402
 
-CRATE = re.compile(r"^(lasso\w*)[^:\n]*:", re.MULTILINE)
 # An example of a program.
 LEFT_OUT = "lasso_saving"
 IMPORT = re.compile(r"^ *(?:ghost )?use (?:Rattle\.)?([\w.]+?)\.(?:\{([^}]*)\}|(\w+))(?: as (\w+))?;?$", re.MULTILINE)
@@ -112,7 +111,7 @@ class Definition:
 
 def crates(root):
     """The libraries and programs, whose names begin with `lasso`, in the order of crates.txt: a copy of the repository may have a caller's crates."""
-    return [name for name in CRATE.findall(read(os.path.join(root, "crates.txt"))) if name != LEFT_OUT]
+    return [name for name in used_crates(read(f"{root}/crates.txt")) if name.startswith("lasso") and name != LEFT_OUT]
 
 
 def imports(text):
