@@ -103,7 +103,7 @@ def copy_sources(tree, room):
 
 
 def ended(process):
-    """Waits for the end of a process: what it used. Its status is then its return code."""
+    """What a process used, once it has ended. Its return code is then set."""
     _, status, used = os.wait4(process.pid, 0)
     process.returncode = os.waitstatus_to_exitcode(status)
     return used
@@ -143,11 +143,11 @@ def need(command, package=None):
 
 
 @contextlib.contextmanager
-def replaced(path, **options):
+def replaced(path, mode="w", **options):
     """A new file to write into. It takes the place of the file at the path if all of it was written, and else goes."""
     part = f"{path}.part"
     try:
-        with open(part, "w", **options) as target:
+        with open(part, mode, **options) as target:
             yield target
         os.replace(part, path)
     finally:
