@@ -208,7 +208,6 @@ class Table:
     middle ones. A rival may be several programs, of which the fastest counts. The goals of ratios are in the pages of this folder."""
 
     def __init__(self, what, *rivals):
-        self.rivals = rivals
         print(f"{what:<36}{'ours':>12}" + "".join(f"{rival:>22}{'ratio':>8}{'middle':>8}" for rival in rivals), flush=True)
 
     def row(self, title, ours, *rivals):
