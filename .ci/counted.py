@@ -2,6 +2,7 @@
 import concurrent.futures
 import os
 import re
+import shutil
 import subprocess
 import sys
 import tempfile
@@ -9,7 +10,9 @@ import threading
 import time
 from dataclasses import dataclass
 
-HERE = os.path.dirname(os.path.dirname(os.path.abspath(__file__)))
+sys.path.insert(1, f"{os.path.dirname(os.path.dirname(os.path.abspath(__file__)))}/trials")
+from common import HERE, ended, is_installed  # pylint: disable=wrong-import-position
+
 COUNTS = re.compile(rb"^(\d+) passed, (\d+) failed", re.MULTILINE)
 CC = "cc"
 
@@ -53,8 +56,7 @@ def run(part):
             said.write(line)
             sys.stdout.buffer.write(line)
             sys.stdout.buffer.flush()
-        _, status, used = os.wait4(started.pid, 0)
-        started.returncode = os.WEXITSTATUS(status) if os.WIFEXITED(status) else 128 + os.WTERMSIG(status)
+        used = ended(started)
         said.seek(0)
         text = said.read()
     passed, failed = counts_of(text, started.returncode)
@@ -87,31 +89,19 @@ def run_all(parts, at_once):
 
 def total(results):
     """Prints how many passed and failed in all parts as the last line, and returns the status."""
-    passed = sum(result.passed for result in results)
-    failed = sum(result.failed for result in results)
+    return told(sum(result.passed for result in results), sum(result.failed for result in results))
+
+
+def told(passed, failed):
+    """Prints how many passed and failed, and returns the status."""
     print(f"{passed} passed, {failed} failed", flush=True)
     return 1 if failed or not passed else 0
 
 
-def has(command):
-    """Whether there is a command of this name."""
-    return subprocess.run(["sh", "-c", 'command -v "$1"', "sh", command], stdout=subprocess.DEVNULL, check=False).returncode == 0
-
-
-def install_compiler():
-    """Installs a C compiler by apt-get, which root alone may do."""
-    if os.geteuid() != 0 or not has("apt-get"):
-        return
-    print(f"installing a C compiler by apt-get, since there is no {CC}", flush=True)
-    quiet = {"env": {**os.environ, "DEBIAN_FRONTEND": "noninteractive"}, "stdout": subprocess.DEVNULL, "check": False}
-    subprocess.run(["apt-get", "update", "-q"], **quiet)
-    subprocess.run(["apt-get", "install", "-q", "-y", "--no-install-recommends", "gcc", "libc6-dev"], **quiet)
-
-
 def set_up():
     """Names what is missing, and ends the command, before anything is done. A missing C compiler is installed where that may be done."""
-    if not has(CC):
-        install_compiler()
+    if not shutil.which(CC):
+        is_installed(["gcc", "libc6-dev"])
     missing = [
         what
         for command, what in (
@@ -119,7 +109,7 @@ def set_up():
             ("git", "git"),
             (CC, f"a C compiler with the name {CC}: on Debian, apt-get install gcc libc6-dev as root"),
         )
-        if not has(command)
+        if not shutil.which(command)
     ]
     if missing:
         sys.exit("\n".join(f"missing: {what}" for what in missing))

@@ -2,10 +2,10 @@
 import os
 import re
 import shutil
-from statistics import median
 
 from measuring import CALLS as OURS
-from measuring import INPUTS, OUT, build_library, complain, has_package, is_built, keep, least_by_key, make_input, make_long_inputs, priority, replaced, said_lines, said_of, start, times_by_key
+from measuring import INPUTS, OUT, Table, build_library, complain, is_built, is_installed, keep, make_input, make_long_inputs, of_programs, priority
+from measuring import replaced, said_lines, said_of, start, times_by_key
 
 RUST = f"{OUT}/best/release/columns"
 SHARED = f"{OUT}/interners/release/interners"
@@ -14,8 +14,6 @@ NAMES = ("zipf", "distinct", "few", "ten", "large", "long")
 ROUNDS = 3
 TIMED = ("encode", "encode_lines", "decode", "merge", "encode_again", "encode_in_parts_1", "encode_in_parts_2", "encode_in_parts_4",
          "private_1", "private_4", "encode_shared_1", "encode_shared_2", "encode_shared_3", "encode_shared_4")
-# How many times as fast as one thread four that encode in parts have to be.
-GOALS = {"ten": "2.70", "large": "2.70", "few": "2.30", "zipf": "1.60", "distinct": "0.87", "long": "0.87"}
 BATCHES = f"{OUT}/batches"
 END = b"\n"
 BATCH_ROUNDS = 15
@@ -37,22 +35,22 @@ assert (texts[codes] == lines).all()
 print(f"encode {elapsed * 1e9 / len(lines):.1f}")
 """
 PANDAS_SIZES = ("", "2000000 20000", "2000000 200000 65536 7", "2000000 200000 65536 35", "1000000 100000 65536 200")
-# The input, what was timed, its name in the table, what it is compared with, and the goal of the ratio.
-ROWS = [
-    ("rows", "64", "batches of 64", "0", None),
-    ("rows", "1024", "batches of 1,024", "0", 1.15),
-    ("rows", "0", "one batch", "encode", 1.2),
-    ("rows", "encode", "encode in Rattle", None, None),
-    ("rows", "encode_lines", "encode_lines in Rattle", None, None),
-    ("distinct", "10000", "100 batches", "0", 1.3),
-    ("distinct", "0", "one batch", None, None),
-]
+# The input, what was timed, its name in the table, and what it is compared with.
+ROWS = (
+    ("rows", "64", "batches of 64", "0"),
+    ("rows", "1024", "batches of 1,024", "0"),
+    ("rows", "0", "one batch", "encode"),
+    ("rows", "encode", "encode in Rattle", None),
+    ("rows", "encode_lines", "encode_lines in Rattle", None),
+    ("distinct", "10000", "100 batches", "0"),
+    ("distinct", "0", "one batch", None),
+)
 
 
 def has_pandas():
     """Installs pandas of the system's Python where it is missing. Says where a column of the table stays empty."""
     words = [PYTHON, "-c", "import pandas"]
-    if is_built("pandas", words) or has_package(["python3-pandas"]) and is_built("pandas", words):
+    if is_built("pandas", words) or is_installed(["python3-pandas"]) and is_built("pandas", words):
         return True
     complain(f"pandas can't be had ({OUT}/pandas.log): it does not stand beside columns")
     return False
@@ -68,43 +66,36 @@ def rounds_of_columns(hashes, path, has_shared, with_pandas):
     for _ in range(ROUNDS):
         yield from map(named, said_lines("ours", [OURS, "columns"], path))
         for name in hashes:
-            yield from said_lines("rust", [RUST, name], path)
+            yield from said_lines(name, [RUST, name], path)
         if has_shared:
-            yield from (line.replace("encode_shared ", "encode_shared_", 1) for line in said_lines("rust", [SHARED, "maps", "columns"], path))
+            yield from (line.replace("encode_shared ", "encode_shared_", 1) for line in said_lines("maps", [SHARED, "maps", "columns"], path))
         if with_pandas:
             yield from said_lines("pandas", [PYTHON, "-c", FACTORIZE], path)
 
 
-def faster(call, ours, least):
-    """How many times as fast as one thread threads are: to the lesser of `encode` and `encode_again`, or to the private work of one."""
-    if call == "private_4":
-        return f"{least['ours', 'private_1'] / ours:>8.2f}"
-    if not call.startswith(("encode_shared", "encode_in_parts")):
-        return ""
-    return f"{min(least['ours', 'encode'], least['ours', 'encode_again']) / ours:>8.2f}"
+def by_one_thread(times, call):
+    """What threads are compared with: `encode` or `encode_again` by one, or the private work of one."""
+    is_by_threads = call.startswith(("encode_shared", "encode_in_parts"))
+    names = ("private_1",) if call == "private_4" else ("encode", "encode_again") if is_by_threads else ()
+    return {name: times["ours", name] for name in names}
 
 
-def print_columns(name, lines):
-    """Of such lines the least of each: ours, Rust's best and pandas, with the ratios of ours to both, and how much faster threads are, with its
-    goal."""
-    least = least_by_key(lines, 2)
+def print_columns(table, name, times, hashes):
+    """The rows of an input."""
     for call in TIMED:
-        ours = least.get(("ours", call))
-        line = f"{name:<10}{call:<18}{'-' if ours is None else format(ours, '.1f'):>10}"
-        for other in (least.get(("rust", call)), least.get(("pandas", "encode" if call.startswith("encode") else call))):
-            ratio = "-" if ours is None or other is None else f"{ours / other:.2f}"
-            line += f"{'-' if other is None else format(other, '.1f'):>10}{ratio:>7}"
-        line += "" if ours is None else faster(call, ours, least)
-        print(line + (f"{GOALS[name]:>7}" if call == "encode_in_parts_4" else ""), flush=True)
+        rust, pandas = of_programs(times, [*hashes, "maps"], call), of_programs(times, ["pandas"], "encode" if call.startswith("encode") else call)
+        ours = times.get(("ours", call))
+        table.row(f"{name}, {call}", ours, rust, pandas, by_one_thread(times, call) if ours else {})
 
 
 def measure_columns(hashes, has_shared):
-    """The table of columns."""
+    """The table of columns. Threads are as many times as fast as one as 1 is of the last ratio."""
     with_pandas = has_pandas()
     make_long_inputs()
-    print(f"{'input':<10}{'call':<18}{'ours':>10}{'rust':>10}{'ratio':>7}{'pandas':>10}{'ratio':>7}{'faster':>8}{'goal':>7}")
+    table = Table("input, call", "rust", "pandas", "one thread")
     for name in NAMES:
-        print_columns(name, keep(f"columns-{name}", rounds_of_columns(hashes, f"{INPUTS}/{name}", has_shared, with_pandas)))
+        lines = keep(f"columns-{name}", rounds_of_columns(hashes, f"{INPUTS}/{name}", has_shared, with_pandas))
+        print_columns(table, name, times_by_key(lines, 2), hashes)
 
 
 def make_codes(name):
@@ -128,20 +119,11 @@ def rounds_of_batches(first):
                 yield line.replace(" 1 ", " ", 1)
 
 
-def print_batches(lines):
-    """Prints the table of batches: the least and the middle of the rounds, the ratio of both to what stands in the last column, and the goal of the
-    ratio of the least."""
-    rounds = times_by_key(lines, 2)
-    names = {(name, what): title for name, what, title, _, _ in ROWS}
-    print(f"{'ns a line':<10}{'what':<24}{'least':>8}{'middle':>8}{'ratio':>8}{'middle':>8}{'goal':>7}  to")
-    for name, what, title, other, goal in ROWS:
-        least, middle = min(rounds[name, what]), median(rounds[name, what])
-        line = f"{name:<10}{title:<24}{least:>8.1f}{middle:>8.1f}"
-        if other is not None:
-            ratio, second = least / min(rounds[name, other]), middle / median(rounds[name, other])
-            line += f"{ratio:>8.2f}{second:>8.2f}{'' if goal is None else f'{goal:.2f}':>7}  {names[name, other]}"
-        print(line)
-
+def print_batches(times):
+    """The table of batches, in nanoseconds a line."""
+    table, names = Table("input, lines", "beside"), {(name, what): title for name, what, title, _ in ROWS}
+    for name, what, title, other in ROWS:
+        table.row(f"{name}, {title}", times[name, what], {names[name, other]: times[name, other]} if other else {})
 
 
 def measure_c():
@@ -152,7 +134,7 @@ def measure_c():
     for name in BATCH_SIZES:
         make_codes(name)
     first = priority()
-    print_batches(keep("c.rounds", rounds_of_batches(first)))
+    print_batches(times_by_key(keep("c.rounds", rounds_of_batches(first)), 2))
     if not has_pandas():
         return
     print(flush=True)

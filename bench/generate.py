@@ -25,37 +25,11 @@ def distinct_words(rng, count, shortest, longest):
     return list(seen)
 
 
-def zipf(rng, count=1_000_000):
-    """So many lines over a tenth as many words, the n-th of which comes about 1/n as often as the first."""
+def zipf(rng, count):
+    """So many lines over a tenth as many words, the n-th of which comes about 1/n as often as the first: new ones up to the end."""
     words = distinct_words(rng, count // 10, 3, 12)
     sums = list(accumulate(1 / rank for rank in range(1, len(words) + 1)))
     return [words[bisect(sums, rng.random() * sums[-1])] for _ in range(count)]
-
-
-def large(rng):
-    """Ten million lines over a million words, which come as those of zipf do: new ones up to the end."""
-    return zipf(rng, 10_000_000)
-
-
-def uniform(rng):
-    """As many lines over as many words as zipf has, in random order."""
-    return shuffled(rng, distinct_words(rng, 100_000, 3, 12), 1_000_000)
-
-
-def distinct(rng):
-    """A million short lines, no two alike."""
-    return [f"{word(rng, 2, 6)}{number}" for number in range(1_000_000)]
-
-
-def long_lines(rng):
-    """200,000 lines of 200 bytes."""
-    return ["".join(rng.choices(LETTERS, k=200)) for _ in range(200_000)]
-
-
-def few(rng):
-    """Two million lines over 10,000 words."""
-    words = distinct_words(rng, 10_000, 4, 10)
-    return rng.choices(words, k=2_000_000)
 
 
 def shuffled(rng, words, count):
@@ -65,44 +39,29 @@ def shuffled(rng, words, count):
     return lines
 
 
-def rows(rng):
-    """Two million lines over 200,000 words, each of which comes."""
-    return shuffled(rng, distinct_words(rng, 200_000, 4, 12), 2_000_000)
-
-
-def mid(rng):
-    """A million lines over 100,000 texts of 35 bytes, in random order."""
-    return shuffled(rng, distinct_words(rng, 100_000, 35, 35), 1_000_000)
-
-
-def wide(rng):
-    """Two million lines over a million texts of 35 bytes, in random order."""
-    return shuffled(rng, distinct_words(rng, 1_000_000, 35, 35), 2_000_000)
-
-
+# The lines of each input.
 INPUTS = {
-    "zipf": zipf,
-    "distinct": distinct,
-    "long": long_lines,
-    "few": few,
-    "mid": mid,
-    "wide": wide,
-    "large": large,
-    "rows": rows,
-    "uniform": uniform,
+    "zipf": lambda rng: zipf(rng, 1_000_000),
+    "distinct": lambda rng: [f"{word(rng, 2, 6)}{number}" for number in range(1_000_000)],
+    "long": lambda rng: ["".join(rng.choices(LETTERS, k=200)) for _ in range(200_000)],
+    "few": lambda rng: rng.choices(distinct_words(rng, 10_000, 4, 10), k=2_000_000),
+    "mid": lambda rng: shuffled(rng, distinct_words(rng, 100_000, 35, 35), 1_000_000),
+    "wide": lambda rng: shuffled(rng, distinct_words(rng, 1_000_000, 35, 35), 2_000_000),
+    "large": lambda rng: zipf(rng, 10_000_000),
+    "rows": lambda rng: shuffled(rng, distinct_words(rng, 200_000, 4, 12), 2_000_000),
+    "uniform": lambda rng: shuffled(rng, distinct_words(rng, 100_000, 3, 12), 1_000_000),
 }
 
 
-def main():
-    folder = Path(sys.argv[1])
-    folder.mkdir(parents=True, exist_ok=True)
-    for name in sys.argv[2:] or list(INPUTS)[:6]:
+def main(folder, *names):
+    Path(folder).mkdir(parents=True, exist_ok=True)
+    for name in names or list(INPUTS)[:6]:
         lines = INPUTS[name](random.Random(f"{SEED} {name}"))
         # The tenth comes last: what is cut short has none, and is made again.
         for suffix, part in (("", lines), (".tenth", lines[: len(lines) // 10])):
-            written = folder / f"{name}{suffix}.part"
+            written = Path(folder, f"{name}{suffix}.part")
             written.write_text("\n".join(part) + "\n", encoding="ascii")
-            written.rename(folder / f"{name}{suffix}")
+            written.rename(Path(folder, f"{name}{suffix}"))
 
 
-main()
+main(*sys.argv[1:])

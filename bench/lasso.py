@@ -11,8 +11,8 @@ import time
 from calls import STANDARD as STANDARD_CALLS
 from calls import build_standard
 from measuring import CALLS as OURS
-from measuring import INPUTS, LINES, NAMES, OUT, count_lines, has_package, is_built, is_built_over_crates, keep, least_by_key, least_of_turns
-from measuring import output_of, peak, priority, processor_seconds, reordered, rustc, said_lines, said_of, start, test_alike
+from measuring import INPUTS, LINES, NAMES, OUT, count_lines, in_turns, is_built, is_built_over_crates, is_installed, keep, output_of, peak, priority
+from measuring import processor_seconds, read, reordered, rustc, said_lines, said_of, start, test_alike, times_by_key
 from programs import STANDARD, without_bytes
 from programs import build_standard as build_lines
 from threads import STANDARD as STANDARD_SHARED
@@ -46,40 +46,37 @@ ALL_HASHERS = ("default", *HASHERS)
 def lines_of(folder, name):
     """The lines of a file, or none if it does not exist, as after a run that was cut short."""
     path = os.path.join(folder, name)
-    if not os.path.exists(path):
-        return []
-    with open(path, encoding="utf-8") as source:
-        return source.read().splitlines()
+    return read(path).splitlines() if os.path.exists(path) else []
+
+
+def ratio(times, rival, key_of):
+    """The least of ours to the least of a rival's, by the key of a program's figures."""
+    return min(times[key_of("ours")]) / min(min(times[key_of(program)]) for program in RIVALS[rival])
 
 
 class Figures:
     """Ratios of ours to a rival."""
 
     def __init__(self, folder):
-        self.calls = least_by_key(lines_of(folder, "lasso-calls"), 4)
-        self.threads = least_by_key(lines_of(folder, "lasso-threads"), 4)
-        self.lines = least_by_key(lines_of(folder, "lasso-lines"), 3)
-        self.occasion = lines_of(folder, "lasso-occasion")
+        self.calls = times_by_key(lines_of(folder, "lasso-calls"), 4)
+        self.threads = times_by_key(lines_of(folder, "lasso-threads"), 4)
+        self.lines = times_by_key(lines_of(folder, "lasso-lines"), 3)
 
     def call(self, count, size, call, rival):
         """Of the least time of a single call."""
-        def time(program):
-            return self.calls[program, str(count), str(size), call]
-
-        return time("ours") / min(map(time, RIVALS[rival]))
+        return ratio(self.calls, rival, lambda program: (program, str(count), str(size), call))
 
     def hasher(self, count, size, call):
         """The hasher with which lasso's call takes least."""
-        return min(HASHERS, key=lambda hasher: self.calls[hasher, str(count), str(size), call])
+        return min(HASHERS, key=lambda hasher: min(self.calls[hasher, str(count), str(size), call]))
 
     def thread(self, name, ours, call, threads, rival):
         """Of the least time of a call by each of the threads."""
-        least = min(self.threads[name, program, call, str(threads)] for program in RIVALS[rival])
-        return self.threads[name, "ours", ours, str(threads)] / least
+        return ratio(self.threads, rival, lambda program: (name, program, ours if program == "ours" else call, str(threads)))
 
     def line(self, name, what, rival):
         """Of the least processor seconds, or of peak memory, over an input."""
-        return self.lines[name, "ours", what] / min(self.lines[name, program, what] for program in RIVALS[rival])
+        return ratio(self.lines, rival, lambda program: (name, program, what))
 
     def inputs(self):
         """The inputs whose lines were numbered, and those that threads interned, in their order."""
@@ -95,9 +92,9 @@ def head(*cells):
     print("|" + "---|" * len(cells))
 
 
-def all_rivals(ratio):
+def all_rivals(ratio_to):
     """The ratio to each rival."""
-    return ", ".join(f"{ratio(rival):.2f}" for rival in RIVALS)
+    return ", ".join(f"{ratio_to(rival):.2f}" for rival in RIVALS)
 
 
 def print_calls(figures):
@@ -180,24 +177,22 @@ def programs():
 
 
 def figures_of_lines(first):
-    """The least seconds and the peak of each program over each input: lines of an input, a program, `seconds` or `peak`, and the number."""
+    """The seconds and the peak of each program over each input: lines of an input, a program, `seconds` or `peak`, and the number."""
     for name in (*NAMES, *REAL_NAMES):
         path = f"{INPUTS}/{name}"
-        least = least_of_turns(programs(), LINE_ROUNDS, lambda words: processor_seconds([*first, *words], path))
-        yield from (f"{name} {program} seconds {took:.6f}" for program, took in least.items())
+        took = in_turns(programs(), LINE_ROUNDS, lambda words: processor_seconds([*first, *words], path))
+        yield from (f"{name} {program} seconds {one:.6f}" for program, times in took.items() for one in times)
         yield from (f"{name} {program} peak {peak(words, path)}" for program, words in programs().items())
 
 
 def load():
     """The load of the machine in the last minutes."""
-    with open("/proc/loadavg", encoding="ascii") as source:
-        return " ".join(source.read().split()[:3])
+    return " ".join(f"{one:.2f}" for one in os.getloadavg())
 
 
 def occasion():
     """The date, the machine and the load, which the tables and pictures are of."""
-    with open("/proc/cpuinfo", encoding="utf-8") as source:
-        model = re.search(r"^model name\s*: (.*)", source.read(), re.MULTILINE)
+    model = re.search(r"^model name\s*: (.*)", read("/proc/cpuinfo"), re.MULTILINE)
     yield time.strftime("%-d %B %Y, %H:%M UTC", time.gmtime())
     yield model.group(1) if model else ""
     yield f"{os.cpu_count()} processors, load {load()}"
@@ -241,6 +236,6 @@ def measure_lasso():
 def draw_plots():
     """Draws the pictures of the last run."""
     python = "/usr/bin/python3"
-    if not is_built("plots", [python, "-c", "import matplotlib"]) and not has_package(["python3-matplotlib"]):
-        sys.exit(f"matplotlib can't be had ({OUT}/apt.log)")
+    if not is_built("plots", [python, "-c", "import matplotlib"]) and not is_installed(["python3-matplotlib"]):
+        sys.exit("matplotlib can't be had")
     start([python, "bench/plots.py", OUT, "bench/plots"])

@@ -1,15 +1,15 @@
-"""What the tables of bench/run share: programs that are built, packages of the system, inputs, runs in turn, and what a run takes. Paths are from
-the top of the repository, in which bench/run runs."""
+"""What the tables of bench/run share: programs that are built, inputs, runs in turn, what a run takes, and the form of a table. Paths are from the
+top of the repository, in which bench/run runs."""
 import glob
 import os
 import re
 import subprocess
 import sys
 import time
+from statistics import median
 
-HERE = os.path.dirname(os.path.dirname(os.path.abspath(__file__)))
-sys.path.append(f"{HERE}/trials")
-from common import program_of, replaced, said_of  # noqa: E402 pylint: disable=wrong-import-position
+sys.path.append(f"{os.path.dirname(os.path.dirname(os.path.abspath(__file__)))}/trials")
+from common import HERE, ended, is_installed, program_of, ran, read, replaced, said_of, write  # noqa: E402,F401 pylint: disable=wrong-import-position
 
 OUT = "bench/out"
 INPUTS = f"{OUT}/inputs"
@@ -32,32 +32,25 @@ def complain(*words):
 def keep(name, lines):
     """Writes the lines to a file that stays until the next run, and returns them."""
     lines = list(lines)
-    with open(f"{OUT}/{name}", "w", encoding="utf-8") as target:
-        target.writelines(f"{line}\n" for line in lines)
+    write(f"{OUT}/{name}", "".join(f"{line}\n" for line in lines))
     return lines
 
 
-def is_built(log, words, **options):
+def is_built(log, words):
     """Whether a command ends well; what it says is in a file of this name."""
-    with open(f"{OUT}/{log}.log", "w", encoding="utf-8") as said:
-        return subprocess.run(words, stdin=subprocess.DEVNULL, stdout=said, stderr=subprocess.STDOUT, check=False, **options).returncode == 0
+    status, said = ran(words)
+    write(f"{OUT}/{log}.log", said)
+    return status == 0
 
 
 def end_with(log):
     """Shows what a command said, and ends."""
-    with open(f"{OUT}/{log}.log", encoding="utf-8", errors="replace") as said:
-        sys.exit(said.read())
+    sys.exit(read(f"{OUT}/{log}.log", "replace"))
 
 
 def build_library():
     """Proves and builds the library for C."""
-    if not is_built("c", ["make", "-s", "c"]):
-        end_with("c")
-
-
-def has_package(package):
-    """Installs a package of the system. Whether that went well."""
-    return is_built("apt", ["apt-get", "update"]) and is_built("apt", ["apt-get", "install", "-y", *package])
+    said_of(["make", "-s", "c"])
 
 
 def rustc(program, source, *words):
@@ -69,7 +62,7 @@ def is_built_over_crates(baseline, *crates, words=()):
     """Installs the system's packages of these Rust crates where one is missing, and builds a baseline over them. Whether that can be done."""
     missing = [f"librust-{crate}-dev" for crate in crates if not glob.glob(f"{CRATES}/{crate}-[0-9]*")]
     if missing:
-        has_package(missing)
+        is_installed(missing)
     system = ["--config", 'source.crates-io.replace-with="system"', "--config", f'source.system.directory="{CRATES}"']
     cargo = ["cargo", "build", "--release", "--offline", "--quiet", "--manifest-path", f"bench/baseline/{baseline}/Cargo.toml"]
     return is_built(baseline, [*cargo, "--target-dir", f"{OUT}/{baseline}", *system, *words])
@@ -89,8 +82,7 @@ def priority():
     if is_built("chrt", [*words, "true"]):
         print(f"what is timed runs at real-time priority ({' '.join(words)})", flush=True)
         return words
-    with open(f"{OUT}/chrt.log", encoding="utf-8") as said:
-        print(f"what is timed runs at normal priority: chrt -f 10 is not allowed here ({said.readline().strip()})", flush=True)
+    print(f"what is timed runs at normal priority: chrt -f 10 is not allowed here ({read(f'{OUT}/chrt.log').strip()})", flush=True)
     return []
 
 
@@ -109,11 +101,8 @@ def make_input(name):
 def make_long_inputs():
     """Makes two inputs of 10,000,000 lines: `zipf` ten times, and `large`, to whose end there are new words."""
     if not os.path.exists(f"{INPUTS}/ten"):
-        with open(f"{INPUTS}/zipf", "rb") as source, open(f"{INPUTS}/ten.part", "wb") as target:
-            whole = source.read()
-            for _ in range(10):
-                target.write(whole)
-        os.rename(f"{INPUTS}/ten.part", f"{INPUTS}/ten")
+        with open(f"{INPUTS}/zipf", "rb") as source, replaced(f"{INPUTS}/ten", mode="wb") as target:
+            target.write(source.read() * 10)
     make_input("large")
 
 
@@ -160,28 +149,16 @@ def processor_seconds(words, path):
     """The seconds of a processor, user's and system's, that a command takes over an input."""
     with open(path, "rb") as source:
         started = subprocess.Popen(words, stdin=source, stdout=subprocess.DEVNULL)
-    _, status, used = os.wait4(started.pid, 0)
-    started.returncode = os.waitstatus_to_exitcode(status)
+    used = ended(started)
     if started.returncode:
         sys.exit(f"{words[0]} ended with {started.returncode}")
     return used.ru_utime + used.ru_stime
 
 
-def least_of_turns(programs, rounds, work):
-    """The least of what work says of each program's words; the programs take turns."""
-    least = {}
-    for _ in range(rounds):
-        for name, words in programs.items():
-            took = work(words)
-            least[name] = min(took, least.get(name, took))
-    return least
-
-
 def peak(words, path):
     """The most memory that a program takes at once for an input, in KiB."""
     start(["/usr/bin/time", "-f", "%M", "-o", f"{OUT}/peak", *words], path, stdout=subprocess.DEVNULL)
-    with open(f"{OUT}/peak", encoding="utf-8") as found:
-        return int(found.read())
+    return int(read(f"{OUT}/peak"))
 
 
 def instructions(words, path):
@@ -189,6 +166,15 @@ def instructions(words, path):
     valgrind = ["valgrind", "--tool=callgrind", "--callgrind-out-file=/dev/null"]
     said = start([*valgrind, *words], path, stdout=subprocess.DEVNULL, stderr=subprocess.PIPE).stderr.decode()
     return int(COLLECTED.search(said).group(1)) / count_lines(path)
+
+
+def in_turns(programs, rounds, work):
+    """All that work says of each program's words; the programs take turns."""
+    found = {name: [] for name in programs}
+    for _ in range(rounds):
+        for name, words in programs.items():
+            found[name].append(work(words))
+    return found
 
 
 def test_alike(outputs, path):
@@ -201,21 +187,42 @@ def test_alike(outputs, path):
             sys.exit(f"{name} and {first[0]} write different lines for {path}")
 
 
-def least_by_key(lines, width):
-    """The least value by the words before it, of lines of so many words and a value."""
-    least = {}
-    for line in lines:
-        *words, value = line.split()
-        assert len(words) == width, line
-        least[tuple(words)] = min(float(value), least.get(tuple(words), float("inf")))
-    return least
-
-
 def times_by_key(lines, width):
-    """All values by the words before them."""
+    """All values by the words before them, of lines of so many words and a value."""
     times = {}
     for line in lines:
         *words, value = line.split()
         assert len(words) == width, line
         times.setdefault(tuple(words), []).append(float(value))
     return times
+
+
+def of_programs(times, programs, *words):
+    """Of each of the programs that has some its values by these words, which follow its name."""
+    found = {program: times.get((program, *map(str, words))) for program in programs}
+    return {program: values for program, values in found.items() if values}
+
+
+class Table:
+    """A table. A row has what it is of and the least of ours; and of each rival the least, its program, the ratio of ours to it, and that of the
+    middle ones. A rival may be several programs, of which the fastest counts. The goals of ratios are in the pages of this folder."""
+
+    def __init__(self, what, *rivals):
+        print(f"{what:<36}{'ours':>12}" + "".join(f"{rival:>22}{'ratio':>8}{'middle':>8}" for rival in rivals), flush=True)
+
+    def row(self, title, ours, *rivals):
+        """Prints a row: the values of ours, if there are some, and of each rival those of its programs."""
+        print((f"{title:<36}{shown(min(ours)) if ours else '-':>12}" + "".join(compared(ours, programs) for programs in rivals)).rstrip(), flush=True)
+
+
+def shown(value):
+    """A value in three digits, or all of a whole number."""
+    return f"{value:.0f}" if value >= 1000 else f"{value:.3g}"
+
+
+def compared(ours, programs):
+    """A rival's cells in a row."""
+    if not ours or not programs:
+        return f"{'-':>22}{'-':>8}{'-':>8}"
+    name, least = min(((name, min(values)) for name, values in programs.items()), key=lambda pair: pair[1])
+    return f"{f'{name} {shown(least)}':>22}{min(ours) / least:>8.2f}{median(ours) / min(map(median, programs.values())):>8.2f}"

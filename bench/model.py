@@ -4,6 +4,7 @@ NAME=NUMBER set other ones, as `model.py MACHINES=20 INTERN=1e-7`."""
 
 import sys
 from math import ceil, e, log, sqrt
+from types import SimpleNamespace
 
 ASSUMED = {
     "MACHINES": (100, "machines"),
@@ -21,84 +22,43 @@ ASSUMED = {
 DISTINCT = (10**5, 10**6, 10**7, 10**8, 10**9)
 
 
-class Model:
-    """The worst case: each part has each of the distinct lines."""
+def sizes(it, distinct):
+    """What travels to the merges and what a merge holds; and the number of machines for which work / machines + its merge is least, if one machine
+    merges all, and by a tree of the best fan, e. In a tree too each dictionary but one travels once for each merge."""
+    dictionary = distinct * it.LINE
+    # A merge has the interner of what is merged, that of a dictionary that comes in, and a table from old codes to new ones.
+    memory = distinct * (2 * (it.LINE + it.ENTRY) + 4)
+    work = max(it.INPUT / it.READ, it.INPUT / it.LINE / it.PROCESSES * it.ENCODE)
+    one = distinct * it.INTERN
+    return [*map(in_words, (dictionary, (it.MACHINES - 1) * dictionary, memory)), *(f"{most:,.0f}" for most in (sqrt(work / one), work / (one * e)))]
 
-    def __init__(self, distinct, assumed):
-        self.distinct = distinct
-        for name, number in assumed.items():
-            setattr(self, name.lower(), number)
 
-    def dictionary(self):
-        return self.distinct * self.line
+def steps(it, distinct):
+    """The seconds of each step in the worst case, in which each part has each of the distinct lines."""
+    interning = lambda dictionaries: dictionaries * distinct * it.INTERN
+    moving = lambda dictionaries: dictionaries * distinct * it.LINE / it.NETWORK
 
-    def travel(self):
-        """Bytes to the merges. In a tree too, each dictionary but one travels once for each merge, and there is one merge's result the fewer."""
-        return (self.machines - 1) * self.dictionary()
-
-    def encoding(self, machines):
+    def encoding(machines):
         """Reading and encoding, whichever takes longer, and merging what the processes of one machine have."""
-        reading = self.input / machines / self.read
-        working = self.input / self.line / machines / self.processes * self.encode
-        return max(reading, working) + self.interning(self.processes)
+        return max(it.INPUT / machines / it.READ, it.INPUT / it.LINE / machines / it.PROCESSES * it.ENCODE) + interning(it.PROCESSES)
 
-    def interning(self, dictionaries):
-        return dictionaries * self.distinct * self.intern
-
-    def moving(self, dictionaries):
-        return dictionaries * self.dictionary() / self.network
-
-    def star(self):
-        """One machine merges all, and sends the result to each: merging, during which the dictionaries come in, and sending."""
-        return max(self.interning(self.machines), self.moving(self.machines - 1)), self.moving(self.machines - 1)
-
-    def tree(self):
-        """The same level by level, FAN dictionaries a merge."""
-        levels = ceil(log(self.machines, self.fan) - 1e-9)
-        return levels * max(self.interning(self.fan), self.moving(self.fan - 1)), levels * self.moving(self.fan - 1)
-
-    def recoding(self):
-        """Each process reads the dictionary and its own column's, and rewrites its codes."""
-        return self.interning(2) + self.input / self.line / self.machines / self.processes * self.code
-
-    def whole(self, way):
-        return self.encoding(self.machines) + sum(way) + self.recoding()
-
-    def memory(self):
-        """Bytes of a merge: the interner of what is merged and that of a dictionary that comes in, and a table from old codes to new ones."""
-        return self.distinct * (2 * (self.line + self.entry) + 4)
-
-    def work(self):
-        """The seconds that one machine takes to read and encode the input."""
-        return max(self.input / self.read, self.input / self.line / self.processes * self.encode)
-
-    def most_machines(self):
-        """Where work / machines + its merge is least: for one machine that merges all, and for a tree of the best fan, e."""
-        one = self.distinct * self.intern
-        return sqrt(self.work() / one), self.work() / (one * e)
+    # One machine merges all, during which the dictionaries come in, and sends the result to each; or level by level, FAN dictionaries a merge.
+    star = max(interning(it.MACHINES), moving(it.MACHINES - 1)), moving(it.MACHINES - 1)
+    levels = ceil(log(it.MACHINES, it.FAN) - 1e-9)
+    tree = levels * max(interning(it.FAN), moving(it.FAN - 1)), levels * moving(it.FAN - 1)
+    # Each process reads the dictionary and its own column's, and rewrites its codes.
+    recoding = interning(2) + it.INPUT / it.LINE / it.MACHINES / it.PROCESSES * it.CODE
+    whole = lambda way: encoding(it.MACHINES) + sum(way) + recoding
+    found = (encoding(it.MACHINES), *star, recoding, whole(star), *tree, whole(tree), encoding(1))
+    return [f"{number:.0f}" if number >= 10 else f"{number:.1f}" for number in found]
 
 
-def size(number):
-    """Bytes in words, two digits."""
+def in_words(number):
+    """Bytes in words, three digits."""
     for unit, scale in (("TB", 1e12), ("GB", 1e9), ("MB", 1e6)):
         if number >= scale:
             return f"{number / scale:.3g} {unit}"
     return f"{number:.0f} bytes"
-
-
-def read_words(words):
-    assumed = {name: number for name, (number, _) in ASSUMED.items()}
-    for word in words:
-        name, found, number = word.partition("=")
-        if not found or name not in assumed:
-            sys.exit("usage: model.py [NAME=NUMBER..], with the names that it prints")
-        assumed[name] = float(number)
-    return assumed
-
-
-def seconds(number):
-    """Seconds, to the second above 10."""
-    return f"{number:.0f}" if number >= 10 else f"{number:.1f}"
 
 
 def print_table(head, rows):
@@ -108,19 +68,17 @@ def print_table(head, rows):
     print()
 
 
-def main():
-    assumed = read_words(sys.argv[1:])
-    print_table(["Assumed", "", ""], [[f"`{name}`", f"{assumed[name]:g}", meaning] for name, (_, meaning) in ASSUMED.items()])
-    models = [Model(distinct, assumed) for distinct in DISTINCT]
-    print_table(
-        ["Distinct lines", "One dictionary", "Travels to merges", "Memory of a merge", "Most machines, one merge", "Most machines, tree"],
-        [[f"{model.distinct:,}", size(model.dictionary()), size(model.travel()), size(model.memory()),
-          *(f"{most:,.0f}" for most in model.most_machines())] for model in models])
-    print_table(
-        ["Distinct lines", "encode", "one merge", "send", "recode", "all", "tree: merges", "send", "all", "one machine alone"],
-        [[f"{model.distinct:,}", *map(seconds, (
-            model.encoding(model.machines), *model.star(), model.recoding(), model.whole(model.star()),
-            *model.tree(), model.whole(model.tree()), model.encoding(1)))] for model in models])
+def main(words):
+    given = [word.partition("=")[::2] for word in words]
+    if not {name for name, _ in given} <= set(ASSUMED):
+        sys.exit("usage: model.py [NAME=NUMBER..], with the names that it prints")
+    assumed = SimpleNamespace(**{**{name: number for name, (number, _) in ASSUMED.items()}, **{name: float(number) for name, number in given}})
+    print_table(["Assumed", "", ""], [[f"`{name}`", f"{getattr(assumed, name):g}", meaning] for name, (_, meaning) in ASSUMED.items()])
+    for head, work in (
+        (["One dictionary", "Travels to merges", "Memory of a merge", "Most machines, one merge", "Most machines, tree"], sizes),
+        (["encode", "one merge", "send", "recode", "all", "tree: merges", "send", "all", "one machine alone"], steps),
+    ):
+        print_table(["Distinct lines", *head], [[f"{distinct:,}", *work(assumed, distinct)] for distinct in DISTINCT])
 
 
-main()
+main(sys.argv[1:])

@@ -31,15 +31,18 @@ class Ran:
     is_answered: bool = True  # each answer to what was typed came before more was typed
 
 
-def build_shim(here, room):
-    """Builds cases/shim.c in the folder, and returns the file."""
-    shim = os.path.join(room, "shim.so")
-    words = ["cc", "-O2", "-Wall", "-D_GNU_SOURCE", "-shared", "-fPIC", "-o", shim, os.path.join(here, "shim.c"), "-ldl", "-pthread"]
-    try:
-        subprocess.run(words, check=True)
-    except (FileNotFoundError, subprocess.CalledProcessError):
-        raise SystemExit("cases/run needs a C compiler with the name cc that can build cases/shim.c") from None
-    return shim
+def terminal():
+    """A terminal that changes no bytes: our end, and that of the program."""
+    ours, theirs = pty.openpty()
+    tty.setraw(theirs)
+    return ours, theirs
+
+
+def pass_on_lines(theirs):
+    """Has a terminal pass on lines, and take Ctrl-D for the end."""
+    modes = tty.tcgetattr(theirs)
+    modes[tty.LFLAG] |= tty.ICANON
+    tty.tcsetattr(theirs, tty.TCSANOW, modes)
 
 
 class Streams:
@@ -53,11 +56,9 @@ class Streams:
         self.given = [self.stdin(case), self.stdout(case), self.of("2", case, "said")]
 
     def terminal(self, number):
-        """A terminal that changes no bytes, as a descriptor of the program."""
-        master, slave = pty.openpty()
-        tty.setraw(slave)
-        self.masters[number] = master
-        return slave
+        """A terminal as a descriptor of the program."""
+        self.masters[number], theirs = terminal()
+        return theirs
 
     def file(self, name, content=b""):
         """A new file of the room, open to read and write, with this content."""
@@ -81,12 +82,10 @@ class Streams:
         content = b"" if case.input == CLOSED else case.input.encode() if isinstance(case.input, str) else case.input
         if "0" not in case.terminals:
             return self.file("input", content)
-        slave = self.terminal("0")
-        modes = tty.tcgetattr(slave)
-        modes[tty.LFLAG] |= tty.ICANON
-        tty.tcsetattr(slave, tty.TCSANOW, modes)
+        theirs = self.terminal("0")
+        pass_on_lines(theirs)
         os.write(self.masters["0"], content + b"\x04")
-        return slave
+        return theirs
 
     def stdout(self, case):
         if case.into == FULL:

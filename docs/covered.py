@@ -10,76 +10,31 @@
 
 Public functions are those of docs/contracts.
 """
-import importlib.machinery
-import importlib.util
 import os
 import re
 import sys
 
 HERE = os.path.dirname(os.path.dirname(os.path.abspath(__file__)))
+sys.path[1:1] = [f"{HERE}/mutants", f"{HERE}/trials"]
+import edits  # pylint: disable=wrong-import-position
+from common import module_in, read, write  # pylint: disable=wrong-import-position
+
+contracts = module_in(f"{HERE}/docs/contracts", "contracts")
+sources = contracts.sources
+
 UNTRIED = "docs/untried.txt"
 FRONT = "crates/lasso/src/lib.rt"
 FRONT_SPECS = "crates/lasso/specs/Lib.antt"
 
 PASSED_ON = re.compile(r"^pub use (lasso_\w+)::(\{[^}]*\}|\w+)", re.MULTILINE)
 SPECS_PASSED_ON = re.compile(r"^pub use Rattle\.([\w.]+)", re.MULTILINE)
-IMPORT = re.compile(r"^ *ghost use Rattle\.(lasso\w*\.[\w.]+?)(?:\.\{([^}]*)\})?(?: as (\w+))?;", re.MULTILINE)
 WORD = re.compile(r"[\w']+")
-
-
-def load(path, name):
-    """The module in a file."""
-    loader = importlib.machinery.SourceFileLoader(name, os.path.join(HERE, path))
-    module = importlib.util.module_from_spec(importlib.util.spec_from_loader(name, loader))
-    loader.exec_module(module)
-    return module
-
-
-sys.path.insert(0, os.path.join(HERE, "mutants"))
-contracts = load("docs/contracts", "contracts")
-edits = load("mutants/edits.py", "edits")
-
-
-class Function:
-    """A function of a crate's code: where it is, its title, its clauses' texts, and its body or None."""
-
-    def __init__(self, crate, path, text, match, item, hidden):
-        self.crate, self.path, self.start = crate, path, match.start()
-        self.name = match.group(2)
-        self.owner, self.trait = contracts.names_of(item) if item else (None, None)
-        self.is_of_trait = bool(item) and item.group(1) == "trait"
-        is_hidden = bool(item) and contracts.is_hidden(item, hidden)
-        self.call = None if is_hidden else contracts.call_of_function(text, match, item)
-        parts = list(contracts.blocks(text, match.end()))
-        self.clauses = [words for kind, _, words in parts if kind]
-        self.body = next((words for kind, _, words in parts if not kind), None)
-
-    def line(self):
-        """How docs/untried.txt names it."""
-        return f"{self.crate} {self.path.split('/', 2)[2]} {self.call.title.replace('`', '')}"
-
-    def is_law(self):
-        """Whether it has no code."""
-        return self.body is not None and not self.body.strip()
-
-
-def functions_of_crate(root, crate):
-    """The functions of a crate's code, without tests."""
-    paths = contracts.code_files(root, crate)
-    texts = [contracts.read(root, path) for path in paths]
-    hidden = contracts.hidden_names(texts)
-    for path, text in zip(paths, texts):
-        items = list(contracts.ITEM.finditer(text))
-        for match in contracts.FUNCTION.finditer(text):
-            item = next((item for item in items if item.start() < match.start() < item.end()), None)
-            yield Function(crate, path, text, match, item, hidden)
 
 
 def changed_by(root, edit):
     """Where in its file the functions are that an edit names, or that it changes first."""
-    with open(os.path.join(root, "crates", edit.crate, edit.file), encoding="utf-8") as source:
-        text = source.read()
-    found = list(edits.functions_of(os.path.join(root, "crates", edit.crate), edit.file, text))
+    text = read(f"{root}/crates/{edit.crate}/{edit.file}")
+    found = list(edits.functions_of(f"{root}/crates/{edit.crate}", edit.file, text))
     if edit.function:
         named, _ = edits.function_and_closure(edit.function.removeprefix(f"{edit.crate}::"))
         return [start for start, path in found if re.fullmatch(path, named)]
@@ -93,27 +48,27 @@ def tried(root):
     found = set()
     for edit in edits.every_edit():
         if not isinstance(edit, edits.Unfit) and edit.file.startswith("src/"):
-            path = f"crates/{edit.crate}/{edit.file}"
-            found |= {(path, start) for start in changed_by(root, edit)}
+            found |= {(f"crates/{edit.crate}/{edit.file}", start) for start in changed_by(root, edit)}
     return found
 
 
 def untried(root):
     """The public functions with an `ensures` that no mutant is of, as docs/untried.txt names them."""
-    every = [function for crate in contracts.crates(root) for function in functions_of_crate(root, crate)]
+    every = [found for crate in sources.crates(root) for found in contracts.functions(root, crate)]
     places = tried(root)
-    of_traits = {(each.trait, each.name) for each in every if (each.path, each.start) in places}
-    for each in every:
-        if not each.call or not each.call.ensures or each.is_law() or (each.path, each.start) in places:
-            continue
-        if not (each.is_of_trait and each.body is None and (each.owner, each.name) in of_traits):
-            yield each.line()
+    of_traits = {(sources.without_parameters(item.trait), call.name) for file, item, call, _ in every if (file, call.start) in places}
+    for file, item, call, is_call in every:
+        is_law = call.body is not None and not call.body.strip()
+        is_by_impl = item.kind == "trait" and call.body is None and (item.name, call.name) in of_traits
+        if is_call and call.ensures() and not is_law and not is_by_impl and (file, call.start) not in places:
+            _, crate, path = file.split("/", 2)
+            yield f"{crate} {path} {contracts.title_of(item, call).replace('`', '')}"
 
 
 def mutant_faults(root):
     """The functions that lack a mutant, and the lines of docs/untried.txt that have to go."""
-    path = os.path.join(root, UNTRIED)
-    listed = [line for line in contracts.read(root, UNTRIED).splitlines() if line and not line.startswith("#")] if os.path.exists(path) else []
+    text = read(f"{root}/{UNTRIED}") if os.path.exists(f"{root}/{UNTRIED}") else ""
+    listed = [line for line in text.splitlines() if line and not line.startswith("#")]
     lacking = list(untried(root))
     for line in lacking:
         if line not in listed:
@@ -123,18 +78,9 @@ def mutant_faults(root):
             yield f"{UNTRIED}: has a mutant, or does not exist, or is there twice: {line}"
 
 
-def imports_of(text):
-    """The module that each name comes from which a file imports from specs of the crates here."""
-    found = {}
-    for module, names, alias in IMPORT.findall(text):
-        for name in (names or alias or module.rsplit(".", 1)[-1]).split(","):
-            found[name.split(" as ")[-1].strip()] = module
-    return found
-
-
 def modules_passed_on(root):
     """The modules of other crates that `lasso` names, as `lasso_parts/src/arena`."""
-    for crate, names in PASSED_ON.findall(contracts.read(root, FRONT)):
+    for crate, names in PASSED_ON.findall(read(f"{root}/{FRONT}")):
         for name in WORD.findall(names):
             yield f"crates/{crate}/src/{name}"
 
@@ -143,19 +89,17 @@ def passing_faults(root):
     """The modules of definitions that public clauses cite, and that `lasso` doesn't pass on."""
     if not os.path.exists(os.path.join(root, FRONT)):
         return
-    specs = SPECS_PASSED_ON.findall(contracts.read(root, FRONT_SPECS))
+    specs = SPECS_PASSED_ON.findall(read(f"{root}/{FRONT_SPECS}"))
     named = tuple(f"{module}{end}" for module in modules_passed_on(root) for end in (".rt", "/"))
     told = set()
-    for crate in contracts.crates(root):
-        for each in functions_of_crate(root, crate):
-            if not each.call or not each.path.startswith(named):
-                continue
-            imports = imports_of(contracts.read(root, each.path))
-            for word in WORD.findall(" ".join(each.clauses)):
-                module = imports.get(word, "")
-                if module and module not in told and not any(f"{module}.".startswith(f"{spec}.") for spec in specs):
-                    told.add(module)
-                    yield f"{FRONT_SPECS}: does not pass on {module}: {each.call.title} cites {word}"
+    public = [found for crate in sources.crates(root) for found in contracts.functions(root, crate) if found[3] and found[0].startswith(named)]
+    for file, item, call, _ in public:
+        imports = sources.imports(read(f"{root}/{file}"))
+        for word in WORD.findall(" ".join(clause.fact for clause in call.clauses)):
+            name = imports.get(word, "")
+            if name.startswith("lasso") and name not in told and not any(f"{name}.".startswith(f"{spec}.") for spec in specs):
+                told.add(name)
+                yield f"{FRONT_SPECS}: does not pass on {name}: {contracts.title_of(item, call)} cites {word}"
 
 
 def faults(root):
@@ -223,10 +167,10 @@ def try_rules(root):
     """What the rules say of a small repository in this folder, where nothing is wrong, and what they don't say of each fault there."""
     for change in (None, *CHANGES):
         for path, text in SMALL.items():
-            contracts.write(root, path, text)
+            write(f"{root}/{path}", text)
         if change:
             path, old, new, wanted = change
-            contracts.write(root, path, SMALL[path].replace(old, new))
+            write(f"{root}/{path}", SMALL[path].replace(old, new))
         told = list(faults(root))
         if change and not (told and all(wanted in fault for fault in told)) or told and not change:
             yield f"of {change} the rules on code say {told}"

@@ -2,16 +2,13 @@
 import contextlib
 import enum
 import glob
-import importlib.machinery
-import importlib.util
 import os
 import shutil
-import subprocess
-import sys
 import tempfile
 from dataclasses import dataclass
 
 from edits import HERE, Edit, Unfit, of_heir, places, proof_files
+from common import copy_sources, listed_files, module_in, read, write
 
 
 def link(source, target):
@@ -33,12 +30,10 @@ def give_kept(crate, folder):
 def copy_of_tree():
     """A folder with the files of the tree and the libraries that were built in it, which goes afterwards."""
     with tempfile.TemporaryDirectory() as copy:
-        listed = subprocess.run(["git", "ls-files", "-z", "--cached", "--others", "--exclude-standard"], cwd=HERE, capture_output=True, check=True)
-        for name in listed.stdout.decode().split("\0"):
-            path, target = os.path.join(HERE, name), os.path.join(copy, name)
-            if os.path.isfile(path):
-                os.makedirs(os.path.dirname(target), exist_ok=True)
-                shutil.copy2(path, target)
+        for name in listed_files():
+            if os.path.isfile(f"{HERE}/{name}"):
+                os.makedirs(os.path.dirname(f"{copy}/{name}"), exist_ok=True)
+                shutil.copy2(f"{HERE}/{name}", f"{copy}/{name}")
         copy_libraries(HERE, copy)
         yield copy
 
@@ -48,11 +43,7 @@ def copy_of_room(room):
     """A folder with the sources of the room and the libraries that `rt ci` built in it, in which one crate can be tried beside others. It goes afterwards."""
     stamp_libraries(room)
     with tempfile.TemporaryDirectory() as copy:
-        for name in ("HANDLES", "crates.txt"):
-            shutil.copy2(f"{room}/{name}", copy)
-        for part in ("src", "specs", "proofs"):
-            for path in glob.glob(f"{glob.escape(room)}/crates/*/{part}"):
-                shutil.copytree(path, os.path.join(copy, os.path.relpath(path, room)))
+        copy_sources(room, copy)
         copy_libraries(room, copy)
         yield copy
 
@@ -64,24 +55,15 @@ def copy_libraries(tree, copy):
         shutil.copytree(built, os.path.join(copy, os.path.relpath(built, tree)), copy_function=link)
 
 
-def rt_library():
-    """The module of rt that knows the crates of a tree, from the folder of the command."""
-    folder = os.path.dirname(os.path.realpath(shutil.which("rt")))
-    loader = importlib.machinery.SourceFileLoader("rtlib", f"{folder}/rtlib.py")
-    module = importlib.util.module_from_spec(importlib.util.spec_from_loader("rtlib", loader))
-    sys.modules["rtlib"] = module
-    loader.exec_module(module)
-    return module
-
-
 def stamp_libraries(room):
     """Has `rt check` take the libraries that rt ci proved and built in the folder: they are of its text, and rt ci leaves no stamp that says so."""
-    for crate in rt_library().crates_below(room):
+    # The module of rt that knows the crates of a tree, from the folder of the command.
+    rt = module_in(f"{os.path.dirname(os.path.realpath(shutil.which('rt')))}/rtlib.py", "rtlib")
+    for crate in rt.crates_below(room):
         if crate.makes_rlib():
             if not os.path.isdir(crate.rlib):
                 raise Unfit(f"{crate.name} was not proved and built in {room}")
-            with open(f"{crate.folder}/out/rlib/stamp", "w", encoding="utf-8") as stamp:
-                stamp.write(crate.stamp())
+            write(f"{crate.folder}/out/rlib/stamp", crate.stamp())
 
 
 class Outcome(enum.Enum):
@@ -124,8 +106,7 @@ def texts_with(edits, folder):
     """Of each file that the mutants change, its text as it is and with all of them, or None where there is no such file."""
     texts = {}
     for file in {edit.file for edit in edits}:
-        with open(os.path.join(folder, file), encoding="utf-8") as source:
-            whole = source.read()
+        whole = read(f"{folder}/{file}")
         changes = sorted((*place, edit.name) for edit in edits if edit.file == file for place in places(edit, whole))
         for first, second in zip(changes, changes[1:]):
             if second[0] < first[1]:
@@ -143,8 +124,7 @@ def proofs_with(edit, folder):
     """Of each proof file that the mutant takes from its function and gives to another, its text as it is and afterwards."""
     texts = {}
     for file in proof_files(edit, folder):
-        with open(os.path.join(folder, file), encoding="utf-8") as source:
-            whole = source.read()
+        whole = read(f"{folder}/{file}")
         texts[file] = (whole, None)
         if edit.heir != "none":
             path, text = of_heir(edit, file, whole)
@@ -155,9 +135,7 @@ def proofs_with(edit, folder):
 def put(path, text):
     """Writes the file, in a folder that may be new, or removes it, with a folder that is empty then."""
     if text is not None:
-        os.makedirs(os.path.dirname(path), exist_ok=True)
-        with open(path, "w", encoding="utf-8") as target:
-            target.write(text)
+        write(path, text)
         return
     os.remove(path)
     with contextlib.suppress(OSError):

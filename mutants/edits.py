@@ -4,9 +4,14 @@ import functools
 import glob
 import os
 import re
+import sys
 from dataclasses import dataclass, field
 
 HERE = os.path.dirname(os.path.dirname(os.path.abspath(__file__)))
+sys.path[1:1] = [f"{HERE}/docs/reference", f"{HERE}/trials"]
+import sources  # pylint: disable=wrong-import-position
+from common import read, used_crates  # pylint: disable=wrong-import-position
+
 BY_SOME_HISTORY = re.compile(r"\bIsPlain(?:Call|Filling)\b")
 FUNCTION = re.compile(r"\bfn (\w+)")
 CLOSURE = re.compile(r"(.*::|)fn::(.*)::(\w+)")
@@ -18,11 +23,8 @@ KEYS = ("file", "function", "old", "new", "proof", "test", "case", "example", "g
 # What has to refuse a mutant that the gate gives to the prover.
 BY_A_GOAL, BY_THE_PROVER = "a goal", "the prover"
 GATE = re.compile(rf"(\w+)(?:, ({BY_A_GOAL}|{BY_THE_PROVER}))?")
-# The formatter puts an item at the start of a line, and a function of an `impl` or a trait four spaces after it.
-ITEM = r'(?:[\w"()]+ )*?fn (\w+)'
-HEAD = re.compile(rf"^(?:(?:pub(?:\(\w+\))? |unsafe )*(impl|trait)\b([^{{]*)\{{|{ITEM})", re.MULTILINE)
-INNER = re.compile(rf"^(?:    {ITEM}|\}})", re.MULTILINE)
 TYPE = re.compile(r"^(?:pub(?:\(\w+\))? )?(?:struct|enum) (\w+)", re.MULTILINE)
+BEFORE_HEAD = re.compile(r"(?:pub(?:\(\w+\))? |unsafe )*(?:impl|trait)\b")
 MARKS = (("&mut ", "RefMut"), ("&", "Ref"), ("[", "Slice"))
 
 
@@ -55,15 +57,14 @@ def path_of(crate):
 def sections_of(crate):
     """Of each mutant of the crate its name and the lines of its section."""
     found = []
-    with open(path_of(crate), encoding="utf-8") as source:
-        for line in source.read().split("\n"):
-            key, _, rest = line.partition(": ")
-            if key == "mutant":
-                found.append((rest, []))
-            elif line and not line.startswith("#"):
-                if not found:
-                    raise Unfit(f"{crate}.edits: a line before the first mutant: {line}")
-                found[-1][1].append(line)
+    for line in read(path_of(crate)).split("\n"):
+        key, _, rest = line.partition(": ")
+        if key == "mutant":
+            found.append((rest, []))
+        elif line and not line.startswith("#"):
+            if not found:
+                raise Unfit(f"{crate}.edits: a line before the first mutant: {line}")
+            found[-1][1].append(line)
     return found
 
 
@@ -135,6 +136,11 @@ def places(edit, text):
     return found
 
 
+def text_of(edit):
+    """The text of the file that the edit changes."""
+    return read(f"{HERE}/crates/{edit.crate}/{edit.file}")
+
+
 def path_in_crate(edit):
     """The path of the edit's function below its crate."""
     return edit.function.removeprefix(f"{edit.crate}::")
@@ -165,20 +171,17 @@ def contract_before(edit, text):
 
 def test_grounds(edit):
     """Refuses an edit of a clause that some history explains where it names neither an example nor a test; and an example that does not exist."""
-    with open(os.path.join(HERE, "crates", edit.crate, edit.file), encoding="utf-8") as source:
-        contract = contract_before(edit, source.read()) if edit.file.startswith("src/") else ""
+    contract = contract_before(edit, text_of(edit)) if edit.file.startswith("src/") else ""
     if BY_SOME_HISTORY.search(contract) and not edit.examples and not edit.tests and not edit.cases:
         raise Unfit(f"{edit.crate}/{edit.name}: some history may explain this reply too: name an example that refutes it, a test or a case")
     for file, name in edit.examples:
-        with open(os.path.join(HERE, "crates", EXAMPLES, "specs", f"{file}.antt"), encoding="utf-8") as source:
-            if not re.search(rf"^  pub {re.escape(name)} :", source.read(), re.MULTILINE):
-                raise Unfit(f"{edit.crate}/{edit.name}: there is no example {file}.{name}")
+        if not re.search(rf"^  pub {re.escape(name)} :", read(f"{HERE}/crates/{EXAMPLES}/specs/{file}.antt"), re.MULTILINE):
+            raise Unfit(f"{edit.crate}/{edit.name}: there is no example {file}.{name}")
 
 
 def used_by(crate):
     """The crates that this one uses."""
-    with open(os.path.join(HERE, "crates.txt"), encoding="utf-8") as source:
-        return re.search(rf"^{crate}\b[^:]*:(.*)$", source.read(), re.MULTILINE).group(1).split()
+    return used_crates(read(f"{HERE}/crates.txt"))[crate]
 
 
 def test_compiles(edit, text):
@@ -192,10 +195,8 @@ def test_compiles(edit, text):
 
 def test_fit(edit):
     """Refuses an edit that cannot be applied."""
-    folder = os.path.join(HERE, "crates", edit.crate)
-    with open(os.path.join(folder, edit.file), encoding="utf-8") as source:
-        text = source.read()
-    if edit.heir and not proof_files(edit, folder):
+    text = text_of(edit)
+    if edit.heir and not proof_files(edit, f"{HERE}/crates/{edit.crate}"):
         raise Unfit(f"{edit.crate}/{edit.name}: its function has no proof file that could go")
     if edit.heir not in ("", "none", *(name for _, new in edit.changes for name in FUNCTION.findall(new))):
         raise Unfit(f"{edit.crate}/{edit.name}: it makes no function {edit.heir}")
@@ -212,13 +213,11 @@ def function_and_closure(named):
 
 def test_function(edit):
     """Refuses an edit of a function or closure that its file does not have, and one of another than it names."""
-    folder = os.path.join(HERE, "crates", edit.crate)
-    with open(os.path.join(folder, edit.file), encoding="utf-8") as source:
-        text = source.read()
+    text = text_of(edit)
     named, closure = function_and_closure(edit.function.removeprefix(f"{edit.crate}::"))
     (_, end, new), *_ = places(edit, text)
     before, after = [], []
-    for start, path in functions_of(folder, edit.file, text):
+    for start, path in functions_of(f"{HERE}/crates/{edit.crate}", edit.file, text):
         (before if start < end else after).append((start, re.fullmatch(path, named) is not None))
     if not any(fits for _, fits in before + after):
         raise Unfit(f"{edit.crate}/{edit.name}: {edit.file} has no function {named}")
@@ -235,13 +234,13 @@ def test_names(edit):
         test_function(edit)
     for crate, test in edit.tests:
         *modules, name = test.split("::")
-        named = [path for path in files_with_tests(HERE, crate) if has_function(path, name)]
+        named = [path for path in files_with_tests(HERE, crate) if re.search(rf"\bfn {name}\b", read(path))]
         if not any(module in path for path in named for module in modules[:1] or [""]):
             raise Unfit(f"{edit.crate}/{edit.name}: {crate} has no test {test}")
     for program, case in edit.cases:
         if program == "tool_replay" and has_script(case):
             continue
-        if not any(has_line(path, f"case {case}") for path in glob.glob(f"{glob.escape(HERE)}/cases/{program}/*.txt")):
+        if not any(f"case {case}" in read(path).split("\n") for path in glob.glob(f"{glob.escape(HERE)}/cases/{program}/*.txt")):
             raise Unfit(f"{edit.crate}/{edit.name}: {program} has no case {case}")
 
 
@@ -252,20 +251,7 @@ def files_with_tests(tree, crate):
 
 def has_script(name):
     """Whether the stored input of tool_replay has a script of this name."""
-    with open(f"{HERE}/crates/tool_replay/stdin", encoding="utf-8") as scripts:
-        return any(line.startswith(f"script {name} ") for line in scripts)
-
-
-def has_line(path, line):
-    """Whether the file has this line."""
-    with open(path, encoding="utf-8") as source:
-        return line in source.read().split("\n")
-
-
-def has_function(path, name):
-    """Whether the file has a function of this name."""
-    with open(path, encoding="utf-8") as source:
-        return re.search(rf"\bfn {name}\b", source.read()) is not None
+    return f"\nscript {name} " in "\n" + read(f"{HERE}/crates/tool_replay/stdin")
 
 
 def fault_of(edit):
@@ -302,9 +288,8 @@ def homes(crate):
     """The modules in which the crate, named by its folder, has a type of each name."""
     found = {}
     for path in glob.glob(f"{glob.escape(crate)}/src/**/*.rt", recursive=True):
-        with open(path, encoding="utf-8") as source:
-            for name in TYPE.findall(source.read()):
-                found.setdefault(name, []).append(module_of(path[len(crate) + 1 :]))
+        for name in TYPE.findall(read(path)):
+            found.setdefault(name, []).append(module_of(path[len(crate) + 1 :]))
     return found
 
 
@@ -340,11 +325,11 @@ def pattern_of(kind, own):
     return name[:1].upper() + name[1:] + "".join(f"(?:{pattern_of(argument, own)}|Any)" for argument in arguments)
 
 
-def owner_pattern(crate, module, word, head):
+def owner_pattern(crate, module, item):
     """How rt writes what has a function: a trait, or for an `impl` its type, and its trait unless that is Drop."""
-    head = " ".join(head.split()).replace("->", "")
-    if word == "trait":
-        return module + re.match(r"\w+", head).group()
+    if item.kind == "trait":
+        return module + item.name
+    head = " ".join(BEFORE_HEAD.sub("", item.head, count=1).split()).replace("->", "")
     own, head = list_of(head) if head.startswith("<") else ([], head)
     own = [part.partition(":")[0].removeprefix("const ").strip() for part in own]
     trait, _, kind = head.split(" where ")[0].partition(" for ")
@@ -356,16 +341,11 @@ def owner_pattern(crate, module, word, head):
     return module + r"\+".join([name, *arguments])
 
 
+@functools.cache
 def functions_of(crate, file, text):
     """Of each function of a file its place in the text, and a pattern of its path. The crate is named by its folder."""
-    module = module_of(file)
-    for head in HEAD.finditer(text):
-        word, of, name = head.groups()
-        if name:
-            yield head.start(), module + name
-            continue
-        owner = owner_pattern(crate, module, word, of)
-        for inner in INNER.finditer(text, head.end()):
-            if not inner.group(1):
-                break
-            yield inner.start(), f"{owner}::{inner.group(1)}"
+    module, found = module_of(file), []
+    for item in sources.items_of(text):
+        of = module if item.kind == "fn" else f"{owner_pattern(crate, module, item)}::" if item.members else ""
+        found += [(call.start, of + call.name) for call in item.members]
+    return found

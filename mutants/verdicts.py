@@ -6,8 +6,9 @@ import signal
 import subprocess
 import tempfile
 
-from copies import Outcome, Result, applied, end_of, tell
 from edits import Unfit, files_with_tests, places
+from copies import Outcome, Result, applied, end_of, tell
+from common import ran, read, write
 
 VERDICT = re.compile(r"^fn (\S+): (.*)$", re.MULTILINE)
 PROOF_ERROR = re.compile(r"^\./proofs/(\S+)/(?:Answers|Proof)\.antt:\d+:\d+: error: ", re.MULTILINE)
@@ -54,12 +55,7 @@ def check(folder, functions=(), seconds=None):
     jobs = os.environ.get("RT_JOBS")
     words = ["rt", "check", *(["--jobs", jobs] if jobs else [])]
     words += [word for function in functions for word in ("--only", function)]
-    try:
-        ran = subprocess.run(words, cwd=folder, stdin=subprocess.DEVNULL, capture_output=True, timeout=seconds, check=False)
-        status = ran.returncode
-    except subprocess.TimeoutExpired as late:
-        ran, status = late, None
-    said = ((ran.stdout or b"") + (ran.stderr or b"")).decode("utf-8", "replace")
+    status, said = ran(words, seconds, cwd=folder)
     return status, dict(VERDICT.findall(said)), said
 
 
@@ -78,8 +74,7 @@ def outcome(edit, verdicts, said):
 
 def lines_of(edit, folder):
     """The lines that the mutant changes, as pairs of a file and a number."""
-    with open(os.path.join(folder, edit.file), encoding="utf-8") as source:
-        text = source.read()
+    text = read(f"{folder}/{edit.file}")
     return {(edit.file, text.count("\n", 0, start) + 1) for start, _, _ in places(edit, text)}
 
 
@@ -163,16 +158,13 @@ def alone(copy, crate, name):
     others = re.compile(rf"^(?:///? .*\n)*#\[test\]\n(?:#.*\n)*fn (?!{function}\b)(?:.*\n)*?}}\n", re.MULTILINE)
     before = {}
     for file in files_with_tests(copy, crate):
-        with open(file, encoding="utf-8") as source:
-            before[file] = source.read()
-        with open(file, "w", encoding="utf-8") as target:
-            target.write(others.sub("", before[file]))
+        before[file] = read(file)
+        write(file, others.sub("", before[file]))
     try:
         yield
     finally:
         for file, text in before.items():
-            with open(file, "w", encoding="utf-8") as target:
-                target.write(text)
+            write(file, text)
 
 
 def test_results(copy, crate, seconds=TEST_SECONDS):
@@ -181,8 +173,7 @@ def test_results(copy, crate, seconds=TEST_SECONDS):
     words = [f"{copy}/.ci/try", "--test", "--seconds", str(seconds)]
     if os.path.isdir(f"{copy}/cases/{crate}/modules"):
         words = [f"{copy}/cases/modules", crate]
-    done = subprocess.run(words, cwd=folder, stdin=subprocess.DEVNULL, capture_output=True, check=False)
-    said = (done.stdout + done.stderr).decode("utf-8", "replace")
+    _, said = ran(words, cwd=folder)
     results = results_in(said)
     if not results:
         raise Unfit(f"no test of {crate} ran:\n{end_of(said)}")
@@ -229,8 +220,7 @@ def refuse_late(edit, name, result):
 
 def needs_proof(copy, program, cases):
     """Whether one of these cases of the program needs a proved one."""
-    with open(f"{copy}/cases/proved_only.txt", encoding="utf-8") as source:
-        names = {line.split()[0] for line in source if line.strip() and not line.startswith("#")}
+    names = {line.split()[0] for line in read(f"{copy}/cases/proved_only.txt").splitlines() if line.strip() and not line.startswith("#")}
     return any(f"{program}/{case}" in names for case in cases)
 
 
@@ -239,13 +229,13 @@ def program_of(copy, program, cases, room):
     file = os.path.join(room, f"{program}-{len(os.listdir(room))}")
     folder = f"{copy}/crates/{program}"
     if needs_proof(copy, program, cases):
-        done = subprocess.run(["rt", "run", "--", "--version"], cwd=folder, stdin=subprocess.DEVNULL, capture_output=True, check=False)
-        if not done.returncode:
+        status, said = ran(["rt", "run", "--", "--version"], cwd=folder)
+        if not status:
             os.replace(f"{folder}/out/{program}", file)
     else:
-        done = subprocess.run([f"{copy}/cases/unproved", folder, file], capture_output=True, check=False)
-    if done.returncode:
-        raise Unfit(f"{program} was not built:\n{end_of((done.stdout + done.stderr).decode('utf-8', 'replace'))}")
+        status, said = ran([f"{copy}/cases/unproved", folder, file])
+    if status:
+        raise Unfit(f"{program} was not built:\n{end_of(said)}")
     return file
 
 
@@ -268,11 +258,10 @@ def result_of(copy, program, file, case):
     if program == REPLAY:
         return replays(copy, file, case)
     words = [f"{copy}/cases/run", "--program", f"{program}={file}", f"{program}/{case}"]
-    done = subprocess.run(words, capture_output=True, env={**os.environ, "CASE_SECONDS": CASE_SECONDS}, check=False)
-    said = (done.stdout + done.stderr).decode("utf-8", "replace")
+    status, said = ran(words, env={**os.environ, "CASE_SECONDS": CASE_SECONDS})
     if not re.search(r"^\d+ passed, \d+ failed$", said, re.MULTILINE):
         raise Unfit(f"the cases {case} of {program} did not run:\n{end_of(said)}")
-    return "ok" if done.returncode == 0 else LATE if LATE in said else KILLED if "status -9" in said else "FAILED"
+    return "ok" if status == 0 else LATE if LATE in said else KILLED if "status -9" in said else "FAILED"
 
 
 def try_cases(edit, copy, built, room):

@@ -12,6 +12,8 @@ from library import Refused
 from programs import shorter
 
 HANDLES = 3
+# The kinds of handles, by the beginnings of their calls.
+OWN, SHARED = "lasso_", "lasso_shared_"
 # How many seconds the calls of a process may take.
 LONGEST = 600
 STATUS, SIZE = ctypes.c_uint32, ctypes.c_size_t
@@ -93,14 +95,14 @@ def some_step(random):
         (8, ("encode", small_data, small_offsets, some_bitmap(random, texts) if random.random() < 0.5 else None, some_null(random), about(random, texts), about(random, len(small_data)), about(random, texts + 1))),
         (8, ("decode", small_data, small_offsets, some_codes(random, texts), some_null(random), random.choice([0, room, 50000]), None, None)),
         (1, ("status_text", random.choice([*range(18), 2**32 - 1]), random.choice([0, 1, 5, 100]))),
-        (2, ("shared_new", handle, random.choice([None, None, 0, 60, 1000, 2**60, ENDLESS]), keys)),
+        (2, ("shared_new", handle, None, random.choice([None, None, (0,), (60,), (1000,), (2**60,), (ENDLESS,)]), keys)),
         (3, ("shared_join", handle, other)),
         (1, ("shared_free", handle)),
         (2, ("shared_see", handle)),
         (2, ("shared_set_limit", handle, limit)),
         (2, ("shared_meet", handle, other)),
         (2, ("shared_copy", handle, other)),
-        (6, ("shared_intern_batch", handle, small_data, small_offsets, about(random, texts))),
+        (6, ("shared_intern_batch", handle, small_data, small_offsets, None, 0, about(random, texts), False)),
         (3, ("shared_texts", handle, random.choice([0, 0, 1, 5, ENDLESS]), random.choice([0, 1, 5, 50]))),
         (9, ("shared_intern", handle, some_text(random))),
         (3, ("shared_get", handle, some_text(random))),
@@ -142,58 +144,92 @@ def expect(what, found, wanted):
         raise Differs(f"{what}: {str(found)[:300]}, wanted {str(wanted)[:300]}")
 
 
+def status_of(wanted):
+    """The status of what the reference returns."""
+    return wanted.status if isinstance(wanted, Refused) else reference.DONE
+
+
 class Run:
-    """A sequence of calls, of the library and of the reference at once."""
+    """A sequence of calls, of the library and of the reference at once. Handles are of interners for one thread, whose calls begin with OWN, or of those
+    that threads share. One thread makes the calls, so none is told that another is at work."""
 
     def __init__(self, path, memory):
         self.library = guarded.Library(path, memory)
-        self.handles = [memory(bytes(16)) for _ in range(HANDLES)]
-        self.held = [None] * HANDLES
-        self.lent = {}  # what a handle lends: the address and the text
-        self.shared = [memory(bytes(16)) for _ in range(HANDLES)]
-        self.shares = [None] * HANDLES
-        self.shared_lent = []  # what shared interners lend: the interner, the address and the text
+        self.handles = {kind: [memory(bytes(16)) for _ in range(HANDLES)] for kind in (OWN, SHARED)}
+        self.held = {kind: [None] * HANDLES for kind in (OWN, SHARED)}
+        # What is lent: of each interner for one thread the address and the text, and those of shared ones with the interner.
+        self.lent, self.shared_lent = [[] for _ in range(HANDLES)], []
 
     def step(self, step):
         """Makes the call."""
-        getattr(self, step[0])(*step[1:])
-        if step[0].startswith("shared_"):
+        name, *arguments = step
+        if name in ("encode", "decode", "status_text"):
+            getattr(self, name)(*arguments)
+            return
+        kind = SHARED if name.startswith("shared_") else OWN
+        getattr(self, name.removeprefix("shared_"))(kind, *arguments)
+        if kind == SHARED:
             self.look_shared()
-        elif step[0] not in ("encode", "decode", "status_text"):
-            self.look(step[1], is_reading=step[0] in ("get", "get_batch", "resolve", "text", "texts", "dictionary", "clone"))
+        else:
+            self.look(arguments[0], is_reading=name in ("get", "get_batch", "resolve", "text", "texts", "dictionary", "clone"))
+
+    def at(self, kind, handle):
+        """Where a handle is."""
+        return self.handles[kind][handle].at
 
     def number(self, name, handle):
         """A call that returns a number."""
-        return self.library.call(name, SIZE, self.handles[handle].at)
+        return self.library.call(name, SIZE, self.at(OWN, handle))
 
     def look(self, handle, is_reading):
         """Compares the counts of a handle, whether it holds an interner, and the texts that it lent."""
-        interner = self.held[handle]
+        interner = self.held[OWN][handle]
         expect("lasso_len", self.number("lasso_len", handle), len(interner.codes) if interner else 0)
         expect("lasso_memory", self.number("lasso_memory", handle), interner.account.usage if interner else 0)
         expect("lasso_limit", self.number("lasso_limit", handle), interner.account.limit if interner else 0)
         capacity = self.number("lasso_capacity", handle)
         expect("lasso_capacity is enough", capacity >= len(interner.codes) if interner else capacity == 0, True)
-        at, live = struct.unpack("QB", self.handles[handle].content()[:9])
-        expect("the handle holds an interner", (at != 0, live), (interner is not None, int(interner is not None)))
-        lent = self.lent.get(handle, [])
-        self.lent[handle] = [(address, text) for address, text in lent if is_reading or len(text) >= 15]
+        self.look_live(self.handles[OWN][handle], interner)
+        self.lent[handle] = [(address, text) for address, text in self.lent[handle] if is_reading or len(text) >= 15]
         for address, text in self.lent[handle]:
             expect("a lent text", ctypes.string_at(address, len(text)), text)
 
-    def refused_or(self, handle, work):
+    def look_live(self, memory, interner):
+        """Compares whether a handle holds an interner."""
+        at, live = struct.unpack("QB", memory.content()[:9])
+        expect("the handle holds an interner", (at != 0, live), (interner is not None, int(interner is not None)))
+
+    def look_shared(self):
+        """Compares what each handle of a shared interner holds and counts, and the texts that are lent."""
+        for memory, share in zip(self.handles[SHARED], self.held[SHARED]):
+            self.look_live(memory, share)
+            expect("lasso_shared_len", self.library.call("lasso_shared_len", SIZE, memory.at), len(share.codes) if share else 0)
+            for name, number in (("lasso_shared_memory", share and share.account.usage), ("lasso_shared_limit", share and share.account.limit)):
+                bytes_now = Output(1, "Q", False)
+                self.compared(name, [[number]] if share else Refused(reference.NO_INTERNER), False, [bytes_now], memory.at, bytes_now)
+        live = [share.interner for share in self.held[SHARED] if share]
+        self.shared_lent = [lent for lent in self.shared_lent if lent[0] in live]
+        for _, address, text in self.shared_lent:
+            expect("a text that a shared interner lent", ctypes.string_at(address, len(text)), text)
+
+    def tried(self, kind, handle, work):
         """What the reference returns, or how it refuses."""
         try:
-            return reference.DONE, work(self.held[handle])
+            return work(self.held[kind][handle])
         except Refused as refused:
-            return refused.status, refused
+            return refused
+
+    def is_done(self, name, wanted, *arguments):
+        """Calls by name and compares the status. Whether the reference doesn't refuse it."""
+        status = status_of(wanted)
+        expect(f"{name}: the status", self.library.call(name, STATUS, *arguments), status)
+        return status == reference.DONE
 
     def compared(self, name, wanted, report, outputs, *arguments):
         """Calls by name and compares: the status, the report if there is one, and what each output holds."""
         refused = isinstance(wanted, Refused)
         tell = Output(3, "Q", False)
-        found = self.library.call(name, STATUS, *arguments, *([tell] if report else []))
-        expect(f"{name}: the status", found, wanted.status if refused else reference.DONE)
+        self.is_done(name, wanted, *arguments, *([tell] if report else []))
         if report:
             expect(f"{name}: the report", struct.unpack("3Q", tell.after), wanted.report if refused else wanted[0])
         for number, output in enumerate(outputs):
@@ -202,243 +238,147 @@ class Run:
 
     # Calls that make and end interners.
 
-    def new(self, handle, limit, sizes, keys):
-        arguments = [self.handles[handle].at, *(sizes or ()), limit, *(keys[1:] if keys else ())]
-        name = "lasso_new" + ("_sized" if sizes else "") + ("_" + keys[0] if keys else "")
-        status = self.library.call(name, STATUS, *arguments)
+    def new(self, kind, handle, limit, sizes, keys):
+        """Of a shared interner the limit is None."""
+        arguments = [self.at(kind, handle), *(sizes or ()), *([] if limit is None else [limit]), *(keys[1:] if keys else ())]
+        name = kind + "new" + ("_sized" if sizes else "") + ("_" + keys[0] if keys else "")
         is_too_much = bool(sizes) and max(sizes) >= 2**60
-        expect(f"{name}: the status", status, reference.NO_MEMORY if is_too_much else reference.DONE)
-        if not is_too_much:
-            self.held[handle] = reference.Interner(limit, max(sizes[1], 1) if sizes else 4096)
-            self.lent[handle] = []
-            room = self.number("lasso_capacity", handle)
-            expect("the capacity of a new interner is enough", room >= (sizes[0] if sizes else 50), True)
+        if not self.is_done(name, Refused(reference.NO_MEMORY) if is_too_much else None, *arguments):
+            return
+        if kind == SHARED:
+            self.held[kind][handle] = reference.SharedHandle(reference.Shared())
+            return
+        self.held[kind][handle], self.lent[handle] = reference.Interner(limit, max(sizes[1], 1) if sizes else 4096), []
+        room = self.number("lasso_capacity", handle)
+        expect("the capacity of a new interner is enough", room >= (sizes[0] if sizes else 50), True)
 
-    def clone(self, handle, other):
-        status, clone = self.refused_or(handle, lambda interner: reference.holding(interner).clone())
-        expect("lasso_clone: the status", self.library.call("lasso_clone", STATUS, self.handles[handle].at, self.handles[other].at), status)
-        if status == reference.DONE:
-            self.held[other] = clone
-            self.lent[other] = []
+    def clone(self, kind, handle, other):
+        clone = self.tried(kind, handle, lambda interner: reference.holding(interner).clone())
+        if self.is_done("lasso_clone", clone, self.at(kind, handle), self.at(kind, other)):
+            self.held[kind][other], self.lent[other] = clone, []
         self.look(other, is_reading=False)
 
-    def free(self, handle):
-        self.library.call("lasso_free", None, self.handles[handle].at)
-        self.held[handle], self.lent[handle] = None, []
-        expect("lasso_free: the handle", self.handles[handle].content()[:9], bytes(9))
+    def join(self, kind, handle, other):
+        joined = self.tried(kind, handle, lambda share: reference.SharedHandle(reference.holding(share).interner))
+        if self.is_done("lasso_shared_join", joined, self.at(kind, handle), self.at(kind, other)):
+            self.held[kind][other] = joined
 
-    def clear(self, handle):
-        status, _ = self.refused_or(handle, reference.holding)
-        expect("lasso_clear: the status", self.library.call("lasso_clear", STATUS, self.handles[handle].at), status)
+    def copy(self, kind, handle, other):
+        """An interner for one thread of what a handle of a shared one has seen."""
+        copy = self.tried(kind, handle, lambda share: reference.holding(share).copy())
+        if self.is_done("lasso_shared_copy", copy, self.at(kind, handle), self.at(OWN, other)):
+            self.held[OWN][other], self.lent[other] = copy, []
+        self.look(other, is_reading=False)
+
+    def free(self, kind, handle):
+        self.library.call(kind + "free", None, self.at(kind, handle))
+        self.held[kind][handle] = None
+        if kind == OWN:
+            self.lent[handle] = []
+
+    def clear(self, kind, handle):
+        held = self.tried(kind, handle, reference.holding)
         self.lent[handle] = []
-        if self.held[handle]:
-            self.held[handle].codes = {}
-            self.held[handle].account.clear()
+        if self.is_done("lasso_clear", held, self.at(kind, handle)):
+            held.codes = {}
+            held.account.clear()
 
-    def set_limit(self, handle, limit):
-        status, _ = self.refused_or(handle, reference.holding)
-        expect("lasso_set_limit: the status", self.library.call("lasso_set_limit", STATUS, self.handles[handle].at, limit), status)
-        if self.held[handle]:
-            self.held[handle].account.limit = limit
+    def set_limit(self, kind, handle, limit):
+        held = self.tried(kind, handle, reference.holding)
+        if self.is_done(kind + "set_limit", held, self.at(kind, handle), limit):
+            held.account.limit = limit
+
+    def see(self, kind, handle):
+        held = self.tried(kind, handle, reference.holding)
+        if self.is_done("lasso_shared_see", held, self.at(kind, handle)):
+            held.see()
+
+    def meet(self, kind, handle, other):
+        held = self.tried(kind, handle, lambda share: reference.holding(share) and reference.holding(self.held[kind][other]) and share)
+        if self.is_done("lasso_shared_meet", held, self.at(kind, handle), self.at(kind, other)):
+            held.see()
 
     # Calls that intern and look up.
 
-    def intern(self, handle, text):
-        _, wanted = self.refused_or(handle, lambda interner: ([reference.intern(interner, text)],))
+    def intern(self, kind, handle, text):
+        wanted = self.tried(kind, handle, lambda held: [[reference.intern(held, text)]])
         code = Output(1, "I", False)
-        self.compared("lasso_intern", wanted, False, [code], self.handles[handle].at, Input(text), code)
+        self.compared(kind + "intern", wanted, False, [code], self.at(kind, handle), Input(text), code)
 
-    def intern_batch(self, handle, data, offsets, present, null, codes_room, is_large):
-        _, wanted = self.refused_or(handle, lambda interner: reference.intern_batch(interner, data, offsets, present, null, codes_room))
+    def intern_batch(self, kind, handle, data, offsets, present, null, codes_room, is_large):
+        wanted = self.tried(kind, handle, lambda held: reference.intern_batch(held, data, offsets, present, null, codes_room))
         if isinstance(wanted, Refused):
             wanted = (wanted.status, wanted.report, [])
-        name = "lasso_intern_batch" + ("" if present is None else "_nulls") + ("_large" if is_large else "")
+        name = kind + "intern_batch" + ("" if present is None else "_nulls") + ("_large" if is_large else "")
         codes, report = Output(codes_room, "I"), Output(3, "Q", False)
         nulls = [] if present is None else [Input(present), null]
-        status = self.library.call(name, STATUS, self.handles[handle].at, Input(data), Input(offsets, "q" if is_large else "i"), *nulls, codes, report)
+        status = self.library.call(name, STATUS, self.at(kind, handle), Input(data), Input(offsets, "q" if is_large else "i"), *nulls, codes, report)
         expect(f"{name}: status and report", (status, struct.unpack("3Q", report.after)), wanted[:2])
         expect(f"{name}: the codes", codes.after, codes.after_writing(wanted[2]))
 
-    def get(self, handle, text):
-        _, wanted = self.refused_or(handle, lambda interner: ([reference.get(interner, text)],))
+    def get(self, kind, handle, text):
+        wanted = self.tried(kind, handle, lambda held: [[reference.get(held, text)]])
         code = Output(1, "I", False)
-        self.compared("lasso_get", wanted, False, [code], self.handles[handle].at, Input(text), code)
+        self.compared(kind + "get", wanted, False, [code], self.at(kind, handle), Input(text), code)
 
-    def get_batch(self, handle, data, offsets, absent, codes_room, is_large):
-        _, wanted = self.refused_or(handle, lambda interner: reference.get_batch(interner, data, offsets, absent, codes_room))
+    def get_batch(self, kind, handle, data, offsets, absent, codes_room, is_large):
+        wanted = self.tried(kind, handle, lambda interner: reference.get_batch(interner, data, offsets, absent, codes_room))
         codes = Output(codes_room, "I")
         name = "lasso_get_batch" + ("_large" if is_large else "")
-        self.compared(name, wanted, True, [codes], self.handles[handle].at, Input(data), Input(offsets, "q" if is_large else "i"), absent, codes)
+        self.compared(name, wanted, True, [codes], self.at(kind, handle), Input(data), Input(offsets, "q" if is_large else "i"), absent, codes)
 
-    def resolve(self, handle, code, room):
-        _, wanted = self.refused_or(handle, lambda interner: reference.text_at(interner, code))
+    def resolve(self, kind, handle, code, room):
+        wanted = self.tried(kind, handle, lambda held: reference.text_at(held, code))
         text, whole = Output(room), Output(1, "Q", False)
         wanted = wanted if isinstance(wanted, Refused) else (wanted[:room], [len(wanted)])
-        self.compared("lasso_resolve", wanted, False, [text, whole], self.handles[handle].at, code, text, whole)
+        self.compared(kind + "resolve", wanted, False, [text, whole], self.at(kind, handle), code, text, whole)
 
-    def dictionary(self, handle, start, bytes_room, offsets_room, is_large):
+    def dictionary(self, kind, handle, start, bytes_room, offsets_room, is_large):
         greatest = 2**63 - 1 if is_large else 2**31 - 1
-        _, wanted = self.refused_or(handle, lambda interner: reference.dictionary(interner, start, bytes_room, offsets_room, greatest))
+        wanted = self.tried(kind, handle, lambda interner: reference.dictionary(interner, start, bytes_room, offsets_room, greatest))
         outputs = [Output(bytes_room), Output(offsets_room, "q" if is_large else "i")]
-        self.compared("lasso_dictionary" + ("_large" if is_large else ""), wanted, True, outputs, self.handles[handle].at, start, *outputs)
+        self.compared("lasso_dictionary" + ("_large" if is_large else ""), wanted, True, outputs, self.at(kind, handle), start, *outputs)
 
     # Texts that are lent.
 
-    def text(self, handle, code):
-        status, wanted = self.refused_or(handle, lambda interner: reference.text_at(interner, code))
-        lent = room_for_texts(1)
-        expect("lasso_text: the status", self.library.call("lasso_text", STATUS, self.handles[handle].at, code, lent), status)
-        if status == reference.DONE:
-            self.lend(handle, lent.after, wanted)
+    def text(self, kind, handle, code):
+        find = reference.shared_text if kind == SHARED else reference.text_at
+        wanted, lent = self.tried(kind, handle, lambda held: find(held, code)), room_for_texts(1)
+        if self.is_done(kind + "text", wanted, self.at(kind, handle), code, lent):
+            self.lend(kind, handle, lent.after, wanted)
         else:
-            expect("lasso_text: the struct", lent.after, lent.before)
+            expect(f"{kind}text: the struct", lent.after, lent.before)
 
-    def texts(self, handle, start, room):
-        held = list(self.held[handle].codes) if self.held[handle] else []
-        wanted = held[start : start + room]
+    def texts(self, kind, handle, start, room):
+        held = self.held[kind][handle]
+        wanted = list(held.codes)[start : held.seen if kind == SHARED else None][:room] if held else []
         lent = room_for_texts(room)
-        expect("lasso_texts: the count", self.library.call("lasso_texts", SIZE, self.handles[handle].at, start, lent, room), len(wanted))
+        expect(f"{kind}texts: the count", self.library.call(kind + "texts", SIZE, self.at(kind, handle), start, lent, room), len(wanted))
         for number, text in enumerate(wanted):
-            self.lend(handle, lent.after[16 * number : 16 * number + 16], text)
-        expect("lasso_texts: the rest", lent.after[16 * len(wanted) :], lent.before[16 * len(wanted) :])
+            self.lend(kind, handle, lent.after[16 * number : 16 * number + 16], text)
+        expect(f"{kind}texts: the rest", lent.after[16 * len(wanted) :], lent.before[16 * len(wanted) :])
 
-    def lend(self, handle, pair, text):
+    def lend(self, kind, handle, pair, text):
         """Compares a lent text, and keeps where it is."""
         address, length = struct.unpack("2Q", pair)
         expect("a lent text's length", length, len(text))
         expect("a lent text is somewhere", address != 0, True)
         expect("a lent text", ctypes.string_at(address, length), text)
-        self.lent.setdefault(handle, []).append((address, text))
-
-    # Handles of interners that threads share. One thread makes the calls, so none is told that another is at work.
-
-    def look_shared(self):
-        """Compares what each handle holds and counts, and the texts that are lent."""
-        for memory, share in zip(self.shared, self.shares):
-            at, live = struct.unpack("QB", memory.content()[:9])
-            expect("the handle holds a shared interner", (at != 0, live), (share is not None, int(share is not None)))
-            expect("lasso_shared_len", self.library.call("lasso_shared_len", SIZE, memory.at), len(share.codes) if share else 0)
-            account = share.interner.account if share else None
-            for name, number in (("lasso_shared_memory", account and account.usage), ("lasso_shared_limit", account and account.limit)):
-                bytes_now = Output(1, "Q", False)
-                self.compared(name, [[number]] if account else Refused(reference.NO_INTERNER), False, [bytes_now], memory.at, bytes_now)
-        live = [share.interner for share in self.shares if share]
-        self.shared_lent = [lent for lent in self.shared_lent if lent[0] in live]
-        for _, address, text in self.shared_lent:
-            expect("a text that a shared interner lent", ctypes.string_at(address, len(text)), text)
-
-    def of_shared(self, handle, work):
-        """What the reference returns for a handle, as a tuple of one, or how it refuses."""
-        try:
-            return (work(self.shares[handle]),)
-        except Refused as refused:
-            return refused
-
-    def shared_new(self, handle, texts, keys):
-        arguments = [self.shared[handle].at, *([] if texts is None else [texts]), *(keys[1:] if keys else ())]
-        name = "lasso_shared_new" + ("" if texts is None else "_sized") + ("_" + keys[0] if keys else "")
-        is_too_much = (texts or 0) >= 2**60
-        status = self.library.call(name, STATUS, *arguments)
-        expect(f"{name}: the status", status, reference.NO_MEMORY if is_too_much else reference.DONE)
-        if not is_too_much:
-            self.shares[handle] = reference.SharedHandle(reference.Shared())
-
-    def shared_join(self, handle, other):
-        joined = self.of_shared(handle, lambda share: reference.SharedHandle(reference.holding(share).interner))
-        status = joined.status if isinstance(joined, Refused) else reference.DONE
-        expect("lasso_shared_join: the status", self.library.call("lasso_shared_join", STATUS, self.shared[handle].at, self.shared[other].at), status)
-        if status == reference.DONE:
-            self.shares[other] = joined[0]
-
-    def shared_free(self, handle):
-        self.library.call("lasso_shared_free", None, self.shared[handle].at)
-        self.shares[handle] = None
-
-    def shared_set_limit(self, handle, limit):
-        status = reference.NO_INTERNER if self.shares[handle] is None else reference.DONE
-        expect("lasso_shared_set_limit: the status", self.library.call("lasso_shared_set_limit", STATUS, self.shared[handle].at, limit), status)
-        if self.shares[handle]:
-            self.shares[handle].interner.account.limit = limit
-
-    def shared_see(self, handle):
-        status = reference.NO_INTERNER if self.shares[handle] is None else reference.DONE
-        expect("lasso_shared_see: the status", self.library.call("lasso_shared_see", STATUS, self.shared[handle].at), status)
-        if self.shares[handle]:
-            self.shares[handle].see()
-
-    def shared_meet(self, handle, other):
-        status = reference.NO_INTERNER if None in (self.shares[handle], self.shares[other]) else reference.DONE
-        expect("lasso_shared_meet: the status", self.library.call("lasso_shared_meet", STATUS, self.shared[handle].at, self.shared[other].at), status)
-        if status == reference.DONE:
-            self.shares[handle].see()
-
-    def shared_copy(self, handle, other):
-        copy = self.of_shared(handle, lambda share: reference.holding(share).copy())
-        status = copy.status if isinstance(copy, Refused) else reference.DONE
-        expect("lasso_shared_copy: the status", self.library.call("lasso_shared_copy", STATUS, self.shared[handle].at, self.handles[other].at), status)
-        if status == reference.DONE:
-            self.held[other], self.lent[other] = copy[0], []
-        self.look(other, is_reading=False)
-
-    def shared_intern_batch(self, handle, data, offsets, codes_room):
-        wanted = self.of_shared(handle, lambda share: reference.intern_batch(share, data, offsets, None, 0, codes_room))
-        wanted = (wanted.status, wanted.report, []) if isinstance(wanted, Refused) else wanted[0]
-        codes, report = Output(codes_room, "I"), Output(3, "Q", False)
-        status = self.library.call("lasso_shared_intern_batch", STATUS, self.shared[handle].at, Input(data), Input(offsets, "i"), codes, report)
-        expect("lasso_shared_intern_batch: status and report", (status, struct.unpack("3Q", report.after)), wanted[:2])
-        expect("lasso_shared_intern_batch: the codes", codes.after, codes.after_writing(wanted[2]))
-
-    def shared_texts(self, handle, start, room):
-        wanted = reference.shared_texts(self.shares[handle], start)[:room] if self.shares[handle] else []
-        lent = room_for_texts(room)
-        expect("lasso_shared_texts: the count", self.library.call("lasso_shared_texts", SIZE, self.shared[handle].at, start, lent, room), len(wanted))
-        for number, text in enumerate(wanted):
-            self.lend_shared(handle, lent.after[16 * number : 16 * number + 16], text)
-        expect("lasso_shared_texts: the rest", lent.after[16 * len(wanted) :], lent.before[16 * len(wanted) :])
-
-    def lend_shared(self, handle, pair, text):
-        """Compares a text that a shared interner lent, and keeps where it is."""
-        address, length = struct.unpack("2Q", pair)
-        expect("a lent text's length", length, len(text))
-        expect("a lent text", ctypes.string_at(address, length), text)
-        self.shared_lent.append((self.shares[handle].interner, address, text))
-
-    def shared_intern(self, handle, text):
-        code = Output(1, "I", False)
-        wanted = self.of_shared(handle, lambda share: [reference.intern(share, text)])
-        self.compared("lasso_shared_intern", wanted, False, [code], self.shared[handle].at, Input(text), code)
-
-    def shared_get(self, handle, text):
-        code = Output(1, "I", False)
-        wanted = self.of_shared(handle, lambda share: [reference.get(share, text)])
-        self.compared("lasso_shared_get", wanted, False, [code], self.shared[handle].at, Input(text), code)
-
-    def shared_resolve(self, handle, code, room):
-        text, whole = Output(room), Output(1, "Q", False)
-        wanted = self.of_shared(handle, lambda share: reference.text_at(share, code))
-        wanted = wanted if isinstance(wanted, Refused) else (wanted[0][:room], [len(wanted[0])])
-        self.compared("lasso_shared_resolve", wanted, False, [text, whole], self.shared[handle].at, code, text, whole)
-
-    def shared_text(self, handle, code):
-        wanted = self.of_shared(handle, lambda share: reference.shared_text(share, code))
-        status = wanted.status if isinstance(wanted, Refused) else reference.DONE
-        lent = room_for_texts(1)
-        expect("lasso_shared_text: the status", self.library.call("lasso_shared_text", STATUS, self.shared[handle].at, code, lent), status)
-        if status != reference.DONE:
-            expect("lasso_shared_text: the struct", lent.after, lent.before)
-            return
-        self.lend_shared(handle, lent.after, wanted[0])
+        if kind == SHARED:
+            self.shared_lent.append((self.held[kind][handle].interner, address, text))
+        else:
+            self.lent[handle].append((address, text))
 
     # Columns by one call.
 
     def encode(self, data, offsets, present, null, codes_room, bytes_room, offsets_room):
-        _, wanted = self.refused_or(0, lambda _: reference.encode(data, offsets, present, null, codes_room, bytes_room, offsets_room))
+        wanted = self.tried(OWN, 0, lambda _: reference.encode(data, offsets, present, null, codes_room, bytes_room, offsets_room))
         outputs = [Output(codes_room, "I"), Output(bytes_room), Output(offsets_room, "i")]
         nulls = [] if present is None else [Input(present), null]
         self.compared("lasso_encode" + ("" if present is None else "_nulls"), wanted, True, outputs, Input(data), Input(offsets, "i"), *nulls, *outputs)
 
     def decode(self, data, offsets, codes, null, bytes_room, offsets_room, bitmap_room):
-        _, wanted = self.refused_or(0, lambda _: reference.decode(data, offsets, codes, null, bytes_room, offsets_room, bitmap_room))
+        wanted = self.tried(OWN, 0, lambda _: reference.decode(data, offsets, codes, null, bytes_room, offsets_room, bitmap_room))
         outputs = [Output(bytes_room), Output(offsets_room, "i")] + ([] if bitmap_room is None else [Output(bitmap_room)])
         nulls = [] if bitmap_room is None else [null]
         self.compared("lasso_decode" + ("" if bitmap_room is None else "_nulls"), wanted, True, outputs, Input(data), Input(offsets, "i"), Input(codes, "I"), *nulls, *outputs)
@@ -462,9 +402,9 @@ def difference(steps, path, memory):
             except (Differs, guarded.Broken) as found:
                 return f"call {number + 1}: {found}"
     finally:
-        for call, handles in (("lasso_free", run.handles), ("lasso_shared_free", run.shared)):
+        for kind, handles in run.handles.items():
             for handle in handles:
-                run.library.call(call, None, handle.at)
+                run.library.call(kind + "free", None, handle.at)
                 handle.end()
     return None
 
@@ -518,9 +458,9 @@ def some_steps(random):
     if kind < 0.2:
         return [("new", 0, random.choice([0, 20000, ENDLESS, ENDLESS]), None, None)] + [some_filling(random) for _ in range(40)]
     if kind < 0.3:
-        return [("shared_new", 0, None, None)] + [some_sharing(random) for _ in range(40)]
+        return [("shared_new", 0, None, None, None)] + [some_sharing(random) for _ in range(40)]
     if kind < 0.4:
-        return [("shared_new", 0, None, None)] + [some_shared_filling(random) for _ in range(40)]
+        return [("shared_new", 0, None, None, None)] + [some_shared_filling(random) for _ in range(40)]
     return [("new", 0, ENDLESS, None, None)] + [some_step(random) for _ in range(random.choice([1, 5, 40]))]
 
 

@@ -16,6 +16,8 @@ OPTIONS = {
     "merge": ("--limit", "--binary", "--utf8", "--quiet"),
     "recode": ("--limit", "--binary", "--utf8", "--quiet"),
 }
+# The options without a value.
+FLAGS = ("--utf8", "--binary", "--quiet")
 # The verbs that read columns, and those of them whose first column is a dictionary.
 COLUMN_VERBS = ("decode", "dictionary", "join", "merge", "recode")
 RECODING_VERBS = ("join", "recode")
@@ -59,11 +61,23 @@ def no_verb(word):
     return shown(word) + ": no such verb" + (rf"; did you mean ({verbs})\?" if nearest <= 2 else "")
 
 
+def value_of(name, value, word):
+    """The value of an option, which this word says; Ends for a wrong one."""
+    if name == "--null":
+        if "\n" in value:
+            raise Ends(3, "--null: .+")
+        return value.encode()
+    number = number_of(value)
+    if number is None:
+        raise Ends(3, shown(word) + ": .+")
+    if name == "--workers" and not 1 <= number <= 64:
+        raise Ends(3, "--workers: .+")
+    return number
+
+
 def options_of(words):
     """The verb and its options; Ends for a wrong argument, a help text or the version."""
-    if any("\udc80" <= letter <= "\udcff" for word in words for letter in word):
-        raise Ends(3, ".+")
-    if not words:
+    if not words or any("\udc80" <= letter <= "\udcff" for word in words for letter in word):
         raise Ends(3, ".+")
     if words[0] == "--version":
         raise Ends(0, "", re.compile(rb"lasso_codes [0-9]+\.[0-9]+\.[0-9]+\n"))
@@ -78,25 +92,16 @@ def options_of(words):
         name, mark, value = word.partition("=")
         if word == "--help":
             raise Ends(0, "", re.compile(rb"usage: lasso_codes %s .+\n" % verb.encode(), re.DOTALL))
-        if name not in OPTIONS[verb] or mark and name in ("--utf8", "--binary", "--quiet"):
+        if name not in OPTIONS[verb] or mark and name in FLAGS:
             raise Ends(3, shown(word) + ": .+")
-        if name in ("--utf8", "--binary", "--quiet"):
+        if name in FLAGS:
             options[name] = True
             continue
         if not mark:
             if not words:
                 raise Ends(3, f"{name}: .+")
             value = word = words.pop(0)
-        if name == "--null":
-            if "\n" in value:
-                raise Ends(3, "--null: .+")
-            options[name] = value.encode()
-            continue
-        options[name] = number_of(value)
-        if options[name] is None:
-            raise Ends(3, shown(word) + ": .+")
-        if name == "--workers" and not 1 <= options[name] <= 64:
-            raise Ends(3, "--workers: .+")
+        options[name] = value_of(name, value, word)
     return verb, options
 
 

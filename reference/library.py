@@ -234,20 +234,12 @@ class SharedAccount:
         return True
 
 
-class Shared:
+class Shared(Interner):
     """What handles of an interner that threads share have in common: the list of its texts, and their buckets."""
 
     def __init__(self):
-        self.codes = {}
+        super().__init__(2**64 - 1)
         self.account = SharedAccount()
-
-    def intern(self, text):
-        """The code of a text, which is appended if it is absent."""
-        if text not in self.codes:
-            if not self.account.store(len(text)):
-                raise Refused(LIMIT_REACHED)
-            self.codes[text] = len(self.codes)
-        return self.codes[text]
 
 
 class SharedHandle:
@@ -255,7 +247,7 @@ class SharedHandle:
 
     def __init__(self, interner):
         self.interner = interner
-        self.codes = interner.codes
+        self.codes, self.account = interner.codes, interner.account
         self.see()
 
     def see(self):
@@ -274,11 +266,6 @@ class SharedHandle:
         copy.codes = {text: code for code, text in enumerate(texts)}
         copy.account.store(size)
         return copy
-
-
-def shared_texts(handle, start):
-    """lasso_shared_texts: the texts that the handle has seen, from a code on."""
-    return list(holding(handle).codes)[start : handle.seen]
 
 
 def shared_text(handle, code):

@@ -95,7 +95,7 @@ def some_words(random, program, are_short):
     for name in random.sample(names, random.randrange(len(names) + 1)):
         value = str({"--limit": random.choice([0, 4096, 4100, 9000, 30000, 2**64 - 1]), "--top": random.choice([0, 1, 3]), "--workers": random.choice([1, 2] if are_short else [1, 2, 4, 64]), "--null": random.choice([*["NA", "", "-", "é", "0", "a"] * 3, "a\nb"])}.get(name))
         value = random.choice(WORDS) if random.random() < 0.02 else value
-        if name in ("--utf8", "--binary", "--quiet"):
+        if name in codes.FLAGS:
             words.append(name)
         elif program == "codes" and random.random() < 0.3:
             words.append(f"{name}={value}")

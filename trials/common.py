@@ -1,7 +1,9 @@
-"""What trials and timings share: built programs, packages of the system, libraries in C that are loaded first, runs under valgrind, and runs
-with requests for memory refused in turn."""
+"""What scripts share: files that are read, copied and replaced, built programs, packages of the system, libraries in C that are loaded first, what a
+process used, runs under valgrind, and runs with requests for memory refused in turn."""
 import contextlib
 import glob
+import importlib.machinery
+import importlib.util
 import os
 import re
 import shutil
@@ -13,7 +15,7 @@ from dataclasses import dataclass
 
 HERE = os.path.dirname(os.path.dirname(os.path.abspath(__file__)))
 OUT = f"{HERE}/trials/out"
-sys.path[1:1] = [f"{HERE}/cases", f"{HERE}/reference"]
+sys.path[1:1] = [f"{HERE}/cases", f"{HERE}/reference", f"{HERE}/cases/tool_replay"]
 sys.dont_write_bytecode = True
 
 WATCH = ("valgrind", "--leak-check=full", "--show-leak-kinds=all")
@@ -21,6 +23,8 @@ NOTHING_LEFT = "in use at exit: 0 bytes in 0 blocks"
 WRONG = re.compile(r"ERROR SUMMARY: [1-9]")
 USED = re.compile(r"total heap usage: ([\d,]+) allocs")
 HALT = 60
+# A line of crates.txt.
+CRATE = re.compile(r"^(?P<crate>\w+)[^:#]*:(?P<used>.*)$")
 DEBIAN_PYTHON = "/usr/bin/python3"
 NONE_LEFT = "0 blocks, 0 bytes"
 KEEPS_ONE = "#include <stdlib.h>\nint main(void) { return malloc(7) == NULL; }\n"
@@ -30,12 +34,79 @@ class Fault(Exception):
     """What a trial found wrong."""
 
 
+def run_trial(trial):
+    """Runs a trial over the words of the command line, and ends with its status or with what it found wrong."""
+    try:
+        sys.exit(trial(sys.argv[1:]))
+    except Fault as fault:
+        sys.exit(str(fault))
+
+
+def ran(words, seconds=None, **options):
+    """The status of a command without an input, or None if it had not ended in time, and all that it wrote, standard error last."""
+    try:
+        done = subprocess.run(words, stdin=subprocess.DEVNULL, capture_output=True, timeout=seconds, check=False, **options)
+        status = done.returncode
+    except subprocess.TimeoutExpired as late:
+        done, status = late, None
+    return status, ((done.stdout or b"") + (done.stderr or b"")).decode("utf-8", "replace")
+
+
 def said_of(words, **options):
-    """What a command says, which has to end well; all of it is shown if it does not."""
-    done = subprocess.run(words, stdin=subprocess.DEVNULL, stdout=subprocess.PIPE, stderr=subprocess.STDOUT, text=True, errors="replace", check=False, **options)
-    if done.returncode:
-        sys.exit(f"{done.stdout}{' '.join(words)} ended with status {done.returncode}")
-    return done.stdout
+    """What a command writes, which has to end well; all of it is shown if it does not."""
+    status, said = ran(words, **options)
+    if status:
+        sys.exit(f"{said}{' '.join(words)} ended with status {status}")
+    return said
+
+
+def read(path, errors="strict"):
+    """The text of a file."""
+    with open(path, encoding="utf-8", errors=errors) as source:
+        return source.read()
+
+
+def write(path, text):
+    """Writes a file, and the folders that it is in."""
+    os.makedirs(os.path.dirname(path) or ".", exist_ok=True)
+    with open(path, "w", encoding="utf-8") as target:
+        target.write(text)
+
+
+def module_in(path, name):
+    """The module of this name in a file, whatever the file's own name is."""
+    loader = importlib.machinery.SourceFileLoader(name, path)
+    module = importlib.util.module_from_spec(importlib.util.spec_from_loader(name, loader))
+    sys.modules[name] = module
+    loader.exec_module(module)
+    return module
+
+
+def used_crates(text):
+    """Of each crate of a crates.txt, those that it uses."""
+    return {line["crate"]: line["used"].split() for line in filter(None, map(CRATE.match, text.split("\n")))}
+
+
+def listed_files(*parts):
+    """The files of the tree that git lists or does not ignore, below these parts of it or all."""
+    listed = subprocess.run(["git", "ls-files", "-z", "--cached", "--others", "--exclude-standard", *parts], cwd=HERE, stdout=subprocess.PIPE, check=True)
+    return [name for name in os.fsdecode(listed.stdout).split("\0") if name and os.path.lexists(f"{HERE}/{name}")]
+
+
+def copy_sources(tree, room):
+    """Copies what rt reads of the crates of a tree to the folder."""
+    for name in ("HANDLES", "crates.txt"):
+        shutil.copy2(f"{tree}/{name}", room)
+    for part in ("src", "specs", "proofs"):
+        for path in glob.glob(f"{glob.escape(tree)}/crates/*/{part}"):
+            shutil.copytree(path, os.path.join(room, os.path.relpath(path, tree)))
+
+
+def ended(process):
+    """What a process used, once it has ended. Its return code is then set."""
+    _, status, used = os.wait4(process.pid, 0)
+    process.returncode = os.waitstatus_to_exitcode(status)
+    return used
 
 
 def commit(*parts):
@@ -44,18 +115,25 @@ def commit(*parts):
     return said_of(["git", "rev-parse", "--short=8", "HEAD"], cwd=HERE).strip() + "+" * bool(changed)
 
 
+def is_installed(packages):
+    """Installs the packages by apt-get, which root alone may do. Whether that went well."""
+    if os.geteuid() != 0 or not shutil.which("apt-get"):
+        return False
+    print(f"installing {' '.join(packages)} by apt-get", file=sys.stderr, flush=True)
+    said, quiet = "", {**os.environ, "DEBIAN_FRONTEND": "noninteractive"}
+    for words in (["update", "-q"], ["install", "-q", "-y", "--no-install-recommends", *packages]):
+        status, more = ran(["apt-get", *words], env=quiet)
+        said += more
+    if status:
+        print(said, end="", file=sys.stderr)
+    return status == 0
+
+
 def install(packages):
-    """Installs the packages by apt-get. Where that can't be done, ends the command and names them."""
-    names = " ".join(packages)
-    if os.geteuid() == 0 and shutil.which("apt-get"):
-        print(f"installing {names} by apt-get", file=sys.stderr, flush=True)
-        kept = {"env": {**os.environ, "DEBIAN_FRONTEND": "noninteractive"}, "stdout": subprocess.PIPE, "stderr": subprocess.STDOUT, "text": True, "errors": "replace", "check": False}
-        told = subprocess.run(["apt-get", "update", "-q"], **kept).stdout
-        ran = subprocess.run(["apt-get", "install", "-q", "-y", "--no-install-recommends", *packages], **kept)
-        if ran.returncode == 0:
-            return
-        print(told + ran.stdout, end="", file=sys.stderr)
-    sys.exit(f"missing: {names}: on Debian, apt-get install {names} as root")
+    """Installs the packages. Where that can't be done, ends the command and names them."""
+    if not is_installed(packages):
+        names = " ".join(packages)
+        sys.exit(f"missing: {names}: on Debian, apt-get install {names} as root")
 
 
 def need(command, package=None):
@@ -65,11 +143,11 @@ def need(command, package=None):
 
 
 @contextlib.contextmanager
-def replaced(path, **options):
+def replaced(path, mode="w", **options):
     """A new file to write into. It takes the place of the file at the path if all of it was written, and else goes."""
     part = f"{path}.part"
     try:
-        with open(part, "w", **options) as target:
+        with open(part, mode, **options) as target:
             yield target
         os.replace(part, path)
     finally:
@@ -108,6 +186,8 @@ def program_of(crate):
 def shim_of(source, room):
     """A C file, named from the top of the repository, as a library in this folder, to be loaded before others by LD_PRELOAD."""
     shim = os.path.join(room, os.path.basename(source).replace(".c", ".so"))
+    if not shutil.which("cc"):
+        sys.exit(f"{source} needs a C compiler with the name cc")
     said_of(["cc", "-O2", "-Wall", "-D_GNU_SOURCE", "-shared", "-fPIC", "-o", shim, f"{HERE}/{source}", "-ldl", "-pthread"])
     return shim
 
@@ -117,18 +197,18 @@ def watched(start, name):
     need("valgrind")
     with tempfile.NamedTemporaryFile("r", encoding="utf-8", errors="replace") as log:
         # valgrind reads `%` in a name.
-        ran = start((*WATCH, f"--log-file={log.name.replace('%', '%%')}"))
+        result = start((*WATCH, f"--log-file={log.name.replace('%', '%%')}"))
         said = log.read()
     if WRONG.search(said) or NOTHING_LEFT not in said:
         raise Fault(f"{name}: under valgrind\n{said}")
-    return ran, int(USED.search(said).group(1).replace(",", ""))
+    return result, int(USED.search(said).group(1).replace(",", ""))
 
 
 def first_difference(found, wanted):
     """Where bytes differ from those that are wanted, in words."""
     at = next((at for at, (one, other) in enumerate(zip(found, wanted)) if one != other), min(len(found), len(wanted)))
     start = max(at - 40, 0)
-    return f"from byte {at} on, of {len(found)} and {len(wanted)}: {found[start:at + 80]!r}, not {wanted[start:at + 80]!r}"
+    return f"from byte {at} on, of {len(found)} and {len(wanted)}: {found[start:start + 200]!r}, not {wanted[start:start + 200]!r}"
 
 
 @dataclass
@@ -168,18 +248,15 @@ class Refuser:
             words = [os.path.abspath(words[0]), *words[1:]]
             done = subprocess.run(words, stdin=source, cwd=self.room, capture_output=True, env=environment, pass_fds=[told.fileno()], check=False)
             is_refused = told.seek(0, os.SEEK_END) > 0
-        found = ""
-        if os.path.exists(left):
-            with open(left, encoding="ascii") as file:
-                found = file.read().strip()
+        found = read(left).strip() if os.path.exists(left) else ""
         return Ran(done.returncode, done.stdout, done.stderr.decode("utf-8", "replace"), is_refused, found)
 
     def in_turn(self, words, data=b"", most=None):
         """The runs with the first request refused, the second and so on, each with its number: up to one that makes no request of that number, or this number of them."""
         number = 1
         while most is None or number <= most:
-            ran = self.run(words, number, data)
-            yield number, ran
-            if not ran.is_refused:
+            found = self.run(words, number, data)
+            yield number, found
+            if not found.is_refused:
                 return
             number += 1

@@ -1,8 +1,8 @@
-"""The inputs of `trials/streams`, and the scripts of tool_replay for `trials/refusals`, with the replies to each line, which were worked by
-hand."""
+"""The inputs of `trials/streams`, and the scripts of tool_replay for `trials/refusals`, with the replies to each line by
+cases/tool_replay/model.py."""
 import random
-from dataclasses import dataclass, field
 
+import model
 from codes import column as column_text
 
 SEED = 20261129
@@ -22,9 +22,6 @@ FORMS = {
 MARK = b"\xf4\x8f\xbf\xbf"
 ODD_LETTERS = ["a", "b", "\0", "\t", "\r", " ", "\u00e9", "\u65e5", "\U0001f600", "\U0010fffe"]
 LENGTHS = [0, 1, 2, 3, 4, 5, 8, 14, 15, 16, 40]
-LIMIT = "refused MemoryLimitReached"
-KEYS = "refused KeySpaceExhaustion"
-MOST = 2**64 - 1
 
 
 def line_of(length):
@@ -157,17 +154,11 @@ def damaged():
         yield f"no_code_{number}", b"lasso-codes 1 text 2 3\na\nb\n1\n" + entry + b"\n0\n"
 
 
-def digits(text):
-    """A text in hexadecimal digits, as tool_replay reads it."""
-    return text.encode().hex() or "-"
-
-
-@dataclass
 class Script:
     """The lines of a script, and the reply to each. Each command comes twice: after a refusal it is made again."""
 
-    lines: list = field(default_factory=list)
-    worked: list = field(default_factory=list)
+    def __init__(self, lines):
+        self.lines, self.worked = lines, list(model.replies(lines))
 
     @staticmethod
     def bytes_of(lines):
@@ -191,81 +182,59 @@ class Script:
             return [[], *([" ".join(words[:count]), "clear"] for count in range(1, len(words) + 1))]
         return [[]]
 
-    def with_lines(self, at, lines):
-        """The script's lines with others in place of one."""
-        return (*self.lines[:at], *lines, *self.lines[at + 1 :])
+    def replies_after(self, at, lines):
+        """The replies to the lines after this one, with others in its place."""
+        return list(model.replies([*self.lines[:at], *lines, *self.lines[at + 1 :]]))[at + len(lines) :]
 
 
-def script_of(kind, head, commands, usage, limit, texts):
+def script_of(kind, head, *commands):
     """A script of an interner of this kind, which ends with a look at all that it then says: how many texts it has, its usage, its limit, and the first five texts."""
-    made = Script([f"script refused {kind} {head}"], ["script refused"])
-    for reply, call, *words in commands:
-        line = " ".join([call, *(words if call == "limit" else map(digits, words))])
-        made.lines += [line, line]
-        made.worked += [reply, reply]
-    made.lines += ["len", "usage", "max", *(f"resolve {key}" for key in range(5))]
-    known = [f"text {digits(text)}" for text in texts[:5]] + ["text none"] * (5 - len(texts[:5]))
-    made.worked += [f"number {len(texts)}", f"number {usage}", f"number {MOST if limit == 'max' else limit}", *known]
-    return made
+    lines = [f"script refused {kind} {head}"]
+    for command in commands:
+        call, *words = command.split(" ")
+        line = " ".join([call, *(words if call == "limit" else (model.digits_of(word.encode()) for word in words))])
+        lines += [line, line]
+    return Script([*lines, "len", "usage", "max", *(f"resolve {key}" for key in range(5))])
 
 
 def of_both(kind):
     """The scripts of a rodeo and of an interner that threads share. Some replies differ."""
-    either = lambda rodeo, threaded: rodeo if kind == "rodeo" else threaded
-    yield script_of(kind, "spur 50 4096 max", [("key 0", "intern", "Hello, world!")], 4096, "max", ["Hello, world!"])
+    yield script_of(kind, "spur 50 4096 max", "intern Hello,_world!")
     # A bucket of the long text's 9 bytes, and one of twice 4 for the last.
-    long = [("key 0", "intern", "qqqqqqqqq"), ("key 1", "intern", "wxyz"), ("key 2", "intern", "n")]
-    yield script_of(kind, "spur 1 4 max", long, 21, "max", ["qqqqqqqqq", "wxyz", "n"])
-    # The limit is below the first bucket, which is filled.
-    low = [("key 0", "intern", "abc"), ("key 1", "intern", "gdfg"), ("key 2", "intern", "hij"), (LIMIT, "intern", "klmno"), ("found 1", "get", "gdfg")]
-    yield script_of(kind, "spur 2 10 5", low, 10, 5, ["abc", "gdfg", "hij"])
+    yield script_of(kind, "spur 1 4 max", "intern qqqqqqqqq", "intern wxyz", "intern n")
+    # The limit is below the first bucket, which is filled; the last text is past it.
+    yield script_of(kind, "spur 2 10 5", "intern abc", "intern gdfg", "intern hij", "intern klmno", "get gdfg")
     # A rodeo no longer uses the byte that is left of the first bucket; an interner that threads share gives it to the last text.
-    exact = [("key 0", "intern", "abc"), ("key 1", "intern", "defghijk")]
-    yield script_of(kind, "spur 1 4 max", [*exact, ("key 2", "intern", "x")], either(28, 12), "max", ["abc", "defghijk", "x"])
+    yield script_of(kind, "spur 1 4 max", "intern abc", "intern defghijk", "intern x")
     # Once the limit is 14 a bucket of two bytes comes.
-    more = [(either(LIMIT, "key 2"), "intern", "x"), (LIMIT, "intern", "yz"), ("done", "limit", "14"), (either("key 2", "key 3"), "intern", "yz")]
-    yield script_of(kind, "spur 0 4 12", [*exact, *more], 14, 14, ["abc", "defghijk", *either([], ["x"]), "yz"])
+    yield script_of(kind, "spur 0 4 12", "intern abc", "intern defghijk", "intern x", "intern yz", "limit 14", "intern yz")
     # A text that has no key takes its byte of an interner that threads share, until none are left.
-    last = either(KEYS, LIMIT)
-    few = [("key 0", "intern", "p"), ("key 1", "intern", "q"), (KEYS, "intern", "r"), (last, "intern", "r"), (last, "intern", "r"), ("key 1", "intern", "q")]
     for key in ("below2", "hole2"):
-        yield script_of(kind, f"{key} 1 4 4", few, 4, 4, ["p", "q"])
+        yield script_of(kind, f"{key} 1 4 4", "intern p", "intern q", "intern r", "intern r", "intern r", "intern q")
     # The 255 keys, and the 655 digits of the numbers below 255.
     numbers = [str(number) for number in range(255)]
-    ends = [(f"key {number}", "intern", number) for number in numbers[250:]] + [(last, "intern", "x"), ("key 0", "intern", "0")]
-    yield script_of(kind, "micro 1 655 655", [("done", "extend", *numbers[:250]), *ends], 655, 655, numbers)
-    # Buckets of 2, 4 and 8 bytes.
-    doubled = [("done", "extend", "ab", "c", "", "ab", "def"), ("flag true", "contains", "def"), ("done", "extend", "g", "hijk")]
-    yield script_of(kind, "mini 0 2 max", doubled, 14, "max", ["ab", "c", "", "def", "g", "hijk"])
+    yield script_of(kind, "micro 1 655 655", " ".join(["extend", *numbers[:250]]), *(f"intern {number}" for number in numbers[250:]), "intern x", "intern 0")
+    # Buckets of 2, 4 and 8 bytes. Two blanks: a text without bytes.
+    yield script_of(kind, "mini 0 2 max", "extend ab c  ab def", "contains def", "extend g hijk")
     # After the bucket of 3 bytes the limit leaves one of 5; once it is lifted one of 6 comes. The first bucket has a byte left.
-    lifted = [(LIMIT, "extend", "ab", "cdefg", "hijkl"), (either(LIMIT, "key 2"), "intern", "m"), ("done", "limit", "max"), ("done", "extend", "hijkl", "")]
-    yield script_of(kind, "large 1 3 8", lifted, 14, "max", ["ab", "cdefg", *either([], ["m"]), "hijkl", ""])
+    yield script_of(kind, "large 1 3 8", "extend ab cdefg hijkl", "intern m", "limit max", "extend hijkl ")
 
 
 def of_rodeo():
     """The scripts of a rodeo that is copied over."""
     # A copy over an interner empties its buckets of 4 and 8 bytes first; the last text takes one of 16.
-    over = [("key 0", "intern", "abc"), ("done", "clonefrom", "d", "efghij", ""), ("key 3", "intern", "abc")]
-    yield script_of("rodeo", "spur 1 4 max", over, 28, "max", ["d", "efghij", "", "abc"])
+    yield script_of("rodeo", "spur 1 4 max", "intern abc", "clonefrom d efghij ", "intern abc")
     # The limit leaves a bucket of 3 bytes after the first, and none for the copy's last text.
-    left = [("key 0", "intern", "ab"), (LIMIT, "clonefrom", "cd", "efg", "hijkl"), ("done", "clear"), ("done", "extend", "m", "nop")]
-    yield script_of("rodeo", "micro 0 3 6", left, 6, 6, ["m", "nop"])
+    yield script_of("rodeo", "micro 0 3 6", "intern ab", "clonefrom cd efg hijkl", "clear", "extend m nop")
     # A bucket of the 3 bytes of a text, after the first one. Three texts have no keys, so they are not copied.
-    three = [("done", "clonefrom", "a", "bcd"), (KEYS, "clonefrom", "e", "f", "g"), ("key 0", "intern", "a")]
-    yield script_of("rodeo", "below2 1 1 max", three, 4, "max", ["a", "bcd"])
+    yield script_of("rodeo", "below2 1 1 max", "clonefrom a bcd", "clonefrom e f g", "intern a")
 
 
 def of_values():
     """A value that is read twice, of each form."""
     for form in ("rodeo", "reader", "resolver", "threaded"):
-        for text, reply in (
-            ('["a","b","a"]', "list 61 62 61" if form == "resolver" else "fault Doubled 2"),
-            ('["a",1]', "fault NotText 1"),
-            ("[]", "list"),
-            ('{"a":2,"b":1}', "list 62 61" if form == "threaded" else "fault NotAnArray"),
-            ('["b","a"]', "list 62 61"),
-        ):
-            yield Script([f"json {form} spur {digits(text)}"] * 2, [reply] * 2)
+        for text in ('["a","b","a"]', '["a",1]', "[]", '{"a":2,"b":1}', '["b","a"]'):
+            yield Script([f"json {form} spur {model.digits_of(text.encode())}"] * 2)
 
 
 def scripts():

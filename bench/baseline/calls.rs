@@ -1,8 +1,6 @@
 //! How long single calls take in one round, as a Rust programmer writes an interner over std, and an index of a
 //! `Vec<Box<str>>` at random positions, over the texts of `tool_bench round`, or with the word `sizes` the interner alone over those
-//! of `tool_bench sizes`. Prints for each count of texts, and each size, the nanoseconds of a call. With the word `refill` it clears a
-//! `HashMap<Box<str>, u32>` and fills it with the same texts, round after round, beside a new one for each round, over the texts of
-//! `tool_bench refill`, and prints the nanoseconds of a text.
+//! of `tool_bench sizes`. Prints for each count of texts, and each size, the nanoseconds of a call.
 mod opaque;
 mod rounds;
 
@@ -84,60 +82,8 @@ fn round_of_index(count: u32) {
     println!("{count} index {least:.1}");
 }
 
-// Clearing a map and filling it again.
-
-const REFILLS: usize = 1000;
-
-const REFILLED_TEXTS: u32 = 10_000;
-
-type Positions = HashMap<Box<str>, u32>;
-
-// Interns the texts, and answers the sum of their positions.
-#[inline(never)]
-fn intern_positions(positions: &mut Positions, texts: &[String]) -> usize {
-    let mut sum = 0usize;
-    for text in texts {
-        let position = match positions.get(text.as_str()) {
-            Some(position) => *position,
-            None => {
-                let position = positions.len() as u32;
-                positions.insert(text.as_str().into(), position);
-                position
-            }
-        };
-        sum = sum.wrapping_add(position as usize);
-    }
-    sum
-}
-
-// The nanoseconds of a text that a round takes.
-fn timed_refill(texts: &[String], round: impl FnOnce() -> usize) -> f64 {
-    let start = Instant::now();
-    let sum = black_box(round());
-    let elapsed = start.elapsed();
-    assert_eq!(sum, (0..texts.len()).sum());
-    elapsed.as_secs_f64() * 1e9 / texts.len() as f64
-}
-
-fn refill() {
-    let texts: Vec<String> = (0..REFILLED_TEXTS).map(|number| format!("text {number}")).collect();
-    let mut kept = Positions::new();
-    let mut refilled = f64::INFINITY;
-    let mut anew = f64::INFINITY;
-    for _ in 0..REFILLS {
-        refilled = refilled.min(timed_refill(&texts, || {
-            kept.clear();
-            intern_positions(&mut kept, black_box(&texts))
-        }));
-        anew = anew.min(timed_refill(&texts, || intern_positions(&mut Positions::new(), black_box(&texts))));
-    }
-    println!("refilled {REFILLED_TEXTS} {refilled:.1}");
-    println!("anew {REFILLED_TEXTS} {anew:.1}");
-}
-
 fn main() {
     match std::env::args().nth(1).as_deref() {
-        Some("refill") => refill(),
         Some("sizes") => round_of_sizes::<Standard>(&ALL_SIZES),
         _ => {
             for count in COUNTS {

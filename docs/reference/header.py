@@ -28,7 +28,7 @@ def plain(comment):
     return "\n".join(lines).strip()
 
 
-def read(text):
+def parts_of(text):
     """The header's parts. A prototype without a comment right above it has that of the calls before it, a constant none."""
     head, said, end, found = "", "", 0, {"name": {}, "type": {}, "constant": {}, "called": {}}
     for part in PART.finditer(text):
@@ -43,11 +43,6 @@ def read(text):
         shown = part["inline"] + ";" if kind == "called" else part[0]
         found[kind][part[kind]] = Prototype(own, shown, text.count("\n", 0, part.start()) + 1)
     return Header(head, found["name"], found["type"], found["constant"], found["called"], STATUS.findall(text))
-
-
-def prototypes(text):
-    """Of each call of the header its prototype."""
-    return read(text).prototypes
 
 
 def shown(comment, places):

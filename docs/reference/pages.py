@@ -14,7 +14,7 @@ from pygments.lexers.rust import RustLexer
 import glossary
 import header
 from links import Links, Place, Scope, anchor, page_of_type
-from sources import ghosts_of, imports, variants_of
+from sources import ghosts_of, imports, read, variants_of
 
 KINDS = ("struct", "enum", "trait", "type")
 FORMATTER = HtmlFormatter(nowrap=True)
@@ -77,11 +77,9 @@ class Reference:
         self.types = self.reachable_types()
         self.links = Links(definitions, passed_on, std_words, self.types, dict(self.places()))
         self.entries = []
-        with open(os.path.join(root, header.SOURCE), encoding="utf-8") as source:
-            self.header = header.read(source.read())
+        self.header = header.parts_of(read(f"{root}/{header.SOURCE}"))
         self.in_header = dict(self.places_of_header())
-        here = os.path.dirname(os.path.abspath(__file__))
-        self.reading, self.reading_c = open_text(os.path.join(here, "reading.html")).split("<!-- C -->\n")
+        self.reading, self.reading_c = read(f"{os.path.dirname(os.path.abspath(__file__))}/reading.html").split("<!-- C -->\n")
 
     def exported(self):
         """The names that reachable modules export, by the last module of their path."""
@@ -105,6 +103,10 @@ class Reference:
                 if item.kind in KINDS and self.is_reached(module, item):
                     found[module.crate, item.name] = (module, item)
         return found
+
+    def enter(self, name, kind, url, said, is_call=False):
+        """Puts a line into the search, with the beginning of what is said."""
+        self.entries.append(Entry(name, kind, url, said[:SEARCH_SUMMARY], self.task_of(name) if is_call else ""))
 
     # ---- links
 
@@ -168,7 +170,7 @@ class Reference:
         scope = Scope({**module.names, **imports(item.body)}, module, owner_of_parts, item.head + call.signature)
         place = anchor(call.name) + ("" if not item.trait else "-" + anchor(item.trait))
         title = f"{owner}::{call.name}" if owner else call.name
-        self.entries.append(Entry(title, "call", f"{url}#{place}", first_sentence(call.docs)[:SEARCH_SUMMARY], self.task_of(title)))
+        self.enter(title, "call", f"{url}#{place}", first_sentence(call.docs), is_call=True)
         of = f' <small>of <code>{html.escape(item.trait)}</code></small>' if item.trait else ""
         shown = (
             f'<section class="call" id="{place}"><h3><a href="#{place}">{html.escape(call.name)}</a>{of}</h3>{self.in_c(call)}'
@@ -193,13 +195,13 @@ class Reference:
         """What the header says of every call, its statuses, its constants, and the calls that it defines."""
         rows = []
         for name, number, said in self.header.statuses:
-            self.entries.append(Entry(name, "status in C", self.in_header[name], said))
+            self.enter(name, "status in C", self.in_header[name], said)
             rows.append(f'<tr id="{name}"><td><code>{name}</code></td><td>{number}</td><td>{html.escape(said)}</td></tr>')
         parts = [f'<h2>What lasso.h says</h2>{header.shown(self.header.head, self.in_header)}<h2 id="statuses">Statuses</h2><table>{"".join(rows)}</table>']
         for title, kind, found in (("Constants", "constant in C", self.header.constants), ("Calls that lasso.h defines", "call", self.header.inlines)):
             parts.append(f"<h2>{title}</h2>")
             for name, one in found.items():
-                self.entries.append(Entry(name, kind, self.in_header[name], first_sentence(one.said)[:SEARCH_SUMMARY], self.task_of(name)))
+                self.enter(name, kind, self.in_header[name], first_sentence(one.said), is_call=True)
                 parts.append(f'<section class="call" id="{name}"><h3><a href="#{name}">{name}</a></h3>{self.declared_in_c(one, "signature")}</section>')
         return "".join(parts)
 
@@ -245,14 +247,14 @@ class Reference:
                     for part, said, text, _ in ghosts_of(item):
                         above = f'<p class="group">{html.escape(said)}</p>' if said else ""
                         if item.kind == "trait":
-                            self.entries.append(Entry(f"{name}::{part}", "in contracts", f"{page_of_type(crate, name)}#ghost-{part}", said))
+                            self.enter(f"{name}::{part}", "in contracts", f"{page_of_type(crate, name)}#ghost-{part}", said)
                         lines.append(f'<li id="ghost-{part}">{above}<code>{self.links.linked(text, scope)}</code></li>')
         return f'<h2>What contracts see</h2><ul class="clauses">{"".join(lines)}</ul>' if lines else ""
 
     def page_of_types(self):
         for (crate, name), (module, item) in self.types.items():
             url = page_of_type(crate, name)
-            self.entries.append(Entry(name, item.kind, url, first_sentence(item.docs)[:SEARCH_SUMMARY]))
+            self.enter(name, item.kind, url, first_sentence(item.docs))
             declared = self.typed(item.head + shown_body(item), module)
             if item.kind == "enum":
                 declared = self.with_variants(declared, item, url, name)
@@ -270,7 +272,7 @@ class Reference:
         found = self.header.types.get(in_c(name)) if crate == C_CRATE else None
         if not found:
             return ""
-        self.entries.append(Entry(f"struct {in_c(name)}", "type in C", page_of_type(crate, name), first_sentence(found.said)[:SEARCH_SUMMARY]))
+        self.enter(f"struct {in_c(name)}", "type in C", page_of_type(crate, name), first_sentence(found.said))
         return f"<h2>In C</h2>{self.declared_in_c(found)}<h2>The same type in Rattle</h2>"
 
     def with_variants(self, declared, item, url, name):
@@ -278,7 +280,7 @@ class Reference:
         lines = declared.split("\n")
         for part, said, _, number in variants_of(item):
             lines[number] = f'<span id="variant-{part}"></span>{lines[number]}'
-            self.entries.append(Entry(f"{name}::{part}", "variant", f"{url}#variant-{part}", first_sentence(said)[:SEARCH_SUMMARY]))
+            self.enter(f"{name}::{part}", "variant", f"{url}#variant-{part}", first_sentence(said))
         return "\n".join(lines)
 
     def page_of_modules(self):
@@ -287,7 +289,7 @@ class Reference:
                 continue
             name = "::".join((module.crate, *module.path))
             url = page_of_module(module)
-            self.entries.append(Entry(name, "module", url, first_sentence(module.docs)[:SEARCH_SUMMARY]))
+            self.enter(name, "module", url, first_sentence(module.docs))
             of_header = self.page_of_header() if url == HEADER_PAGE else ""
             body = f"<h1><small>module</small> {name}</h1>{prose(module.docs, 2)}{of_header}{self.inside(module, url)}"
             yield url, name, self.with_help(body)
@@ -313,8 +315,7 @@ class Reference:
         if functions:
             parts.append("<h2>Functions</h2>" + "".join(functions))
         if module.crate == EXAMPLES and module.path:
-            with open(os.path.join(self.root, module.file), encoding="utf-8") as source:
-                parts.append(f"<h2>The whole file</h2><pre>{self.typed(source.read(), module)}</pre>")
+            parts.append(f"<h2>The whole file</h2><pre>{self.typed(read(f'{self.root}/{module.file}'), module)}</pre>")
         return "".join(parts)
 
     def exports_of(self, module):
@@ -366,7 +367,7 @@ class Reference:
 
     def constant(self, home, item, url):
         """A constant with its comment."""
-        self.entries.append(Entry(item.name, "constant", f"{url}#{item.name}", first_sentence(item.docs)[:SEARCH_SUMMARY]))
+        self.enter(item.name, "constant", f"{url}#{item.name}", first_sentence(item.docs))
         return (
             f'<section class="constant" id="{item.name}"><pre>{self.typed(item.head + ";", home)}</pre>{prose(item.docs)}'
             f"<p>{self.source_link(home.file, item.line)}</p></section>"
@@ -387,7 +388,7 @@ class Reference:
     def definition(self, one, kind, title, url):
         """A definition or a lemma with its comment and text."""
         place = anchor(title)
-        self.entries.append(Entry(title, kind, f"{url}#{place}", " ".join(one.docs.split())[:SEARCH_SUMMARY]))
+        self.enter(title, kind, f"{url}#{place}", " ".join(one.docs.split()))
         return (
             f'<section class="call" id="{place}"><h3><a href="#{place}">{html.escape(title)}</a></h3>'
             f"{prose(one.docs)}<pre>{self.links.linked(one.text, Scope(one.names))}</pre>"
@@ -404,8 +405,7 @@ class Reference:
 
     def page_of_glossary(self):
         """The words of the documents."""
-        with open(os.path.join(self.root, glossary.SOURCE), encoding="utf-8") as source:
-            text = source.read()
+        text = read(f"{self.root}/{glossary.SOURCE}")
         self.entries += [Entry(name, "in the glossary", url, said[:SEARCH_SUMMARY]) for name, url, said in glossary.terms(text)]
         yield glossary.URL, "Glossary", glossary.page_of(text)
 
@@ -442,11 +442,6 @@ def order_of(module):
     """Where a file's calls come on the page of their type: those of the type's own file first."""
     last = module.path[-1] if module.path else ""
     return ORDER.index(last) + 1 if last in ORDER else 0 if len(module.path) < 2 else len(ORDER) + 1
-
-
-def open_text(path):
-    with open(path, encoding="utf-8") as source:
-        return source.read()
 
 
 def in_c(name):

@@ -6,9 +6,13 @@ a line before it is its comment, its attribute, or blank.
 import dataclasses
 import os
 import re
+import sys
 
-CRATE = re.compile(r"^(\w+)(?: \w+)*:", re.MULTILINE)
-LEFT_OUT = re.compile(r"(?:test|tool)_\w+|lasso_saving")
+sys.path.insert(1, f"{os.path.dirname(os.path.dirname(os.path.dirname(os.path.abspath(__file__))))}/trials")
+from common import read, used_crates  # noqa: E402
+
+# An example of a program.
+LEFT_OUT = "lasso_saving"
 IMPORT = re.compile(r"^ *(?:ghost )?use (?:Rattle\.)?([\w.]+?)\.(?:\{([^}]*)\}|(\w+))(?: as (\w+))?;?$", re.MULTILINE)
 MODULE = re.compile(r"^(pub )?mod (\w+);", re.MULTILINE)
 EXPORT = re.compile(r"^pub use (?:crate::|self::|super::)?([\w:]+?)(?:::)?(?:\{([^}]*)\}|(?<=::)(\w+))?;", re.MULTILINE)
@@ -42,7 +46,7 @@ class Clause:
 
 @dataclasses.dataclass
 class Call:
-    """A function: its comment, its signature without clauses, and its clauses."""
+    """A function: its comment, its signature without clauses, its clauses, its body or None, and where in the file its line starts."""
 
     name: str
     docs: str
@@ -50,11 +54,18 @@ class Call:
     clauses: list
     line: int
     is_public: bool
+    body: str
+    start: int
+
+    def ensures(self):
+        """The clauses that say what it ensures."""
+        return [clause for clause in self.clauses if clause.kind == "ensures"]
 
 
 @dataclasses.dataclass
 class Item:
-    """A type, trait, `impl`, constant or function of a module. `members` are the calls in its braces."""
+    """A type, trait, `impl`, constant or function of a module. `members` are the calls in its braces. `owner` is the type of an `impl`, or the
+    trait, without parameters: `&mut Names`, of which `name` is `Names`."""
 
     kind: str
     name: str
@@ -64,6 +75,7 @@ class Item:
     line: int
     is_public: bool
     trait: str = ""
+    owner: str = ""
     members: list = dataclasses.field(default_factory=list)
 
 
@@ -97,14 +109,9 @@ class Definition:
     constructors: tuple = ()
 
 
-def read(path):
-    with open(path, encoding="utf-8") as source:
-        return source.read()
-
-
 def crates(root):
-    """The crates whose calls a reference shows, in the order of crates.txt."""
-    return [name for name in CRATE.findall(read(os.path.join(root, "crates.txt"))) if not LEFT_OUT.fullmatch(name)]
+    """The libraries and programs, whose names begin with `lasso`, in the order of crates.txt: a copy of the repository may have a caller's crates."""
+    return [name for name in used_crates(read(f"{root}/crates.txt")) if name.startswith("lasso") and name != LEFT_OUT]
 
 
 def imports(text):
@@ -161,11 +168,12 @@ def undented(text, by):
 
 def call_at(text, lines, number, start, match):
     """The function whose line this is."""
-    signature, clauses, _ = signature_and_clauses(text, start)
+    signature, clauses, place = signature_and_clauses(text, start)
+    body = text[place + 1 : end_of_braces(text, place + 1)] if text[place] == "{" else None
     indent = len(match["indent"])
     name = re.match(r"[\w]+", match["rest"]).group()
     is_public = "pub " in match["how"]
-    return Call(name, comment_above(lines, number, "///"), undented(signature.strip(), indent), clauses, number + 1, is_public)
+    return Call(name, comment_above(lines, number, "///"), undented(signature.strip(), indent), clauses, number + 1, is_public, body, start)
 
 
 def item_at(text, lines, number, start, match):
@@ -173,18 +181,19 @@ def item_at(text, lines, number, start, match):
     end = re.compile(r"\{|;$", re.MULTILINE).search(text, start)
     head = text[start : end.start()].strip()
     body = text[end.end() : end_of_braces(text, end.end())] if end.group() == "{" else ""
-    trait = ""
     if match["kind"] == "impl":
-        name, trait = subject_of(head)
+        owner, trait = subject_of(head)
+        name = re.sub(r"\bmut |&", "", owner)
     else:
-        name = re.match(r"\w+", match["rest"]).group()
+        name, trait = re.match(r"\w+", match["rest"]).group(), ""
+        owner = name
     is_public = match["how"].startswith("pub ")
-    return Item(match["kind"], name, comment_above(lines, number, "///"), head, body, number + 1, is_public, trait)
+    return Item(match["kind"], name, comment_above(lines, number, "///"), head, body, number + 1, is_public, trait, owner)
 
 
 def without_parameters(words):
-    """A type or trait without its parameters, lifetimes and path."""
-    shorter = re.sub(r"<[^<>]*>|'\w+ |\bmut |&", "", words)
+    """A type or trait without its parameters and lifetimes."""
+    shorter = re.sub(r"<[^<>]*>|'\w+ ", "", words)
     return words if shorter == words else without_parameters(shorter)
 
 
@@ -218,7 +227,7 @@ def items_of(text):
         if match["indent"] == "":
             if match["kind"] == "fn":
                 call = call_at(text, lines, number, place, match)
-                found.append(Item("fn", call.name, call.docs, call.signature, "", number + 1, call.is_public, "", [call]))
+                found.append(Item("fn", call.name, call.docs, call.signature, "", number + 1, call.is_public, members=[call]))
                 inside = None
             else:
                 inside = item_at(text, lines, number, place, match)
