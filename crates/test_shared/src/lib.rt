@@ -26,6 +26,8 @@ mod lengths;
 #[cfg(test)]
 mod limits;
 #[cfg(test)]
+mod locals;
+#[cfg(test)]
 mod locks;
 #[cfg(test)]
 mod many;
