@@ -21,7 +21,7 @@ REPLAY = "tool_replay"
 # A program without proof is slow: a run of a case may take longer than its minute.
 CASE_SECONDS = "300"
 # So long a test may take, beside other proofs too, and one that is said to wait for ever.
-TEST_SECONDS, ENDLESS_SECONDS = 600, 120
+TEST_SECONDS, ENDLESS_SECONDS = 600, 40
 # What rt says of a test; and below a failed one, after what that wrote, why.
 RAN = re.compile(r"^test (\S+) \.\.\. (ok|FAILED)$", re.MULTILINE)
 WHY = re.compile(r"^\s*checked: (.*)$", re.MULTILINE)
@@ -152,10 +152,10 @@ def try_proofs(crate, edits, folder, rule, is_proved=False, keep=lambda results:
 
 
 @contextlib.contextmanager
-def alone(copy, crate, name):
-    """The test crate with the test of this name as its only one, so that no other is run; and afterwards as it was."""
-    function = re.escape(name.rsplit("::", 1)[-1])
-    others = re.compile(rf"^(?:///? .*\n)*#\[test\]\n(?:#.*\n)*fn (?!{function}\b)(?:.*\n)*?}}\n", re.MULTILINE)
+def alone(copy, crate, names):
+    """The test crate with the tests of these names as its only ones, so that no other is run; and afterwards as it was."""
+    functions = "|".join(re.escape(name.rsplit("::", 1)[-1]) for name in names)
+    others = re.compile(rf"^(?:///? .*\n)*#\[test\]\n(?:#.*\n)*fn (?!(?:{functions})\b)(?:.*\n)*?}}\n", re.MULTILINE)
     before = {}
     for file in files_with_tests(copy, crate):
         before[file] = read(file)
@@ -197,16 +197,18 @@ def failure(more):
 def try_tests(edit, copy, as_it_is):
     """Whether each test that the mutant names passes without it, unless `as_it_is` is None, and fails with it."""
     folder = os.path.join(copy, "crates", edit.crate)
-    for crate, name in edit.tests:
+    for crate in dict.fromkeys(crate for crate, _ in edit.tests):
+        names = [name for other, name in edit.tests if other == crate]
         if as_it_is is not None and crate not in as_it_is:
             as_it_is[crate] = test_results(copy, crate)
-        with applied([edit], folder), alone(copy, crate, name):
+        with applied([edit], folder), alone(copy, crate, names):
             with_edit = test_results(copy, crate, TEST_SECONDS if edit.ends else ENDLESS_SECONDS)
-        if as_it_is is not None and as_it_is[crate].get(name) != "ok" or name not in with_edit:
-            raise Unfit(f"{edit.crate}/{edit.name}: the test {name} of {crate} does not pass as it is, or did not run with the mutant")
-        if with_edit[name] == "ok":
-            return Outcome.LET_THROUGH
-        refuse_late(edit, name, with_edit[name])
+        for name in names:
+            if as_it_is is not None and as_it_is[crate].get(name) != "ok" or name not in with_edit:
+                raise Unfit(f"{edit.crate}/{edit.name}: the test {name} of {crate} does not pass as it is, or did not run with the mutant")
+            if with_edit[name] == "ok":
+                return Outcome.LET_THROUGH
+            refuse_late(edit, name, with_edit[name])
     return Outcome.BY_A_TEST
 
 
