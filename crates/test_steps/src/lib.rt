@@ -4,7 +4,6 @@
 
 pub mod calls;
 pub mod cases;
-pub mod makers;
 pub mod passes;
 pub mod steps;
 pub mod texts;
