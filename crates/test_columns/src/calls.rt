@@ -6,8 +6,15 @@ use lasso::{
 use lasso_shared_columns::{encode_shared, encode_shared_as};
 use std::alloc::{Allocator, Global};
 use std::hash::BuildHasher;
+use std::process::Abort;
+use std::sync::Wait;
 use std::test::Fail;
-use test_common::Host;
+use std::thread::Threads;
+
+/// What a test is given: memory, threads, waiting, and the end of the process.
+pub trait Host: AllocGlobal + Abort + Wait + Threads + Sync {}
+
+impl<R: AllocGlobal + Abort + Wait + Threads + Sync> Host for R {}
 
 // An interner of these texts.
 pub(super) fn interner(alloc: Global, texts: &[&str]) -> LassoResult<SpurRodeo> {

@@ -1,11 +1,10 @@
 //! A code that has no text, and interners that are merged, with values worked out by hand; thousands of texts that are
 //! counted and ranked.
-use crate::calls::{has_texts, interner, is_by_the_limit, is_so, is_so_at, limited};
+use crate::calls::{Host, has_texts, interner, is_by_the_limit, is_so, is_so_at, limited};
 use lasso::{Capacity, LassoErrorKind, LassoResult, MemoryLimits, Rodeo, SpurRodeo};
 use lasso_columns::counts::{by_frequency_in_parts, count_in_parts};
 use lasso_columns::{DecodeError, decode, merge};
 use std::test::Fail;
-use test_common::Host;
 
 // The third of the codes has no text.
 #[test]

@@ -1,6 +1,6 @@
 //! Dictionaries that are written as bytes and offsets, and read again. The expected values are worked out by
 //! hand, or computed from numbers.
-use crate::calls::{has_texts, interner, is_so, is_so_at};
+use crate::calls::{Host, has_texts, interner, is_so, is_so_at};
 use crate::long_columns::{COUNT, Numbers, first_of, printed, slices};
 use crate::parts::{Script, with_each_refused};
 use lasso::{FixedState, LassoErrorKind, MemoryLimits, SpurRodeo};
@@ -10,7 +10,6 @@ use lasso_columns::{
 };
 use std::alloc::Global;
 use std::test::Fail;
-use test_common::Host;
 
 // `é` is the bytes c3 a9.
 const TEXTS: [&str; 5] = ["red", "", "blé", "a\n", "\0"];

@@ -1,14 +1,13 @@
 //! Columns of 20,000 texts, also by threads over an interner that has texts already. The expected codes are computed
 //! from the numbers that the texts print.
 use crate::calls::{
-    CALLS, Call, Shared, are_codes, distinct_of, has_from, interner, is_so, is_so_at,
+    CALLS, Call, Host, Shared, are_codes, distinct_of, has_from, interner, is_so, is_so_at,
     limited_shared, stand_for,
 };
 use lasso::{MemoryLimits, SpurThreadedRodeo, ThreadedRodeo};
 use lasso_columns::{decode, encode, encode_in_parts, encode_lines, merge};
 use std::alloc::Global;
 use std::test::Fail;
-use test_common::Host;
 
 // How a column is encoded: as texts or as lines by one thread, or in parts by this number of workers.
 #[derive(Clone, Copy)]

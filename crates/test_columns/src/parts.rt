@@ -1,12 +1,11 @@
 //! Columns that are encoded in parts. The expected codes are computed from the numbers, and are the same
 //! for each number of workers. Calls on an interner whose allocator refuses each of its requests in turn.
-use crate::calls::{distinct_of, has_texts, is_so, is_so_at, limit_refuses, stand_for};
+use crate::calls::{Host, distinct_of, has_texts, is_so, is_so_at, limit_refuses, stand_for};
 use crate::long_columns::{COUNT, Numbers, Way, are_encoded, encodes_long, make_column, slices};
 use lasso::{Capacity, FixedState, LassoErrorKind, MemoryLimits, Rodeo, Spur, SpurRodeo};
 use lasso_columns::{Layout, ReadError, append_dictionary, encode_in_parts, read_dictionary};
 use std::alloc::Global;
 use std::test::Fail;
-use test_common::Host;
 use test_common::refusing::{Refusing, each_refused};
 
 static WORKERS: [usize; 5] = [1, 2, 3, 4, 7];

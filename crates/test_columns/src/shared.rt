@@ -1,9 +1,10 @@
 //! Columns that several threads encode. Their turns may differ from run to run; the tests check what is
 //! the same in each run.
-use crate::calls::{CALLS, Call, Shared, are_codes, has_from, is_so, is_so_at, limited_shared};
+use crate::calls::{
+    CALLS, Call, Host, Shared, are_codes, has_from, is_so, is_so_at, limited_shared,
+};
 use lasso::{LassoResult, MemoryLimits, SpurThreadedRodeo, ThreadedRodeo};
 use std::test::Fail;
-use test_common::Host;
 
 // Five texts for each of four workers. The different ones are a, b, c, d, e, f and g.
 pub(super) static TWENTY: [&str; 20] = LETTERS;

@@ -1,6 +1,6 @@
 //! Columns that threads encode over an interner that already has texts. The new texts of a column are
 //! appended to that interner's list, and its own calls resolve the codes.
-use crate::calls::{CALLS, Call, Shared, are_codes, has_from, is_so, limit_refuses};
+use crate::calls::{CALLS, Call, Host, Shared, are_codes, has_from, is_so, limit_refuses};
 use crate::long_columns::{COUNT, Numbers, first_of, printed, slices};
 use crate::shared::{Step, TWENTY, runs};
 use lasso::{Key, LassoResult, MemoryLimits, Spur, SpurThreadedRodeo, ThreadedRodeo};
@@ -9,7 +9,6 @@ use std::str::from_utf8;
 use std::sync::atomic::{AtomicBool, Ordering};
 use std::test::Fail;
 use std::thread::join;
-use test_common::Host;
 
 const FIRST: [&str; 8] = [
     "red", "green", "red", "blue", "green", "white", "red", "blue",

@@ -1,6 +1,6 @@
 //! Streams that are encoded by rounds, with blocks of every size from one byte on and with any number of
 //! workers. The entries were worked out by hand, or are what `encode_rows` leaves of all bytes.
-use crate::calls::{is_by_the_limit, is_so, is_so_at};
+use crate::calls::{Host, is_by_the_limit, is_so, is_so_at};
 use lasso::{Capacity, MemoryLimits, Rodeo, SpurRodeo};
 use lasso_columns::{LineError, NULL, Rounds, StreamError, encode_stream};
 use lasso_parts::hasher::TextState;
@@ -8,7 +8,6 @@ use std::alloc::Global;
 use std::io;
 use std::io::{BufReader, ErrorKind, Read};
 use std::test::Fail;
-use test_common::Host;
 
 // How a stream ends. Lines are numbered from 1.
 #[derive(Clone, Copy)]

@@ -1,6 +1,6 @@
 //! Columns of texts that are all alike, or all different, over an interner that has one other text; and columns over
 //! interners with different hashers.
-use crate::calls::{CALLS, Shared, are_codes, distinct_of, has_from, is_so, is_so_at};
+use crate::calls::{CALLS, Host, Shared, are_codes, distinct_of, has_from, is_so, is_so_at};
 use crate::long_columns::{Way, are_encoded, merges, printed, slices};
 use crate::shared::TWENTY;
 use lasso::index::hash_text;
@@ -9,7 +9,6 @@ use lasso::{FixedState, MemoryLimits, Spur, SpurThreadedRodeo, ThreadedRodeo};
 use lasso_shared_columns::encode_shared;
 use std::hash::BuildHasher;
 use std::test::Fail;
-use test_common::Host;
 use test_common::hashers::SameState;
 use test_common::texts::colliding;
 

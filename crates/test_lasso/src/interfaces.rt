@@ -14,7 +14,7 @@ use lasso::{
 };
 use std::alloc::Global;
 use std::test::Fail;
-use test_common::Host;
+use test_steps::Host;
 
 /// The interner with which the test begins: empty, of 10 bytes with `abc` and then a limit of 0 bytes, or of 4 bytes
 /// under a limit of 4 bytes.

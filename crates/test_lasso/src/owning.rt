@@ -16,7 +16,7 @@ use std::alloc::Global;
 use std::sync::{Arc, Wait};
 use std::test::Fail;
 use std::thread;
-use test_common::Host;
+use test_steps::Host;
 
 #[test]
 fn names_by_one_pass(rt: HostRuntime) -> Result<(), Fail> {

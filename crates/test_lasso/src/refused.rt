@@ -16,7 +16,7 @@ use serde_json::Value;
 use std::alloc::{AllocError, Global};
 use std::fmt::Debug;
 use std::test::Fail;
-use test_common::Host;
+use test_steps::Host;
 use test_steps::calls::{Caller, numbered};
 
 /// An error of a call that may run out of memory.

@@ -16,7 +16,7 @@ use std::alloc::Global;
 use std::sync::atomic::{AtomicBool, Ordering};
 use std::test::Fail;
 use std::thread::join;
-use test_common::Host;
+use test_steps::Host;
 use test_steps::calls::limited;
 use test_steps::cases::reads_what_it_sets;
 use test_steps::texts::counted;

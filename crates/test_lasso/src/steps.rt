@@ -48,7 +48,7 @@ pub enum Step {
 
 use Step::{Counts, Finds, Interns, InternsAsOne, Keeps, ReadsHello};
 use Way::{Copied, Static, TryCopied, TryStatic};
-use test_common::Host;
+use test_steps::Host;
 use test_steps::calls::number_of;
 
 // `Hello, world!` by each of the four intern calls into an interner without a text, and then all that a reader

@@ -6,7 +6,7 @@ use lasso_parts::keys::{Key, Spur};
 use lasso_parts::util::{FixedState, LassoErrorKind};
 use std::hash::BuildHasher;
 use std::test::*;
-use test_common::Host;
+use test_steps::Host;
 use test_steps::cases::{HINTED, Maker, PLAIN, SIZE, maker_for, sized, steps_of};
 use test_steps::steps::Call::{self, FindsAll, Serves, TakesAll};
 use test_steps::steps::Step;

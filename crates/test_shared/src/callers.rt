@@ -13,7 +13,7 @@ use lasso_shared::laws::{
 use lasso_shared::threaded::ThreadedRodeo;
 use std::sync::Wait;
 use std::test::*;
-use test_common::Host;
+use test_steps::Host;
 use test_steps::calls::{Shared, made, pass_of};
 
 // Interns the text by one pass, and resolves its key by another, which has met the first.

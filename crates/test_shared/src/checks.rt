@@ -10,7 +10,7 @@ use serde_json::Value;
 use std::alloc::Global;
 use std::hash::BuildHasher;
 use std::test::*;
-use test_common::Host;
+use test_steps::Host;
 use test_steps::calls::{Caller, Shared};
 use test_steps::cases::{
     Case, Maker, PLAIN, items_for, make, maker_for, of_items, of_way, sized, steps_of,

@@ -6,7 +6,7 @@ use lasso_parts::keys::Key;
 use lasso_parts::util::LassoResult;
 use std::test::*;
 use std::thread::{join, map_indices};
-use test_common::Host;
+use test_steps::Host;
 use test_steps::calls::{Caller, Shared, limited, made};
 use test_steps::cases::{HINTED, PLAIN};
 use test_steps::passes::are_right_beside;

@@ -9,10 +9,10 @@ use lasso_parts::util::{Capacity, FixedState, LassoErrorKind, LassoResult, Memor
 use lasso_shared::threaded::ThreadedRodeo;
 use std::alloc::Global;
 use std::test::*;
-use test_common::Host;
 use test_common::keys::BelowTwo;
 use test_common::refusing::Refusing;
 use test_common::texts::{is_next, numbered};
+use test_steps::Host;
 use test_steps::calls::{Caller, Shared, answered, limited, made};
 use test_steps::cases::{Maker, PLAIN, of_items, refuses_items};
 use test_steps::steps::{Step, Way};

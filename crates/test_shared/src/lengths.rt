@@ -8,9 +8,9 @@ use Step::{
 use lasso_parts::keys::{Key, MicroSpur, Spur};
 use lasso_shared::threaded::ThreadedRodeo;
 use std::test::*;
-use test_common::Host;
 use test_common::hashers::{LowState, SameState};
 use test_common::keys::BelowTwo;
+use test_steps::Host;
 use test_steps::cases::{Maker, PLAIN, SIZE, make};
 use test_steps::steps::{Call, FULL, KEEPING, NO_KEY, Step, WAYS, Way};
 use test_steps::texts::LENGTHS;

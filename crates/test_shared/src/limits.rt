@@ -10,7 +10,7 @@ use lasso_parts::util::LassoResult;
 use std::alloc::{AllocError, Global};
 use std::test::*;
 use std::thread::join;
-use test_common::Host;
+use test_steps::Host;
 use test_steps::calls::{Caller, Shared, limited, made, refusal_of, until_free};
 use test_steps::cases::{Maker, SIZE};
 use test_steps::steps::{Call, FULL, Step, Way};

@@ -5,7 +5,7 @@ use lasso_lock::locks::{TaggedMutex, TaggedRwLock};
 use std::sync::Wait;
 use std::test::*;
 use std::thread::{join, yield_now};
-use test_common::Host;
+use test_steps::Host;
 
 // A number up to the lock's tag.
 #[derive(Drop)]

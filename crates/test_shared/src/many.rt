@@ -12,7 +12,7 @@ use Step::{
 use lasso_parts::keys::Spur;
 use lasso_parts::util::FixedState;
 use std::test::*;
-use test_common::Host;
+use test_steps::Host;
 use test_steps::calls::Shared;
 use test_steps::cases::{Maker, PLAIN, SIZE, make, of_items, sized};
 use test_steps::steps::{Call, FULL, Step, Way};

@@ -13,7 +13,7 @@ use lasso_parts::util::{LassoError, LassoErrorKind, LassoResult};
 use std::alloc::Global;
 use std::mem::size_of;
 use std::test::*;
-use test_common::Host;
+use test_steps::Host;
 
 #[derive(Clone, Copy)]
 pub(super) enum Step {

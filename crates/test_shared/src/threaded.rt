@@ -7,9 +7,9 @@ use Step::{
 use lasso_parts::keys::{Key, MicroSpur};
 use lasso_parts::util::{FixedState, LassoErrorKind};
 use std::test::*;
-use test_common::Host;
 use test_common::hashers::SameState;
 use test_common::keys::BelowTwo;
+use test_steps::Host;
 use test_steps::calls::{Caller, Shared, answered, limited, made};
 use test_steps::cases::{Maker, PLAIN};
 use test_steps::passes::are_right_beside;

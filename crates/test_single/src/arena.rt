@@ -1,5 +1,5 @@
 //! What an arena stores, what it refuses, and the bytes that its regions then take.
-use crate::interners::{LIMIT, MEMORY, crosses, is_so, is_so_at, refusal_of};
+use crate::interners::{Host, LIMIT, MEMORY, crosses, is_so, is_so_at, refusal_of};
 use lasso_parts::arena::Arena;
 use lasso_parts::bucket::Bucket;
 use lasso_parts::bucket::region::{Region, RegionRight};
@@ -21,7 +21,6 @@ enum Call {
 }
 
 use Call::{Clears, Refuses, SetsLimit, Shows, Stores};
-use test_common::Host;
 
 // Whether the text is stored, and can be read.
 fn is_stored(arena: &mut Arena<Global>, text: &str) -> bool {

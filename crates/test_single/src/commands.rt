@@ -1,6 +1,6 @@
 //! Runs of commands, with replies worked out by hand.
 use crate::interners::{
-    LIMIT, MEMORY, Small, holds, interner, is_so, is_so_at, key_at, number_of, of_texts,
+    Host, LIMIT, MEMORY, Small, holds, interner, is_so, is_so_at, key_at, number_of, of_texts,
 };
 use lasso_parts::json::{JsonError, JsonKey, read_map, write_array, write_map};
 use lasso_parts::keys::{Key, LargeSpur, MicroSpur, MiniSpur, Spur};
@@ -9,7 +9,6 @@ use lasso_single::commands::{Command, Reply, run_commands};
 use serde_json::Value;
 use std::alloc::{Allocator, Global};
 use std::test::Fail;
-use test_common::Host;
 
 type Call<'a> = Command<'a, Spur, FixedState, Global>;
 

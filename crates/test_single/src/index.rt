@@ -1,6 +1,6 @@
 //! What no contract says of an index: which texts it hashes again, which it reads, and that it works with a
 //! constant hasher.
-use crate::interners::CountedTexts;
+use crate::interners::{CountedTexts, Host};
 use lasso_parts::index::{Index, hash_text};
 use lasso_parts::keys::{Key, Spur};
 use lasso_parts::util::LassoResult;
@@ -8,7 +8,6 @@ use std::alloc::Global;
 use std::cell::Cell;
 use std::hash::BuildHasher;
 use std::test::Fail;
-use test_common::Host;
 use test_common::hashers::{CountingState, LengthState, SameState};
 
 static WORDS: [&str; 24] = [

@@ -12,8 +12,15 @@ use std::alloc::{Allocator, Global};
 use std::cell::Cell;
 use std::hash::BuildHasher;
 use std::marker::{Send, Sync};
+use std::process::Abort;
+use std::sync::Wait;
 use std::test::Fail;
-use test_common::Host;
+use std::thread::Threads;
+
+/// What a test is given: memory, threads, waiting, and the end of the process.
+pub trait Host: AllocGlobal + Abort + Wait + Threads + Sync {}
+
+impl<R: AllocGlobal + Abort + Wait + Threads + Sync> Host for R {}
 
 pub type Small = Rodeo<Spur, FixedState, Global>;
 

@@ -6,7 +6,7 @@ mod counts;
 mod values;
 
 use crate::interners::{
-    Answer, KEYS, LIMIT, MEMORY, holds, is_so, is_so_at, key_at, number_of, refusal_of, told,
+    Answer, Host, KEYS, LIMIT, MEMORY, holds, is_so, is_so_at, key_at, number_of, refusal_of, told,
 };
 use crate::refusals::copies::Name;
 use lasso_parts::keys::{Key, Spur};
@@ -14,7 +14,6 @@ use lasso_parts::util::{Capacity, FixedState, LassoErrorKind, LassoResult, Memor
 use lasso_single::rodeo::Rodeo;
 use std::alloc::Global;
 use std::test::Fail;
-use test_common::Host;
 use test_common::keys::Gap;
 use test_common::refusing::{Refusing, each_refused};
 

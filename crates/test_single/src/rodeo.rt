@@ -3,8 +3,8 @@
 mod batches;
 
 use crate::interners::{
-    KEYS, LIMIT, MEMORY, Small, SpurReader, SpurResolver, has_count, interner, interns, is_so,
-    is_so_at, key_at, number_of, of_texts, refusal_of,
+    Host, KEYS, LIMIT, MEMORY, Small, SpurReader, SpurResolver, has_count, interner, interns,
+    is_so, is_so_at, key_at, number_of, of_texts, refusal_of,
 };
 use lasso_parts::keys::{Key, Spur};
 use lasso_parts::util::{Capacity, FixedState, LassoResult, MemoryLimits};
@@ -17,7 +17,6 @@ use std::iter::repeat_n;
 use std::slice::Iter;
 use std::test::Fail;
 use std::thread;
-use test_common::Host;
 use test_common::keys::{BelowTwo, Gap};
 use test_common::texts::{is_next, numbered};
 

@@ -1,5 +1,5 @@
 //! Key types, capacities, limits and errors: ranges, order, hash, printed forms, and a user's own key type.
-use crate::interners::is_so;
+use crate::interners::{Host, is_so};
 use lasso_parts::arena::Arena;
 use lasso_parts::keys::{Key, LargeSpur, MicroSpur, MiniSpur, Spur};
 use lasso_parts::util::{Capacity, LassoError, LassoErrorKind, MemoryLimits};
@@ -7,7 +7,6 @@ use std::alloc::Global;
 use std::cmp::{Ord, Ordering};
 use std::hash::{DefaultHasher, Hash, Hasher};
 use std::test::Fail;
-use test_common::Host;
 use test_common::keys::Below;
 
 // A user's own key type. It keeps the position in 32 bits, and leaves the 16777216 highest values free.

@@ -1,6 +1,7 @@
 //! Calls of an interner that threads share, without a pass and by two passes of it.
 ghost use Rattle.std.specs.Prelude.{◌≡◌};
 
+use crate::Host;
 use lasso_log::log::Pass;
 use lasso_parts::keys::{Key, Spur};
 use lasso_parts::util::{Capacity, FixedState, LassoErrorKind, LassoResult, MemoryLimits};
@@ -12,7 +13,6 @@ use std::mem::swap;
 use std::sync::Wait;
 use std::test::*;
 use std::thread::yield_now;
-use test_common::Host;
 
 /// An interner with the default keys and hasher.
 pub type Shared = ThreadedRodeo<Spur, FixedState>;

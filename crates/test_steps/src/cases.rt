@@ -5,6 +5,7 @@
 //! `-` up to the end. One that ends in `.` stands for the same with `.` as its last byte, and `#` for the size as a
 //! number of five digits. Numbers of a row are in terms of `SIZE`. In each case `@` and `%` stand for its two
 //! texts.
+use crate::Host;
 use crate::calls::{Caller, Shared, refusal_of};
 use crate::steps::{Call, Reply, Step, Way};
 use crate::texts::{KeyNumbers, List, ended_lasting, items_of, lasting, numeral};
@@ -14,7 +15,6 @@ use lasso_shared::threaded::ThreadedRodeo;
 use std::alloc::Global;
 use std::hash::BuildHasher;
 use std::sync::atomic::{AtomicBool, Ordering};
-use test_common::Host;
 
 /// What the rows of a run leave open.
 #[derive(Clone, Copy)]

@@ -1,4 +1,5 @@
 //! Rows that passes make, also of calls that take a list of texts.
+use crate::Host;
 use crate::calls::{Caller, Shared, number_of, numbered, refusal_of};
 use crate::cases::{Case, Forms};
 use crate::steps::{Call, Step, is_reply};
@@ -8,7 +9,6 @@ use lasso_parts::util::{LassoErrorKind, LassoResult};
 use lasso_shared::threaded::ThreadedRodeo;
 use std::hash::BuildHasher;
 use std::thread::join;
-use test_common::Host;
 
 // More texts than a round of hints has.
 const ROUND: usize = 70_000;

@@ -1,11 +1,11 @@
 //! Calls of an interner as rows, each with what it has to return. One function makes the calls of all rows, so
 //! a test that is a list of rows is proved as fast as one of a single call. Rows are cheapest in a `static`.
+use crate::Host;
 use crate::calls::{Caller, answered, numbered, refusal_of};
 use crate::texts::{KeyNumbers, List, counted, items_of, numeral};
 use lasso_parts::keys::Key;
 use lasso_parts::util::{LassoErrorKind, LassoResult};
 use std::hash::BuildHasher;
-use test_common::Host;
 
 /// A number, or why a call is refused.
 pub type Reply = Result<usize, LassoErrorKind>;

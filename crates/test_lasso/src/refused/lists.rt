@@ -4,7 +4,7 @@ use crate::refused::{Run, retried};
 use lasso::{FixedState, Key, LassoErrorKind, MemoryLimits, RodeoReader, Spur};
 use std::alloc::Global;
 use std::test::Fail;
-use test_common::Host;
+use test_steps::Host;
 
 // The texts as an object, each with its position plus one.
 const OBJECT: &str = r#"{"abc":1,"defghijk":2,"x":3,"yz":4}"#;

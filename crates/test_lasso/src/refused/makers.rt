@@ -5,7 +5,7 @@ use lasso::{
 };
 use std::alloc::Global;
 use std::test::Fail;
-use test_common::Host;
+use test_steps::Host;
 use test_steps::calls::{answered, number_of, numbered};
 
 // The makers, by what they take.

@@ -4,8 +4,8 @@ use crate::refused::{Run, retried};
 use lasso::{FixedState, Key, LassoErrorKind, RodeoReader, RodeoResolver, Spur, ThreadedRodeo};
 use std::alloc::Global;
 use std::test::Fail;
-use test_common::Host;
 use test_common::keys::WithoutTwo;
+use test_steps::Host;
 
 const KEYS: Reply = Err(LassoErrorKind::KeySpaceExhaustion);
 

@@ -10,8 +10,8 @@ use std::alloc::Global;
 use std::sync::atomic::{AtomicU64, Ordering};
 use std::test::*;
 use std::thread::join;
-use test_common::Host;
 use test_common::hashers::FirstState;
+use test_steps::Host;
 
 // More texts than a round of hints has, after which hints that found few of them rest.
 const ROUND: usize = 70_000;

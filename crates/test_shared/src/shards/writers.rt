@@ -12,8 +12,8 @@ use std::hash::{BuildHasher, Hasher};
 use std::sync::atomic::{AtomicU64, Ordering};
 use std::test::*;
 use std::thread::join;
-use test_common::Host;
 use test_common::texts::leaked;
+use test_steps::Host;
 use test_steps::calls::Caller;
 use test_steps::steps::Way;
 

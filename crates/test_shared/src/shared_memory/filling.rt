@@ -9,7 +9,7 @@ use lasso_parts::util::LassoResult;
 use std::alloc::Global;
 use std::test::*;
 use std::thread::join;
-use test_common::Host;
+use test_steps::Host;
 
 // What each thread writes, 40 bytes of its own letter.
 static LETTERS: [&str; 4] = [

@@ -13,7 +13,7 @@ use lasso_parts::util::LassoResult;
 use std::alloc::AllocError;
 use std::test::*;
 use std::thread::join;
-use test_common::Host;
+use test_steps::Host;
 
 #[test]
 fn a_new_list_has_the_first_bucket(rt: HostRuntime) -> Result<(), Fail> {

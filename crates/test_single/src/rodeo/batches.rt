@@ -5,7 +5,7 @@
 //! bytes are 1,048,576. A batch of 32 that is interned or taken is looked ahead at if at least 8 texts of the one before
 //! were present and far; one that `get_all` looks up, if the text before it was present, or if the index has
 //! 4,194,304 bytes.
-use crate::interners::{Small, has_count, is_so, is_so_at, key_at, number_of, of_texts};
+use crate::interners::{Host, Small, has_count, is_so, is_so_at, key_at, number_of, of_texts};
 use lasso_parts::keys::{Key, Spur};
 use lasso_parts::util::Capacity;
 use lasso_single::batch::{Batch, get_next, look_ahead};
@@ -13,7 +13,6 @@ use lasso_single::rodeo::Rodeo;
 use std::alloc::Global;
 use std::cell::Cell;
 use std::test::Fail;
-use test_common::Host;
 use test_common::hashers::CountingState;
 use test_common::texts::leaked;
 
