@@ -38,8 +38,6 @@ mod seed;
 pub mod seeded;
 pub mod shared;
 #[cfg(test)]
-mod shared_batches_tests;
-#[cfg(test)]
 mod shared_limits_tests;
 #[cfg(test)]
 mod shared_making_tests;

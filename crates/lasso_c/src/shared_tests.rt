@@ -1,13 +1,16 @@
-//! Calls on handles of shared interners, on inputs that were worked by hand. `examples/c/shared.c` has those of several threads.
+//! Calls on handles of shared interners, batches, and the texts that they lend from a code on, on inputs that were worked
+//! by hand. `examples/c/shared.c` has those of several threads.
 use crate::lending::LassoText;
+use crate::shared::batches::lasso_shared_intern_batch;
 use crate::shared::handle::LassoShared;
-use crate::shared::lending::lasso_shared_text;
+use crate::shared::lending::{lasso_shared_text, lasso_shared_texts};
 use crate::shared::making::lasso_shared_new;
 use crate::shared::{
     lasso_shared_free, lasso_shared_get, lasso_shared_intern, lasso_shared_join, lasso_shared_len,
     lasso_shared_resolve, lasso_shared_see,
 };
-use crate::tests::checks::{Seen, has_bytes, is_as_told};
+use crate::tests::checks::{Seen, UNSET, has_bytes, is_as_told, is_so};
+use crate::tests::steps::{Codes, are_lent, has_codes};
 use std::alloc::Global;
 use std::process::Abort;
 use std::test::Fail;
@@ -29,6 +32,10 @@ enum Step {
     Sees(usize, u32),
     // lending the text of the code has this status and lends this text, "none" if there is none
     Lends(usize, u32, (u32, &'static [u8])),
+    // interning the texts of these bytes and offsets by the first, with room for this number of codes, ends so
+    Batch(&'static [u8], &'static [u32], usize, Codes),
+    // the texts from the code on, with room for this number, are lent by the first
+    LendsAll(usize, usize, &'static [&'static [u8]]),
     // the number of texts
     Counts(usize, usize),
     // the handle is let go
@@ -60,6 +67,25 @@ fn lends(shared: &mut LassoShared, code: u32, want: (u32, &[u8])) -> Seen {
     (status, status == want.0 && text.bytes == want.1)
 }
 
+fn batch(
+    shared: &mut LassoShared,
+    bytes: &[u8],
+    offsets: &[u32],
+    room: usize,
+    want: Codes,
+) -> Seen {
+    let (mut codes, mut report) = ([9; 9], UNSET);
+    let output = &mut codes[..room.min(9)];
+    let status = lasso_shared_intern_batch(shared, bytes, offsets, output, &mut report);
+    has_codes(status, &report, &codes, want)
+}
+
+fn lends_all(shared: &mut LassoShared, from: usize, room: usize, want: &[&[u8]]) -> Seen {
+    let mut texts = [LassoText { bytes: b"none" }; 4];
+    let count = lasso_shared_texts(shared, from, &mut texts[..room.min(4)]);
+    (0, count == want.len() && are_lent(&texts, want))
+}
+
 // Takes the step on one of the handles.
 fn take(alloc: Global, [first, second]: &mut [LassoShared; 2], step: &Step) -> Seen {
     match *step {
@@ -77,6 +103,8 @@ fn take(alloc: Global, [first, second]: &mut [LassoShared; 2], step: &Step) -> S
         Step::Sees(_, want) => is_status(lasso_shared_see(second), want),
         Step::Lends(0, code, want) => lends(first, code, want),
         Step::Lends(_, code, want) => lends(second, code, want),
+        Step::Batch(bytes, offsets, room, want) => batch(first, bytes, offsets, room, want),
+        Step::LendsAll(from, room, want) => lends_all(first, from, room, want),
         Step::Counts(0, count) => (0, lasso_shared_len(first) == count),
         Step::Counts(_, count) => (0, lasso_shared_len(second) == count),
         Step::Frees(0) => frees(alloc, first),
@@ -202,4 +230,79 @@ fn is_send<T: Send>() {}
 #[test]
 fn handles_of_shared_interners_cross_threads() {
     is_send::<LassoShared>();
+}
+
+// Batches, and the texts that are lent from a code on.
+
+// A text of more bytes than an entry of a list.
+const LONG: &[u8] = b"a text of more bytes than an entry";
+
+static GOOD: [Step; 13] = [
+    Step::Makes(0),
+    Step::Batch(b"", &[], 4, (0, (0, 0, 0), &[])),
+    Step::Batch(b"", &[], 0, (0, (0, 0, 0), &[])),
+    Step::Batch(b"red", &[3], 4, (0, (0, 0, 0), &[])),
+    Step::Batch(b"redbluered", &[0, 3, 7, 10], 4, (0, (3, 0, 0), &[0, 1, 0])),
+    Step::Batch(b"redbluered", &[0, 3, 7, 10], 3, (0, (3, 0, 0), &[0, 1, 0])),
+    Step::Batch(b"redblue", &[3, 7, 7], 4, (0, (2, 0, 0), &[1, 2])),
+    Step::Batch(LONG, &[0, 34], 9, (0, (1, 0, 0), &[3])),
+    Step::Counts(0, 4),
+    Step::Sees(0, 0),
+    Step::LendsAll(0, 4, &[b"red", b"blue", b"", LONG]),
+    Step::Batch(b"green", &[0, 5], 9, (0, (1, 0, 0), &[4])),
+    Step::LendsAll(3, 4, &[LONG]),
+];
+
+#[test]
+fn interns_a_batch(rt: HostRuntime) -> Result<(), Fail> {
+    walk(&rt, &GOOD)
+}
+
+static REFUSED: [Step; 13] = [
+    Step::Makes(0),
+    Step::Batch(b"redblue", &[0, 3, 7], 1, (6, (0, 0, 0), &[])),
+    Step::Batch(b"redblue", &[0, 3, 7], 0, (6, (0, 0, 0), &[])),
+    Step::Batch(b"redblue", &[8, 3, 7], 4, (2, (0, 0, 0), &[])),
+    Step::Batch(b"redblue", &[8], 4, (2, (0, 0, 0), &[])),
+    Step::Counts(0, 0),
+    Step::Batch(b"redblue", &[0, 3, 2], 4, (1, (1, 0, 1), &[0])),
+    Step::Counts(0, 1),
+    Step::Batch(b"redblue", &[3, 7, 8], 4, (2, (1, 0, 1), &[1])),
+    Step::Batch(b"redblue", &[3, 7, u32::MAX], 4, (2, (1, 0, 1), &[1])),
+    Step::Batch(b"green\xc3", &[0, 5, 6], 4, (3, (1, 0, 1), &[2])),
+    Step::Batch(b"\xc3red", &[0, 1, 4], 4, (3, (0, 0, 0), &[])),
+    Step::Counts(0, 3),
+];
+
+#[test]
+fn a_refused_batch_keeps_the_texts_before(rt: HostRuntime) -> Result<(), Fail> {
+    walk(&rt, &REFUSED)
+}
+
+static FROM_A_CODE_ON: [Step; 12] = [
+    Step::Makes(0),
+    Step::Batch(b"redblue", &[0, 0, 3, 7], 4, (0, (3, 0, 0), &[0, 1, 2])),
+    Step::LendsAll(0, 4, &[]),
+    Step::Sees(0, 0),
+    Step::LendsAll(0, 4, &[b"", b"red", b"blue"]),
+    Step::LendsAll(0, 3, &[b"", b"red", b"blue"]),
+    Step::LendsAll(0, 2, &[b"", b"red"]),
+    Step::LendsAll(0, 0, &[]),
+    Step::LendsAll(2, 4, &[b"blue"]),
+    Step::LendsAll(3, 4, &[]),
+    Step::LendsAll(usize::MAX, 4, &[]),
+    Step::Counts(0, 3),
+];
+
+#[test]
+fn lends_the_texts_that_were_seen(rt: HostRuntime) -> Result<(), Fail> {
+    walk(&rt, &FROM_A_CODE_ON)
+}
+
+#[test]
+fn a_handle_without_an_interner_interns_no_batch(rt: HostRuntime) {
+    let mut shared = LassoShared::none(rt.alloc());
+    let seen = batch(&mut shared, b"red", &[0, 3], 4, (12, (0, 0, 0), &[]));
+    is_so(&rt, seen.1, "a batch");
+    is_so(&rt, lends_all(&mut shared, 0, 4, &[]).1, "texts");
 }

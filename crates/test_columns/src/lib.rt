@@ -11,8 +11,6 @@ mod dictionaries;
 #[cfg(test)]
 mod long_columns;
 #[cfg(test)]
-mod long_shared;
-#[cfg(test)]
 mod parts;
 #[cfg(test)]
 mod shared;

@@ -1,15 +1,13 @@
-//! Columns of 20,000 texts. The expected codes are computed from the numbers that the texts print.
+//! Columns of 20,000 texts, also by threads over an interner that has texts already. The expected codes are computed
+//! from the numbers that the texts print.
 use crate::calls::{
-    Call, distinct_of, encode, encode_in_parts, encode_lines, ends_so, interner, merge,
-    shared_interner, stand_for,
+    CALLS, Call, Host, Shared, are_codes, distinct_of, has_from, interner, is_so, is_so_at,
+    limited_shared, stand_for,
 };
-use crate::columns::{are_decoded, is_merged};
-use crate::shared::{are_codes, encoded};
-use lasso::{SpurRodeo, SpurRodeoReader};
+use lasso::{MemoryLimits, SpurThreadedRodeo, ThreadedRodeo};
+use lasso_columns::{decode, encode, encode_in_parts, encode_lines, merge};
 use std::alloc::Global;
-use std::sync::Wait;
 use std::test::Fail;
-use std::thread::Threads;
 
 // How a column is encoded: as texts or as lines by one thread, or in parts by this number of workers.
 #[derive(Clone, Copy)]
@@ -19,214 +17,102 @@ pub(super) enum Way {
     Parts(usize),
 }
 
-// The texts as lines.
-fn lines_of(alloc: Global, texts: &[&str]) -> Result<Vec<u8>, Fail> {
-    let mut lines = Vec::new(alloc);
-    for at in 0..texts.len() {
-        lines.extend_from_slice(texts[at].as_bytes())?;
-        lines.push(b'\n')?;
-    }
-    Ok(lines)
-}
-
-fn encode_as_lines(
-    alloc: Global,
-    rodeo: &mut SpurRodeo,
-    texts: &[&str],
-    codes: &mut Vec<u32>,
-) -> Result<(), Fail> {
-    let lines = lines_of(alloc, texts)?;
-    Ok(encode_lines(rodeo, &lines, codes)?)
-}
-
-fn encode_by<R: AllocGlobal + Threads + Sync>(
-    rt: &R,
-    rodeo: &mut SpurRodeo,
-    texts: &[&str],
-    codes: &mut Vec<u32>,
-    way: Way,
-) -> Result<(), Fail> {
-    match way {
-        Way::Texts => Ok(encode(rodeo, texts, codes)?),
-        Way::Lines => encode_as_lines(rt.alloc(), rodeo, texts, codes),
-        Way::Parts(workers) => Ok(encode_in_parts(rt, rodeo, texts, codes, workers)?),
-    }
-}
-
-// Whether encoding the texts gives these codes, which resolve to them, and the interner then has no other text
-// than theirs and those that it had.
-fn encodes<R: AllocGlobal + Threads + Sync>(
-    rt: &R,
-    rodeo: &mut SpurRodeo,
+// The texts have these codes over an interner of the opening's texts, which resolve to them, and it then has no other
+// text than theirs and those that it had. They are decoded from the codes.
+pub(super) fn are_encoded(
+    rt: &impl Host,
+    opening: &[&str],
     texts: &[&str],
     wanted: &[u32],
     way: Way,
-) -> Result<bool, Fail> {
-    let count = rodeo.len();
-    let mut codes = Vec::new(rt.alloc());
-    match encode_by(rt, rodeo, texts, &mut codes, way) {
-        Ok(()) => Ok(
-            codes.as_slice() == wanted
-                && rodeo.len() == count.max(distinct_of(wanted))
-                && stand_for(rodeo, wanted, texts),
-        ),
-        Err(fault) => Err(fault),
-    }
-}
-
-fn decodes(alloc: Global, rodeo: SpurRodeo, codes: &[u32], texts: &[&str]) -> Result<bool, Fail> {
-    let reader = rodeo.into_reader();
-    are_decoded(alloc, &reader, codes, texts)
-}
-
-// Whether the texts have these codes over an interner of the opening's texts, and are decoded from them.
-pub(super) fn are_encoded<R: AllocGlobal + Threads + Sync>(
-    rt: &R,
-    opening: &[&str],
-    texts: &[&str],
-    codes: &[u32],
-    way: Way,
-) -> Result<bool, Fail> {
+) -> Result<(), Fail> {
     let mut rodeo = interner(rt.alloc(), opening)?;
-    if !encodes(rt, &mut rodeo, texts, codes, way)? {
-        return Ok(false);
-    }
-    decodes(rt.alloc(), rodeo, codes, texts)
-}
-
-// Whether a column has these codes over an interner of one text or none, and is decoded from them.
-pub(super) fn is_encoded<R: AllocGlobal + Threads + Sync>(
-    rt: &R,
-    opening: &[&str],
-    column: &Column,
-    way: Way,
-) -> Result<bool, Fail> {
-    let texts = slices(rt.alloc(), &column.texts)?;
-    are_encoded(rt, opening, &texts, &column.codes, way)
-}
-
-// Whether a long column is encoded over an interner without texts, and decoded.
-pub(super) fn encodes_long<R: AllocGlobal + Threads + Sync>(
-    rt: &R,
-    numbers: Numbers,
-    ways: &[Way],
-) -> Result<bool, Fail> {
-    let column = make_column(rt.alloc(), numbers, COUNT)?;
-    for at in 0..ways.len() {
-        if !is_encoded(rt, &[], &column, ways[at])? {
-            return Ok(false);
+    let mut codes = Vec::new(rt.alloc());
+    match way {
+        Way::Texts => encode(&mut rodeo, texts, &mut codes)?,
+        Way::Lines => {
+            let mut lines: Vec<u8> = Vec::new(rt.alloc());
+            for text in texts {
+                lines.extend_from_slice(text.as_bytes())?;
+                lines.push(b'\n')?;
+            }
+            encode_lines(&mut rodeo, &lines, &mut codes)?;
         }
+        Way::Parts(workers) => encode_in_parts(rt, &mut rodeo, texts, &mut codes, workers)?,
     }
-    Ok(true)
+    is_so(rt, codes.as_slice() == wanted, "the codes");
+    let count = opening.len().max(distinct_of(wanted));
+    is_so(rt, rodeo.len() == count, "the number of texts");
+    let holds = stand_for(&rodeo, wanted, texts);
+    is_so(rt, holds, "the texts of the codes");
+    let reader = rodeo.into_reader();
+    let mut decoded = Vec::new(rt.alloc());
+    decode(&reader, wanted, &mut decoded)?;
+    let holds = decoded.as_slice() == texts;
+    is_so(rt, holds, "the texts that are decoded");
+    Ok(())
+}
+
+// A long column is encoded in each way over an interner without texts, and decoded.
+pub(super) fn encodes_long(rt: &impl Host, numbers: Numbers, ways: &[Way]) -> Result<(), Fail> {
+    let column = make_column(rt.alloc(), numbers, COUNT)?;
+    let texts = slices(rt.alloc(), &column.texts)?;
+    for way in ways {
+        are_encoded(rt, &[], &texts, &column.codes, *way)?;
+    }
+    Ok(())
 }
 
 #[test]
 fn long_columns_are_encoded_and_decoded(rt: HostRuntime) -> Result<(), Fail> {
     static WAYS: [Way; 2] = [Way::Texts, Way::Lines];
-    ends_so(&rt, encodes_long(&rt, Numbers::Repeated, &WAYS), "repeated")?;
-    ends_so(&rt, encodes_long(&rt, Numbers::Distinct, &WAYS), "distinct")?;
-    ends_so(&rt, encodes_long(&rt, Numbers::Mixed, &WAYS), "mixed")
+    encodes_long(&rt, Numbers::Repeated, &WAYS)?;
+    encodes_long(&rt, Numbers::Distinct, &WAYS)?;
+    encodes_long(&rt, Numbers::Mixed, &WAYS)
 }
 
-fn merges_into(
-    alloc: Global,
-    opening: &[&str],
-    from: &SpurRodeoReader,
-    codes: &[u32],
-    count: usize,
-) -> Result<bool, Fail> {
-    let mut into = interner(alloc, opening)?;
-    let merged = merge(alloc, &mut into, from);
-    match is_merged(merged, Some(codes)) {
-        Ok(right) => Ok(right && into.len() == count),
-        Err(fault) => Err(fault),
-    }
-}
-
-// Whether merging an interner of the texts into one of the opening gives these codes. The latter then has
-// `count` texts.
+// Merging an interner of the texts into one of the opening gives these codes. The latter then has `count` texts.
 pub(super) fn merges(
-    alloc: Global,
+    rt: &impl Host,
     opening: &[&str],
     texts: &[&str],
     codes: &[u32],
     count: usize,
-) -> Result<bool, Fail> {
-    let from = interner(alloc, texts)?.into_reader();
-    merges_into(alloc, opening, &from, codes, count)
+) -> Result<(), Fail> {
+    let from = interner(rt.alloc(), texts)?.into_reader();
+    let mut into = interner(rt.alloc(), opening)?;
+    let merged = merge(rt.alloc(), &mut into, &from)?;
+    is_so(rt, merged.as_slice() == codes, "the codes");
+    is_so(rt, into.len() == count, "the number of texts");
+    Ok(())
 }
 
-fn codes_of_both(alloc: Global, first: &[u32], second: &[u32]) -> Result<Vec<u32>, Fail> {
-    let mut numbers = first.to_vec(alloc)?;
-    numbers.extend_from_slice(second)?;
-    codes_of(alloc, &numbers)
-}
-
-// Merges the texts of the second column, each of which comes once, into an interner of those of the first.
-// `codes` are those of the second column's texts after the first.
-fn merges_columns(
-    alloc: Global,
-    first: &[String],
-    second: &[String],
-    codes: &[u32],
-    count: usize,
-) -> Result<bool, Fail> {
-    let opening = slices(alloc, first)?;
-    let texts = slices(alloc, second)?;
-    merges(alloc, &opening, &texts, codes, count)
-}
-
-// Merges a column that prints the second numbers into an interner of the first.
-fn merges_numbers(alloc: Global, first: &[u32], second: &[u32]) -> Result<bool, Fail> {
-    let codes = codes_of_both(alloc, first, second)?;
-    let added = codes.get(first.len()..).ok_or("too few codes")?;
-    let first = printed(alloc, first)?;
-    let second = printed(alloc, second)?;
-    merges_columns(alloc, &first, &second, added, distinct_of(&codes))
-}
-
-// The second dictionary has 20,000 texts, some of which the first has too.
+// The second dictionary has 20,000 texts, each of which comes once, and some of which the first has too.
 #[test]
 fn dictionaries_of_many_texts_are_merged(rt: HostRuntime) -> Result<(), Fail> {
-    let first = first_of(rt.alloc(), Numbers::Repeated, COUNT)?;
-    let second = first_of(rt.alloc(), Numbers::Distinct, COUNT)?;
-    ends_so(
-        &rt,
-        merges_numbers(rt.alloc(), &first, &second),
-        "the codes",
-    )
-}
-
-// Encodes the texts by these workers over a new interner that threads share, which then has `count` texts.
-fn shares<R: AllocGlobal + Threads + Wait + Sync>(
-    rt: &R,
-    texts: &[&str],
-    workers: usize,
-    count: usize,
-) -> Result<bool, Fail> {
-    let rodeo = shared_interner(rt.alloc())?;
-    match encoded(rt, &rodeo, texts, Call::Plain, workers) {
-        Ok(codes) => Ok(rodeo.len() == count && are_codes(&rodeo, &codes, texts)),
-        Err(error) => Err(Fail::from(error)),
-    }
-}
-
-fn shares_column<R: AllocGlobal + Threads + Wait + Sync>(
-    rt: &R,
-    column: &Column,
-    workers: usize,
-) -> Result<bool, Fail> {
-    let texts = slices(rt.alloc(), &column.texts)?;
-    shares(rt, &texts, workers, distinct_of(&column.codes))
+    let mut numbers = first_of(rt.alloc(), Numbers::Repeated, COUNT)?;
+    let first = printed(rt.alloc(), &numbers)?;
+    let others = first_of(rt.alloc(), Numbers::Distinct, COUNT)?;
+    let second = printed(rt.alloc(), &others)?;
+    numbers.extend_from_slice(&others)?;
+    let codes = codes_of(rt.alloc(), &numbers)?;
+    let added = codes.get(first.len()..).ok_or("too few codes")?;
+    let (first, second) = (slices(rt.alloc(), &first)?, slices(rt.alloc(), &second)?);
+    merges(&rt, &first, &second, added, distinct_of(&codes))
 }
 
 // The order of the list may differ from run to run.
 #[test]
 fn threads_encode_many_texts(rt: HostRuntime) -> Result<(), Fail> {
     let column = make_column(rt.alloc(), Numbers::Mixed, COUNT)?;
-    ends_so(&rt, shares_column(&rt, &column, 1), "one worker")?;
-    ends_so(&rt, shares_column(&rt, &column, 4), "four workers")?;
-    ends_so(&rt, shares_column(&rt, &column, 7), "seven workers")
+    let texts = slices(rt.alloc(), &column.texts)?;
+    for workers in [1, 4, 7] {
+        let rodeo: SpurThreadedRodeo = ThreadedRodeo::default(rt.alloc())?;
+        let codes = Shared::new(&rt, &rodeo, Call::Plain, workers).encoded(&texts)?;
+        is_so_at(&rt, rodeo.len() == distinct_of(&column.codes), workers);
+        is_so_at(&rt, are_codes(&rodeo, &codes, &texts), workers);
+    }
+    Ok(())
 }
 
 // Columns of texts that print numbers. The expected codes are computed from the numbers.
@@ -306,18 +192,11 @@ pub(super) struct Column {
     pub codes: Vec<u32>,
 }
 
-fn column_of(alloc: Global, numbers: &[u32]) -> Result<Column, Fail> {
-    let codes = codes_of(alloc, numbers)?;
-    match printed(alloc, numbers) {
-        Ok(texts) => Ok(Column { texts, codes }),
-        Err(fault) => Err(fault),
-    }
-}
-
 /// The column of the first `count` of the numbers, encoded over an interner without texts.
 pub(super) fn make_column(alloc: Global, numbers: Numbers, count: u32) -> Result<Column, Fail> {
     let numbers = first_of(alloc, numbers, count)?;
-    column_of(alloc, &numbers)
+    let (texts, codes) = (printed(alloc, &numbers)?, codes_of(alloc, &numbers)?);
+    Ok(Column { texts, codes })
 }
 
 /// The texts, borrowed.
@@ -327,4 +206,139 @@ pub(super) fn slices(alloc: Global, printed: &[String]) -> Result<Vec<&str>, Fai
         texts.push(text.as_str())?;
     }
     Ok(texts)
+}
+
+// Columns that threads encode over an interner that has texts already, under a limit that none of them meets and under
+// one that all of them meet. Each text has five bytes, so that which buckets there are afterwards is the same whatever
+// the order of the texts.
+
+static WORKERS: [usize; 2] = [1, 4];
+
+// Far above the bytes of all texts.
+const LIMIT: usize = 1_234_567;
+
+// Below the bytes of each column's texts.
+const LOW_LIMIT: usize = 40_000;
+
+// How many texts the interner has before a column is encoded.
+const OPENING: usize = 500;
+
+// A column, and the opening before it. An interner of both has `count` texts.
+#[derive(Clone, Copy)]
+struct Case<'a> {
+    opening: &'a [&'a str],
+    texts: &'a [&'a str],
+    // by one worker
+    codes: &'a [u32],
+    count: usize,
+}
+
+// The interner has to have the texts of the opening first, and `count` texts in all; and this usage under the limit.
+fn holds<R: Host>(shared: &Shared<'_, R>, opening: &[&str], count: usize, usage: usize) {
+    let (rt, rodeo) = (shared.rt, shared.rodeo);
+    is_so(rt, shared.is_kept(count, LIMIT), "the number of texts");
+    is_so(rt, rodeo.current_memory_usage(rt) == usage, "the usage");
+    is_so(rt, has_from(rodeo, 0, opening), "the opening");
+}
+
+// Interns the opening, which fits in the first bucket, of these bytes, and encodes the column, and then its first
+// thousand texts once more, none of which is new. After both the usage has to be this.
+fn follows<R: Host>(
+    shared: &Shared<'_, R>,
+    case: Case<'_>,
+    bytes: usize,
+    usage: usize,
+) -> Result<(), Fail> {
+    let (rt, rodeo) = (shared.rt, shared.rodeo);
+    rodeo.extend(rt, case.opening.iter().copied())?;
+    holds(shared, case.opening, OPENING, bytes);
+    let codes = shared.encoded(case.texts)?;
+    holds(shared, case.opening, case.count, usage);
+    is_so(rt, are_codes(rodeo, &codes, case.texts), "the texts");
+    let are_in_order = shared.workers > 1 || codes.as_slice() == case.codes;
+    is_so(rt, are_in_order, "the codes");
+    let again = shared.encoded(case.texts.get(..1000).ok_or("too few texts")?)?;
+    is_so(rt, Some(again.as_slice()) == codes.get(..1000), "again");
+    holds(shared, case.opening, case.count, usage);
+    Ok(())
+}
+
+// Encodes the column of these numbers after the opening, by each call and each number of workers. Then there are `count`
+// texts, and `usage` bytes in the buckets if the first bucket has the bytes of the opening alone, or just the first
+// bucket if that has room for all texts.
+fn numbers_follow(
+    rt: &impl Host,
+    numbers: Numbers,
+    count: usize,
+    usage: usize,
+) -> Result<(), Fail> {
+    // every fortieth number below 20,000
+    let mut all = Vec::new(rt.alloc());
+    for number in 0..500u32 {
+        all.push(number.wrapping_mul(40))?;
+    }
+    let opening = printed(rt.alloc(), &all)?;
+    let numbers = first_of(rt.alloc(), numbers, COUNT)?;
+    let texts = printed(rt.alloc(), &numbers)?;
+    all.extend_from_slice(&numbers)?;
+    let codes = codes_of(rt.alloc(), &all)?;
+    let (opening, texts) = (slices(rt.alloc(), &opening)?, slices(rt.alloc(), &texts)?);
+    let case = Case {
+        opening: &opening,
+        texts: &texts,
+        codes: codes.get(OPENING..).ok_or("too few codes")?,
+        count,
+    };
+    let whole = count.saturating_mul(5).max(1);
+    for call in CALLS.iter() {
+        for workers in WORKERS.iter() {
+            for (bytes, usage) in [(2500, usage), (whole, whole)] {
+                let rodeo = limited_shared(rt.alloc(), bytes, LIMIT)?;
+                follows(
+                    &Shared::new(rt, &rodeo, *call, *workers),
+                    case,
+                    bytes,
+                    usage,
+                )?;
+            }
+        }
+    }
+    Ok(())
+}
+
+// The column has 9820 texts that the opening lacks, which have 49,100 bytes. The first bucket of 2500 bytes is
+// full, and those of 5000, 10,000, 20,000 and 40,000 bytes come after it.
+#[test]
+fn a_long_column_of_some_new_texts_follows_others(rt: HostRuntime) -> Result<(), Fail> {
+    numbers_follow(&rt, Numbers::Mixed, 10_320, 77_500)
+}
+
+// The column has 19,500 texts that the opening lacks, which have 97,500 bytes: a bucket of 80,000 bytes comes
+// too.
+#[test]
+fn a_long_column_of_new_texts_follows_others(rt: HostRuntime) -> Result<(), Fail> {
+    numbers_follow(&rt, Numbers::Distinct, 20_000, 157_500)
+}
+
+// The distinct texts of the first column have more than 49,100 bytes, those of the second 100,000. The interner has no
+// room for them under the lower limit.
+#[test]
+fn long_columns_are_refused_past_the_limit(rt: HostRuntime) -> Result<(), Fail> {
+    for numbers in [Numbers::Mixed, Numbers::Distinct] {
+        let printed = printed(rt.alloc(), &first_of(rt.alloc(), numbers, COUNT)?)?;
+        let texts = slices(rt.alloc(), &printed)?;
+        for call in CALLS.iter() {
+            for workers in WORKERS.iter() {
+                let rodeo = limited_shared(rt.alloc(), 2500, LIMIT)?;
+                rodeo.set_memory_limits(&rt, MemoryLimits::new(LOW_LIMIT));
+                let shared = Shared::new(&rt, &rodeo, *call, *workers);
+                let is_refused = shared.refuses(&texts, &mut Vec::new(rt.alloc()))?;
+                is_so(&rt, is_refused, "the refusal");
+                is_so(&rt, rodeo.max_memory_usage(&rt) == LOW_LIMIT, "the limit");
+                let holds = rodeo.current_memory_usage(&rt) <= LOW_LIMIT;
+                is_so(&rt, holds, "the usage");
+            }
+        }
+    }
+    Ok(())
 }

@@ -1,14 +1,10 @@
 //! Columns that several threads encode. Their turns may differ from run to run; the tests check what is
 //! the same in each run.
-use crate::calls::{Call, all_right, ends_so, limited_shared, shared_interner};
-use crate::columns::limit_refuses;
-use lasso::{Key, LassoResult, MemoryLimits, Spur, SpurThreadedRodeo, ThreadedRodeo};
-use std::alloc::Global;
-use std::hash::BuildHasher;
-use std::process::Abort;
-use std::sync::Wait;
+use crate::calls::{
+    CALLS, Call, Host, Shared, are_codes, has_from, is_so, is_so_at, limited_shared,
+};
+use lasso::{LassoResult, MemoryLimits, SpurThreadedRodeo, ThreadedRodeo};
 use std::test::Fail;
-use std::thread::Threads;
 
 // Five texts for each of four workers. The different ones are a, b, c, d, e, f and g.
 pub(super) static TWENTY: [&str; 20] = LETTERS;
@@ -17,89 +13,6 @@ const LETTERS: [&str; 20] = [
     "a", "b", "a", "c", "b", "d", "a", "e", "d", "a", "b", "f", "a", "c", "g", "a", "a", "e", "b",
     "d",
 ];
-
-// Whether the key of this number resolves to the text.
-fn resolves<S: BuildHasher + Drop>(
-    rodeo: &ThreadedRodeo<Spur, S>,
-    number: usize,
-    text: &str,
-) -> bool {
-    match Spur::try_from_usize(number) {
-        Some(key) => rodeo.try_resolve(key) == Some(text),
-        None => false,
-    }
-}
-
-// Whether there is one code for each text, and it resolves to the text.
-pub(super) fn stand_for<S: BuildHasher + Drop>(
-    rodeo: &ThreadedRodeo<Spur, S>,
-    codes: &[u32],
-    texts: &[&str],
-) -> bool {
-    if codes.len() != texts.len() {
-        return false;
-    }
-    for at in 0..texts.len() {
-        if !resolves(rodeo, codes[at] as usize, texts[at]) {
-            return false;
-        }
-    }
-    true
-}
-
-// Whether there is one code for each text, and it resolves to the text, with the usual hasher.
-pub(super) fn are_codes(rodeo: &SpurThreadedRodeo, codes: &[u32], texts: &[&str]) -> bool {
-    stand_for(rodeo, codes, texts)
-}
-
-// Whether these texts stand in the interner's list from position `first` on, in this order.
-pub(super) fn has_from(rodeo: &SpurThreadedRodeo, first: usize, texts: &[&str]) -> bool {
-    for at in 0..texts.len() {
-        if !resolves(rodeo, first.saturating_add(at), texts[at]) {
-            return false;
-        }
-    }
-    true
-}
-
-// The codes of the texts.
-pub(super) fn encoded<R: AllocGlobal + Threads + Wait + Sync>(
-    rt: &R,
-    rodeo: &SpurThreadedRodeo,
-    texts: &[&str],
-    call: Call,
-    workers: usize,
-) -> LassoResult<Vec<u32>> {
-    let mut codes = Vec::new(rt.alloc());
-    match call.encode(rt, rodeo, texts, &mut codes, workers) {
-        Ok(()) => Ok(codes),
-        Err(error) => Err(error),
-    }
-}
-
-// Whether the limit refuses one of the texts, and no code is added.
-pub(super) fn refuses<R: AllocGlobal + Threads + Wait + Sync>(
-    rt: &R,
-    rodeo: &SpurThreadedRodeo,
-    texts: &[&str],
-    call: Call,
-    workers: usize,
-) -> Result<bool, Fail> {
-    let mut codes = Vec::new(rt.alloc());
-    let refusal = call.encode(rt, rodeo, texts, &mut codes, workers).err();
-    let none = codes.is_empty();
-    Ok(limit_refuses(refusal)? && none)
-}
-
-// Whether there is this number of texts, and this limit.
-pub(super) fn is_kept<R: Wait>(
-    rt: &R,
-    rodeo: &SpurThreadedRodeo,
-    count: usize,
-    limit: usize,
-) -> bool {
-    rodeo.len() == count && rodeo.max_memory_usage(rt) == limit
-}
 
 // A call on an interner and the codes of a column, and what has to come of it; or what then has to hold.
 #[derive(Clone, Copy)]
@@ -124,121 +37,56 @@ pub(super) enum Step {
     IsLimited(usize),
 }
 
-// Whether the codes from position `first` on are those of the texts.
-fn were_added(rodeo: &SpurThreadedRodeo, codes: &[u32], first: usize, texts: &[&str]) -> bool {
-    match codes.get(first..) {
-        Some(added) => are_codes(rodeo, added, texts),
-        None => false,
+impl<'a, R: Host> Shared<'a, R> {
+    // The same call by this number of workers.
+    fn by(&self, workers: usize) -> Self {
+        Shared::new(self.rt, self.rodeo, self.call, workers)
     }
-}
 
-fn encodes<R: AllocGlobal + Threads + Wait + Sync>(
-    rt: &R,
-    rodeo: &SpurThreadedRodeo,
-    codes: &mut Vec<u32>,
-    call: Call,
-    texts: &[&str],
-    workers: usize,
-) -> Result<bool, Fail> {
-    let first = codes.len();
-    match call.encode(rt, rodeo, texts, codes, workers) {
-        Ok(()) => Ok(were_added(rodeo, codes, first, texts)),
-        Err(error) => Err(Fail::from(error)),
+    // Takes the step. Returns whether all is as it says.
+    fn takes(&self, codes: &mut Vec<u32>, step: Step) -> Result<bool, Fail> {
+        Ok(match step {
+            Step::Encodes(texts, workers) => {
+                let first = codes.len();
+                self.by(workers).encode(texts, codes)?;
+                are_codes(self.rodeo, codes.get(first..).unwrap_or(&[]), texts)
+            }
+            Step::Again(texts, workers) => {
+                let by_pass = Shared::new(self.rt, self.rodeo, Call::ByPass, workers);
+                by_pass.encoded(texts)?.as_slice() == codes.as_slice()
+            }
+            Step::Refuses(texts, workers) => self.by(workers).refuses(texts, codes)?,
+            Step::Pushes(code) => {
+                codes.push(code)?;
+                true
+            }
+            Step::Codes(wanted) => codes.as_slice() == wanted,
+            Step::Begins(texts) => has_from(self.rodeo, 0, texts),
+            Step::Counts(count) => self.rodeo.len() == count,
+            Step::Limits(bytes) => {
+                let limits = MemoryLimits::new(bytes);
+                self.rodeo.set_memory_limits(self.rt, limits);
+                self.rodeo.max_memory_usage(self.rt) == bytes
+            }
+            Step::IsLimited(bytes) => self.rodeo.max_memory_usage(self.rt) == bytes,
+        })
     }
-}
-
-fn are_again<R: AllocGlobal + Threads + Wait + Sync>(
-    rt: &R,
-    rodeo: &SpurThreadedRodeo,
-    codes: &[u32],
-    texts: &[&str],
-    workers: usize,
-) -> Result<bool, Fail> {
-    match encoded(rt, rodeo, texts, Call::ByPass, workers) {
-        Ok(again) => Ok(again.as_slice() == codes),
-        Err(error) => Err(Fail::from(error)),
-    }
-}
-
-fn refuses_more<R: AllocGlobal + Threads + Wait + Sync>(
-    rt: &R,
-    rodeo: &SpurThreadedRodeo,
-    codes: &mut Vec<u32>,
-    call: Call,
-    texts: &[&str],
-    workers: usize,
-) -> Result<bool, Fail> {
-    let count = codes.len();
-    let refusal = call.encode(rt, rodeo, texts, codes, workers).err();
-    Ok(limit_refuses(refusal)? && codes.len() == count)
-}
-
-fn pushes(codes: &mut Vec<u32>, code: u32) -> Result<bool, Fail> {
-    codes.push(code)?;
-    Ok(true)
-}
-
-fn limits<R: Wait>(rt: &R, rodeo: &SpurThreadedRodeo, bytes: usize) -> bool {
-    rodeo.set_memory_limits(rt, MemoryLimits::new(bytes));
-    rodeo.max_memory_usage(rt) == bytes
-}
-
-// Takes the step. Returns whether all is as it says.
-fn is_taken<R: AllocGlobal + Threads + Wait + Sync>(
-    rt: &R,
-    rodeo: &SpurThreadedRodeo,
-    codes: &mut Vec<u32>,
-    call: Call,
-    step: Step,
-) -> Result<bool, Fail> {
-    match step {
-        Step::Encodes(texts, workers) => encodes(rt, rodeo, codes, call, texts, workers),
-        Step::Again(texts, workers) => are_again(rt, rodeo, codes, texts, workers),
-        Step::Refuses(texts, workers) => refuses_more(rt, rodeo, codes, call, texts, workers),
-        Step::Pushes(code) => pushes(codes, code),
-        Step::Codes(wanted) => Ok(codes.as_slice() == wanted),
-        Step::Begins(texts) => Ok(has_from(rodeo, 0, texts)),
-        Step::Counts(count) => Ok(rodeo.len() == count),
-        Step::Limits(bytes) => Ok(limits(rt, rodeo, bytes)),
-        Step::IsLimited(bytes) => Ok(rodeo.max_memory_usage(rt) == bytes),
-    }
-}
-
-// Takes the steps in turn, up to the first that is wrong. Returns how many are right.
-fn right_steps<R: AllocGlobal + Threads + Wait + Sync>(
-    rt: &R,
-    rodeo: &SpurThreadedRodeo,
-    codes: &mut Vec<u32>,
-    call: Call,
-    steps: &[Step],
-) -> Result<usize, Fail> {
-    for at in 0..steps.len() {
-        if !is_taken(rt, rodeo, codes, call, steps[at])? {
-            return Ok(at);
-        }
-    }
-    Ok(steps.len())
 }
 
 // Takes the steps in turn on the interner that was just made. Fails unless each is right.
-pub(super) fn runs<R: AllocGlobal + Threads + Wait + Sync + Abort>(
-    rt: &R,
+pub(super) fn runs(
+    rt: &impl Host,
     made: LassoResult<SpurThreadedRodeo>,
     call: Call,
     steps: &[Step],
 ) -> Result<(), Fail> {
     let rodeo = made?;
+    let shared = Shared::new(rt, &rodeo, call, 1);
     let mut codes = Vec::new(rt.alloc());
-    all_right(
-        rt,
-        right_steps(rt, &rodeo, &mut codes, call, steps),
-        steps.len(),
-    )
-}
-
-// An interner under this limit.
-fn under(alloc: Global, limit: usize) -> LassoResult<SpurThreadedRodeo> {
-    ThreadedRodeo::with_memory_limits(alloc, MemoryLimits::new(limit))
+    for (row, step) in steps.iter().enumerate() {
+        is_so_at(rt, shared.takes(&mut codes, *step)?, row);
+    }
+    Ok(())
 }
 
 #[test]
@@ -250,8 +98,8 @@ fn threads_give_equal_texts_equal_codes(rt: HostRuntime) -> Result<(), Fail> {
         [Step::Encodes(&TEXTS, 4), Step::Counts(4)],
         [Step::Encodes(&TEXTS, 20), Step::Counts(4)],
     ];
-    for at in 0..STEPS.len() {
-        runs(&rt, shared_interner(rt.alloc()), Call::Plain, &STEPS[at])?;
+    for steps in STEPS.iter() {
+        runs(&rt, ThreadedRodeo::default(rt.alloc()), Call::Plain, steps)?;
     }
     Ok(())
 }
@@ -263,33 +111,8 @@ fn twenty_texts_are_all_that_is_interned(rt: HostRuntime) -> Result<(), Fail> {
         Step::Counts(7),
         Step::IsLimited(5000),
     ];
-    runs(&rt, under(rt.alloc(), 5000), Call::Plain, &STEPS)
-}
-
-// Encodes the texts, of which four are different, over an interner under a limit with room for them.
-fn encodes_odd<R: AllocGlobal + Threads + Wait + Sync>(
-    rt: &R,
-    texts: &[&str],
-    call: Call,
-    workers: usize,
-) -> Result<bool, Fail> {
-    let rodeo = under(rt.alloc(), 20_000)?;
-    let mut codes = Vec::new(rt.alloc());
-    let ended = encodes(rt, &rodeo, &mut codes, call, texts, workers);
-    Ok(ended? && is_kept(rt, &rodeo, 4, 20_000))
-}
-
-// Encodes the texts by each call, by one worker and by four.
-fn encodes_each_way<R: AllocGlobal + Threads + Wait + Sync>(
-    rt: &R,
-    texts: &[&str],
-) -> Result<bool, Fail> {
-    Ok(
-        encodes_odd(rt, texts, Call::Plain, 1)?
-            && encodes_odd(rt, texts, Call::ByPass, 1)?
-            && encodes_odd(rt, texts, Call::Plain, 4)?
-            && encodes_odd(rt, texts, Call::ByPass, 4)?,
-    )
+    let made = ThreadedRodeo::with_memory_limits(rt.alloc(), MemoryLimits::new(5000));
+    runs(&rt, made, Call::Plain, &STEPS)
 }
 
 // An empty text, texts that are not ASCII, and one of 5000 bytes, under a limit with room for them.
@@ -298,7 +121,17 @@ fn odd_texts_have_codes_of_their_own(rt: HostRuntime) -> Result<(), Fail> {
     static LONG: [u8; 5000] = [b'x'; 5000];
     let long = std::str::from_utf8(&LONG).ok().ok_or("no text")?;
     let texts = ["", "é", "", long, "é", "😀"];
-    ends_so(&rt, encodes_each_way(&rt, &texts), "the odd texts")
+    for call in CALLS.iter() {
+        for workers in [1, 4] {
+            let limits = MemoryLimits::new(20_000);
+            let rodeo: SpurThreadedRodeo = ThreadedRodeo::with_memory_limits(rt.alloc(), limits)?;
+            let shared = Shared::new(&rt, &rodeo, *call, workers);
+            let codes = shared.encoded(&texts)?;
+            is_so(&rt, are_codes(&rodeo, &codes, &texts), "the codes");
+            is_so(&rt, shared.is_kept(4, 20_000), "four texts");
+        }
+    }
+    Ok(())
 }
 
 #[test]
@@ -309,7 +142,7 @@ fn codes_go_behind_those_from_before(rt: HostRuntime) -> Result<(), Fail> {
         Step::Encodes(&[], 3),
         Step::Codes(&[7, 0, 0]),
     ];
-    runs(&rt, shared_interner(rt.alloc()), Call::Plain, &STEPS)
+    runs(&rt, ThreadedRodeo::default(rt.alloc()), Call::Plain, &STEPS)
 }
 
 #[test]
@@ -319,7 +152,12 @@ fn a_refused_worker_adds_no_code(rt: HostRuntime) -> Result<(), Fail> {
         Step::Codes(&[]),
         Step::Counts(2),
     ];
-    runs(&rt, limited_shared(rt.alloc()), Call::ByPass, &STEPS)
+    runs(
+        &rt,
+        limited_shared(rt.alloc(), 10, 10),
+        Call::ByPass,
+        &STEPS,
+    )
 }
 
 // The last of four workers meets the limit at its third text, after the two texts that fill the bucket.
@@ -335,7 +173,7 @@ fn a_limit_in_mid_column_stays_what_it_was(rt: HostRuntime) -> Result<(), Fail> 
         Step::Counts(2),
         Step::IsLimited(10),
     ];
-    runs(&rt, limited_shared(rt.alloc()), Call::Plain, &STEPS)
+    runs(&rt, limited_shared(rt.alloc(), 10, 10), Call::Plain, &STEPS)
 }
 
 // The first worker is refused. The second interns its text whatever the first does meanwhile, since the
@@ -347,7 +185,7 @@ fn each_worker_interns_its_part(rt: HostRuntime) -> Result<(), Fail> {
         Step::Codes(&[]),
         Step::Counts(1),
     ];
-    runs(&rt, limited_shared(rt.alloc()), Call::Plain, &STEPS)
+    runs(&rt, limited_shared(rt.alloc(), 10, 10), Call::Plain, &STEPS)
 }
 
 #[test]
@@ -356,7 +194,7 @@ fn a_worker_ends_at_its_first_refused_text(rt: HostRuntime) -> Result<(), Fail> 
         Step::Refuses(&["longer than ten bytes", "short"], 1),
         Step::Counts(0),
     ];
-    runs(&rt, limited_shared(rt.alloc()), Call::Plain, &STEPS)
+    runs(&rt, limited_shared(rt.alloc(), 10, 10), Call::Plain, &STEPS)
 }
 
 // After the limit was raised, an earlier refusal has no effect.
@@ -367,7 +205,12 @@ fn a_raised_limit_is_the_one_in_force(rt: HostRuntime) -> Result<(), Fail> {
         Step::Limits(5000),
         Step::Encodes(&["first", "other", "third", "first"], 2),
     ];
-    runs(&rt, limited_shared(rt.alloc()), Call::ByPass, &STEPS)
+    runs(
+        &rt,
+        limited_shared(rt.alloc(), 10, 10),
+        Call::ByPass,
+        &STEPS,
+    )
 }
 
 #[test]
@@ -375,7 +218,7 @@ fn threads_encode_a_long_column(rt: HostRuntime) -> Result<(), Fail> {
     const TEXTS: [&str; 1000] = ["first"; 1000];
     const ZEROS: [u32; 1000] = [0; 1000];
     static STEPS: [Step; 2] = [Step::Encodes(&TEXTS, 4), Step::Codes(&ZEROS)];
-    runs(&rt, shared_interner(rt.alloc()), Call::Plain, &STEPS)
+    runs(&rt, ThreadedRodeo::default(rt.alloc()), Call::Plain, &STEPS)
 }
 
 // The limit is far below the usage, but the first bucket has room for both texts.
@@ -396,6 +239,6 @@ fn a_limit_below_the_usage_refuses_no_text_with_room(rt: HostRuntime) -> Result<
         Step::Counts(2),
         Step::IsLimited(0),
     ];
-    runs(&rt, shared_interner(rt.alloc()), Call::Plain, &ONE)?;
-    runs(&rt, shared_interner(rt.alloc()), Call::Plain, &TWO)
+    runs(&rt, ThreadedRodeo::default(rt.alloc()), Call::Plain, &ONE)?;
+    runs(&rt, ThreadedRodeo::default(rt.alloc()), Call::Plain, &TWO)
 }

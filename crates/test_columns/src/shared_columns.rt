@@ -1,19 +1,14 @@
 //! Columns that threads encode over an interner that already has texts. The new texts of a column are
 //! appended to that interner's list, and its own calls resolve the codes.
-ghost use Rattle.std.specs.Prelude.{◌<◌};
-
-use crate::calls::{CALLS, Call, ends_so, shared_interner};
-use crate::columns::limit_refuses;
+use crate::calls::{CALLS, Call, Host, Shared, are_codes, has_from, is_so, limit_refuses};
 use crate::long_columns::{COUNT, Numbers, first_of, printed, slices};
-use crate::shared::{Step, TWENTY, are_codes, encoded, has_from, is_kept, refuses, runs};
+use crate::shared::{Step, TWENTY, runs};
 use lasso::{Key, LassoResult, MemoryLimits, Spur, SpurThreadedRodeo, ThreadedRodeo};
 use std::alloc::Global;
-use std::process::Abort;
 use std::str::from_utf8;
-use std::sync::Wait;
 use std::sync::atomic::{AtomicBool, Ordering};
 use std::test::Fail;
-use std::thread::{Threads, join};
+use std::thread::join;
 
 const FIRST: [&str; 8] = [
     "red", "green", "red", "blue", "green", "white", "red", "blue",
@@ -47,16 +42,6 @@ const LIMIT: usize = 5000;
 // The numbers of workers: one, four, and about one for each text.
 static WORKERS: [usize; 4] = [1, 4, 8, 9];
 
-// Whether the interner has each of the texts.
-fn has_each<R: Wait>(rt: &R, rodeo: &SpurThreadedRodeo, texts: &[&str]) -> bool {
-    for at in 0..texts.len() {
-        if !rodeo.contains(rt, texts[at]) {
-            return false;
-        }
-    }
-    true
-}
-
 // The texts of the interner, in the order of its list.
 fn texts_of(alloc: Global, rodeo: &SpurThreadedRodeo) -> Result<Vec<&str>, Fail> {
     let mut texts = Vec::new(alloc);
@@ -67,95 +52,43 @@ fn texts_of(alloc: Global, rodeo: &SpurThreadedRodeo) -> Result<Vec<&str>, Fail>
     Ok(texts)
 }
 
-// Whether the limit refuses the long text, whether interned or encoded. Afterwards the number of texts and the
-// limit have to be as before.
-fn refuses_long<R: AllocGlobal + Threads + Wait + Sync>(
-    rt: &R,
-    rodeo: &SpurThreadedRodeo,
-    long: &str,
-    call: Call,
-    workers: usize,
-) -> Result<bool, Fail> {
-    let count = rodeo.len();
-    let before = is_kept(rt, rodeo, count, LIMIT);
-    Ok(
-        before
-            && limit_refuses(rodeo.try_get_or_intern(rt, long).err())?
-            && refuses(rt, rodeo, &["red", long], call, workers)?
-            && is_kept(rt, rodeo, count, LIMIT),
-    )
-}
-
-// Whether the limit refuses a text of 6000 letters, and leaves the number of texts and the limit.
-fn limit_holds<R: AllocGlobal + Threads + Wait + Sync>(
-    rt: &R,
-    rodeo: &SpurThreadedRodeo,
-    call: Call,
-    workers: usize,
-) -> Result<bool, Fail> {
+// The limit refuses a text of 6000 letters, whether interned or encoded. The number of texts and the limit stay.
+fn limit_holds<R: Host>(shared: &Shared<'_, R>) -> Result<(), Fail> {
     static BYTES: [u8; 6000] = [b'x'; 6000];
-    match from_utf8(&BYTES) {
-        Ok(long) => refuses_long(rt, rodeo, long, call, workers),
-        Err(_) => Ok(false),
-    }
-}
-
-// Encodes the texts over an interner that had these texts. Returns whether its list then begins with them and
-// has `count` texts, and each code resolves to its text.
-fn follows<R: AllocGlobal + Threads + Wait + Sync>(
-    rt: &R,
-    rodeo: &SpurThreadedRodeo,
-    had: &[&str],
-    texts: &[&str],
-    (call, workers): (Call, usize),
-    count: usize,
-) -> Result<bool, Fail> {
-    match encoded(rt, rodeo, texts, call, workers) {
-        Ok(codes) => Ok(
-            are_codes(rodeo, &codes, texts) && rodeo.len() == count && has_from(rodeo, 0, had),
-        ),
-        Err(error) => Err(Fail::from(error)),
-    }
-}
-
-// Encodes the column of this number over an interner of the texts of the columns before it, and of `others`
-// that no column has.
-fn encodes_column<R: AllocGlobal + Threads + Wait + Sync>(
-    rt: &R,
-    rodeo: &SpurThreadedRodeo,
-    others: usize,
-    number: usize,
-    way: (Call, usize),
-) -> Result<bool, Fail>
-    requires { number < 3 }
-{
-    let count = others.saturating_add(COME[number].len());
-    let had = texts_of(rt.alloc(), rodeo)?;
-    Ok(
-        follows(rt, rodeo, &had, COLUMNS[number], way, count)?
-            && has_each(rt, rodeo, COME[number])
-            && limit_holds(rt, rodeo, way.0, way.1)?,
-    )
+    let long = from_utf8(&BYTES).ok().ok_or("no text")?;
+    let (rt, count) = (shared.rt, shared.rodeo.len());
+    is_so(rt, shared.is_kept(count, LIMIT), "the limit before");
+    let refusal = shared.rodeo.try_get_or_intern(rt, long).err();
+    is_so(rt, limit_refuses(refusal)?, "interned");
+    let is_refused = shared.refuses(&["red", long], &mut Vec::new(rt.alloc()))?;
+    is_so(rt, is_refused, "encoded");
+    is_so(rt, shared.is_kept(count, LIMIT), "the limit after");
+    Ok(())
 }
 
 // Encodes the three columns one after another over an interner of the texts of `opening`, which no column
-// has. With one worker the texts have to be in the order in which they came.
-fn encodes_three<R: AllocGlobal + Threads + Wait + Sync>(
-    rt: &R,
-    rodeo: &SpurThreadedRodeo,
-    opening: &[&str],
-    way: (Call, usize),
-) -> Result<bool, Fail> {
+// has. Its list then begins with the texts that it had. With one worker the texts have to be in the order in which
+// they came.
+fn encodes_three<R: Host>(shared: &Shared<'_, R>, opening: &[&str]) -> Result<(), Fail> {
+    let (rt, rodeo) = (shared.rt, shared.rodeo);
     rodeo.set_memory_limits(rt, MemoryLimits::new(LIMIT));
-    if !has_from(rodeo, 0, opening) {
-        return Ok(false);
-    }
-    for number in 0..3 {
-        if !encodes_column(rt, rodeo, opening.len(), number, way)? {
-            return Ok(false);
+    is_so(rt, has_from(rodeo, 0, opening), "the opening");
+    for (column, come) in COLUMNS.iter().zip(&COME) {
+        let had = texts_of(rt.alloc(), rodeo)?;
+        let codes = shared.encoded(*column)?;
+        is_so(rt, are_codes(rodeo, &codes, *column), "the codes");
+        let count = opening.len().saturating_add(come.len());
+        is_so(rt, rodeo.len() == count, "the number of texts");
+        is_so(rt, has_from(rodeo, 0, &had), "the earlier texts");
+        for text in come.iter() {
+            is_so(rt, rodeo.contains(rt, *text), *text);
         }
+        limit_holds(shared)?;
     }
-    Ok(has_from(rodeo, 0, opening) && (way.1 > 1 || has_from(rodeo, opening.len(), COME[2])))
+    is_so(rt, has_from(rodeo, 0, opening), "the opening");
+    let in_order = shared.workers > 1 || has_from(rodeo, opening.len(), COME[2]);
+    is_so(rt, in_order, "the order of the texts");
+    Ok(())
 }
 
 // How an interner gets its first texts.
@@ -167,51 +100,29 @@ enum Opening {
     Interned,
 }
 
-fn intern_two<R: Wait>(rt: &R, rodeo: &SpurThreadedRodeo) -> LassoResult<()> {
-    rodeo.try_get_or_intern(rt, "moon")?;
-    rodeo.try_get_or_intern_static(rt, "sun")?;
-    rodeo.try_get_or_intern(rt, "moon")?;
-    Ok(())
-}
-
-fn by_interning<R: Wait>(rt: &R, alloc: Global) -> LassoResult<SpurThreadedRodeo> {
-    let rodeo = shared_interner(alloc)?;
-    match intern_two(rt, &rodeo) {
-        Ok(()) => Ok(rodeo),
-        Err(error) => Err(error),
-    }
-}
-
-fn made<R: Wait>(rt: &R, alloc: Global, opening: Opening) -> LassoResult<SpurThreadedRodeo> {
+fn made(rt: &impl Host, opening: Opening) -> LassoResult<SpurThreadedRodeo> {
+    let alloc = rt.alloc();
     match opening {
-        Opening::None => shared_interner(alloc),
+        Opening::None => ThreadedRodeo::default(alloc),
         Opening::Iterator => ThreadedRodeo::from_iter(alloc, rt, ["sun", "moon", "sun", ""]),
         Opening::Words => ThreadedRodeo::from_static(alloc, &["moon", "", "sun"]),
-        Opening::Interned => by_interning(rt, alloc),
+        Opening::Interned => {
+            let rodeo: SpurThreadedRodeo = ThreadedRodeo::default(alloc)?;
+            rodeo.try_get_or_intern(rt, "moon")?;
+            rodeo.try_get_or_intern_static(rt, "sun")?;
+            rodeo.try_get_or_intern(rt, "moon")?;
+            Ok(rodeo)
+        }
     }
-}
-
-fn encodes_over<R: AllocGlobal + Threads + Wait + Sync>(
-    rt: &R,
-    opening: Opening,
-    texts: &[&str],
-    way: (Call, usize),
-) -> Result<bool, Fail> {
-    let rodeo = made(rt, rt.alloc(), opening)?;
-    encodes_three(rt, &rodeo, texts, way)
 }
 
 // Encodes the columns over new interners with this opening, which has these texts, by each call and each
 // number of workers.
-fn columns_follow<R: AllocGlobal + Threads + Wait + Sync + Abort>(
-    rt: &R,
-    opening: Opening,
-    texts: &[&str],
-) -> Result<(), Fail> {
-    for call in 0..CALLS.len() {
-        for workers in 0..WORKERS.len() {
-            let way = (CALLS[call], WORKERS[workers]);
-            ends_so(rt, encodes_over(rt, opening, texts, way), "the columns")?;
+fn columns_follow(rt: &impl Host, opening: Opening, texts: &[&str]) -> Result<(), Fail> {
+    for call in CALLS.iter() {
+        for workers in WORKERS.iter() {
+            let rodeo = made(rt, opening)?;
+            encodes_three(&Shared::new(rt, &rodeo, *call, *workers), texts)?;
         }
     }
     Ok(())
@@ -232,8 +143,13 @@ fn two_columns_share_an_interner(rt: HostRuntime) -> Result<(), Fail> {
         Step::Counts(11),
         Step::Begins(&TEXTS),
     ];
-    runs(&rt, shared_interner(rt.alloc()), Call::Plain, &STEPS)?;
-    runs(&rt, shared_interner(rt.alloc()), Call::ByPass, &STEPS)
+    runs(&rt, ThreadedRodeo::default(rt.alloc()), Call::Plain, &STEPS)?;
+    runs(
+        &rt,
+        ThreadedRodeo::default(rt.alloc()),
+        Call::ByPass,
+        &STEPS,
+    )
 }
 
 #[test]
@@ -259,82 +175,35 @@ fn columns_follow_interned_texts(rt: HostRuntime) -> Result<(), Fail> {
 // Two users of one interner: two columns that are encoded at the same time, and a column beside a thread that
 // sets limits.
 
-// Whether the texts were encoded, and each code resolves to its text.
-fn were_encoded(
-    rodeo: &SpurThreadedRodeo,
-    texts: &[&str],
-    ended: LassoResult<Vec<u32>>,
-) -> LassoResult<bool> {
-    match ended {
-        Ok(codes) => Ok(are_codes(rodeo, &codes, texts)),
-        Err(error) => Err(error),
-    }
-}
-
-// Encodes both columns at the same time, each by this call and these workers.
-fn encode_both<R: AllocGlobal + Threads + Wait + Sync>(
-    rt: &R,
-    rodeo: &SpurThreadedRodeo,
-    (one, other): (&[&str], &[&str]),
-    call: Call,
-    workers: usize,
-) -> Result<bool, Fail> {
-    let (first, second) = join(
-        rt,
-        || encoded(rt, rodeo, one, call, workers),
-        || encoded(rt, rodeo, other, call, workers),
-    );
-    let first = were_encoded(rodeo, one, first);
-    let second = were_encoded(rodeo, other, second);
-    Ok(first? && second? && rodeo.len() == 20_000)
-}
-
-// Encodes both columns at the same time over a new interner.
-fn encodes_both<R: AllocGlobal + Threads + Wait + Sync>(
-    rt: &R,
-    columns: (&[&str], &[&str]),
-    call: Call,
-    workers: usize,
-) -> Result<bool, Fail> {
-    let rodeo = shared_interner(rt.alloc())?;
-    encode_both(rt, &rodeo, columns, call, workers)
-}
-
-// Encodes columns with these texts at the same time, by each call, and by one worker and two.
-fn encodes_each_way<R: AllocGlobal + Threads + Wait + Sync>(
-    rt: &R,
-    one: &[String],
-    other: &[String],
-) -> Result<bool, Fail> {
-    let one = slices(rt.alloc(), one)?;
-    let other = slices(rt.alloc(), other)?;
-    let columns = (one.as_slice(), other.as_slice());
-    Ok(
-        encodes_both(rt, columns, Call::Plain, 1)?
-            && encodes_both(rt, columns, Call::Plain, 2)?
-            && encodes_both(rt, columns, Call::ByPass, 1)?
-            && encodes_both(rt, columns, Call::ByPass, 2)?,
-    )
-}
-
 fn texts_of_numbers(alloc: Global, numbers: Numbers) -> Result<Vec<String>, Fail> {
-    let numbers = first_of(alloc, numbers, COUNT)?;
-    printed(alloc, &numbers)
+    printed(alloc, &first_of(alloc, numbers, COUNT)?)
 }
 
-// The first column has each of 20,000 texts once, the other about half of them.
+// The first column has each of 20,000 texts once, the other about half of them. They are encoded at the same time, by
+// each call, and by one worker and two each.
 #[test]
 fn two_columns_are_encoded_at_once(rt: HostRuntime) -> Result<(), Fail> {
     let one = texts_of_numbers(rt.alloc(), Numbers::Distinct)?;
     let other = texts_of_numbers(rt.alloc(), Numbers::Mixed)?;
-    ends_so(&rt, encodes_each_way(&rt, &one, &other), "both columns")
+    let (one, other) = (slices(rt.alloc(), &one)?, slices(rt.alloc(), &other)?);
+    for call in CALLS.iter() {
+        for workers in [1, 2] {
+            let rodeo: SpurThreadedRodeo = ThreadedRodeo::default(rt.alloc())?;
+            let shared = Shared::new(&rt, &rodeo, *call, workers);
+            let (first, second) = join(&rt, || shared.encoded(&one), || shared.encoded(&other));
+            is_so(&rt, are_codes(&rodeo, &first?, &one), "one column");
+            is_so(&rt, are_codes(&rodeo, &second?, &other), "the other");
+            is_so(&rt, rodeo.len() == 20_000, "the number of texts");
+        }
+    }
+    Ok(())
 }
 
 // How many limits are set at most, in case the other thread never ends.
 const MOST: usize = 1_000_000;
 
 // Sets one limit after another until the other thread is done. Returns whether each is read as it was set.
-fn reads_what_it_sets<R: Wait>(rt: &R, rodeo: &SpurThreadedRodeo, done: &AtomicBool) -> bool {
+fn reads_what_it_sets(rt: &impl Host, rodeo: &SpurThreadedRodeo, done: &AtomicBool) -> bool {
     let mut all = true;
     for turn in 0..MOST {
         if done.load(Ordering::SeqCst) {
@@ -347,73 +216,39 @@ fn reads_what_it_sets<R: Wait>(rt: &R, rodeo: &SpurThreadedRodeo, done: &AtomicB
     all
 }
 
-// Whether the twenty texts have these codes by the call.
-fn are_again<R: AllocGlobal + Threads + Wait + Sync>(
-    rt: &R,
-    rodeo: &SpurThreadedRodeo,
-    codes: &[u32],
-    call: Call,
-    workers: usize,
-) -> LassoResult<bool> {
-    match encoded(rt, rodeo, &TWENTY, call, workers) {
-        Ok(again) => Ok(again.as_slice() == codes),
-        Err(error) => Err(error),
-    }
-}
-
-// Encodes the twenty texts a hundred times by each call. Returns whether they always have the same codes.
-fn encodes_often<R: AllocGlobal + Threads + Wait + Sync>(
-    rt: &R,
-    rodeo: &SpurThreadedRodeo,
-    workers: usize,
-) -> LassoResult<bool> {
-    let first = encoded(rt, rodeo, &TWENTY, Call::Plain, workers)?;
-    let mut all = true;
-    for _ in 0..100 {
-        all &= are_again(rt, rodeo, &first, Call::Plain, workers)?;
-        all &= are_again(rt, rodeo, &first, Call::ByPass, workers)?;
-    }
-    Ok(all)
-}
-
-// Encodes the twenty texts by `encodes_often`, and says when it is done.
-fn encodes_until_done<R: AllocGlobal + Threads + Wait + Sync>(
-    rt: &R,
+// Encodes the twenty texts a hundred times by each call, and says when it is done. Returns whether they always have the
+// same codes.
+fn encodes_often(
+    rt: &impl Host,
     rodeo: &SpurThreadedRodeo,
     workers: usize,
     done: &AtomicBool,
 ) -> LassoResult<bool> {
-    let all = encodes_often(rt, rodeo, workers);
+    let first = Shared::new(rt, rodeo, Call::Plain, workers).encoded(&TWENTY);
+    let mut all = true;
+    for turn in 0..200usize {
+        let again = Shared::new(rt, rodeo, CALLS[turn % 2], workers).encoded(&TWENTY);
+        all &= again == first;
+    }
     done.store(true, Ordering::SeqCst);
-    all
+    first?;
+    Ok(all)
 }
 
-// Encodes the twenty texts while another thread sets limits.
-fn limits_stay<R: AllocGlobal + Threads + Wait + Sync>(
-    rt: &R,
-    rodeo: &SpurThreadedRodeo,
-    workers: usize,
-) -> Result<bool, Fail> {
-    let done = AtomicBool::new(false);
-    let (set, encoded) = join(
-        rt,
-        || reads_what_it_sets(rt, rodeo, &done),
-        || encodes_until_done(rt, rodeo, workers, &done),
-    );
-    Ok(encoded? && set && rodeo.len() == 7)
-}
-
-// Encodes while limits are set, over a new interner whose first bucket has room for all texts.
-fn limits_stay_new<R: AllocGlobal + Threads + Wait + Sync>(
-    rt: &R,
-    workers: usize,
-) -> Result<bool, Fail> {
-    let rodeo = shared_interner(rt.alloc())?;
-    limits_stay(rt, &rodeo, workers)
-}
-
+// Encodes while another thread sets limits, over a new interner whose first bucket has room for all texts.
 #[test]
 fn no_column_sets_a_limit(rt: HostRuntime) -> Result<(), Fail> {
-    ends_so(&rt, limits_stay_new(&rt, 1), "one worker")?;
-    ends_so(&rt, limits_stay_new(&rt, 2), "two workers")
+    for workers in [1, 2] {
+        let rodeo: SpurThreadedRodeo = ThreadedRodeo::default(rt.alloc())?;
+        let done = AtomicBool::new(false);
+        let (set, encoded) = join(
+            &rt,
+            || reads_what_it_sets(&rt, &rodeo, &done),
+            || encodes_often(&rt, &rodeo, workers, &done),
+        );
+        is_so(&rt, encoded?, "the codes");
+        is_so(&rt, set, "the limits");
+        is_so(&rt, rodeo.len() == 7, "the number of texts");
+    }
+    Ok(())
 }

@@ -1,14 +1,13 @@
 //! Streams that are encoded by rounds, with blocks of every size from one byte on and with any number of
 //! workers. The entries were worked out by hand, or are what `encode_rows` leaves of all bytes.
-use crate::calls::{all_right, is_by_the_limit, is_so};
-use lasso::{Capacity, LassoResult, MemoryLimits, Rodeo, SpurRodeo};
-use lasso_columns::{LineError, NULL, Rounds, StreamError};
+use crate::calls::{Host, is_by_the_limit, is_so, is_so_at};
+use lasso::{Capacity, MemoryLimits, Rodeo, SpurRodeo};
+use lasso_columns::{LineError, NULL, Rounds, StreamError, encode_stream};
 use lasso_parts::hasher::TextState;
 use std::alloc::Global;
 use std::io;
-use std::io::{BufRead, BufReader, ErrorKind, Read};
+use std::io::{BufReader, ErrorKind, Read};
 use std::test::Fail;
-use std::thread::Threads;
 
 // How a stream ends. Lines are numbered from 1.
 #[derive(Clone, Copy)]
@@ -22,15 +21,26 @@ enum Ended {
     Broken,
 }
 
-// The call without its contract.
-fn encode_stream<R: AllocGlobal + Threads + Sync, I: BufRead>(
-    rt: &R,
-    input: &mut I,
-    rodeo: &mut SpurRodeo,
-    entries: &mut Vec<u32>,
+// The interner and the entries that a stream leaves, and how it ends. An interner takes three bytes of texts.
+type Left = (SpurRodeo, Vec<u32>, Result<(), StreamError>);
+
+// Encodes the input, which is read by this number of bytes at a time.
+fn encoded<I: Read + Drop>(
+    rt: &impl Host,
+    input: I,
+    bytes: usize,
     rounds: Rounds,
-) -> Result<(), StreamError> {
-    lasso_columns::encode_stream(rt, input, rodeo, Some(b"-"), entries, rounds)
+) -> Result<Left, Fail> {
+    let (capacity, limits) = (Capacity::for_bytes(3), MemoryLimits::new(3));
+    let mut rodeo: SpurRodeo = Rodeo::with_capacity_and_memory_limits(
+        rt.alloc(),
+        capacity,
+        limits,
+    )?;
+    let mut entries = Vec::new(rt.alloc());
+    let mut input = BufReader::with_capacity(rt.alloc(), bytes, input)?;
+    let ended = encode_stream(rt, &mut input, &mut rodeo, Some(b"-"), &mut entries, rounds);
+    Ok((rodeo, entries, ended))
 }
 
 // Whether a stream ended so. Out of memory is an error.
@@ -158,58 +168,26 @@ fn rounds_of(workers: usize, size: usize) -> Rounds {
     }
 }
 
-// An interner that takes three bytes of texts.
-fn of_three_bytes(alloc: Global) -> LassoResult<SpurRodeo> {
-    let capacity = Capacity::for_bytes(3);
-    Rodeo::with_capacity_and_memory_limits(alloc, capacity, MemoryLimits::new(3))
-}
-
-// Whether these are the interner's texts, in order.
-fn has_texts(rodeo: &SpurRodeo, texts: &[&str]) -> bool {
-    let mut found = 0;
-    for text in rodeo.strings() {
-        if found >= texts.len() || texts[found] != text {
-            return false;
-        }
-        found += 1;
-    }
-    found == texts.len()
-}
-
-// Whether the row comes out so.
-fn is_right<R: AllocGlobal + Threads + Sync>(
-    rt: &R,
-    row: &Row,
-    rounds: Rounds,
-) -> Result<bool, Fail> {
-    let mut rodeo = of_three_bytes(rt.alloc())?;
-    let mut entries = Vec::new(rt.alloc());
-    let mut input = BufReader::with_capacity(rt.alloc(), 3, row.bytes)?;
-    let ended = encode_stream(rt, &mut input, &mut rodeo, &mut entries, rounds);
-    let right = entries.as_slice() == row.entries && has_texts(&rodeo, row.texts);
-    Ok(ends(ended, row.ended)? && right)
-}
-
-// The first row that is not right with this number of workers and blocks of these sizes, or the number of rows.
-fn right_rows<R: AllocGlobal + Threads + Sync>(
-    rt: &R,
-    workers: usize,
-    sizes: &[usize],
-) -> Result<usize, Fail> {
-    for at in 0..ROWS.len() {
+// Each row has to come out so with this number of workers and blocks of these sizes.
+fn are_right(rt: &impl Host, workers: usize, sizes: &[usize]) -> Result<(), Fail> {
+    for (number, row) in ROWS.iter().enumerate() {
         for size in sizes {
-            if !is_right(rt, &ROWS[at], rounds_of(workers, *size))? {
-                return Ok(at);
+            let (rodeo, entries, ended) = encoded(rt, row.bytes, 3, rounds_of(workers, *size))?;
+            is_so_at(rt, ends(ended, row.ended)?, number);
+            is_so_at(rt, entries.as_slice() == row.entries, number);
+            is_so_at(rt, rodeo.len() == row.texts.len(), number);
+            for (text, wanted) in rodeo.strings().zip(row.texts) {
+                is_so_at(rt, text == *wanted, number);
             }
         }
     }
-    Ok(ROWS.len())
+    Ok(())
 }
 
 #[test]
 fn blocks_of_every_size(rt: HostRuntime) -> Result<(), Fail> {
     for workers in &WORKERS {
-        all_right(&rt, right_rows(&rt, *workers, &SIZES), ROWS.len())?;
+        are_right(&rt, *workers, &SIZES)?;
     }
     Ok(())
 }
@@ -217,7 +195,7 @@ fn blocks_of_every_size(rt: HostRuntime) -> Result<(), Fail> {
 #[test]
 fn any_number_of_workers(rt: HostRuntime) -> Result<(), Fail> {
     for workers in 1..65 {
-        all_right(&rt, right_rows(&rt, workers, &[1, 6]), ROWS.len())?;
+        are_right(&rt, workers, &[1, 6])?;
     }
     Ok(())
 }
@@ -258,44 +236,26 @@ fn ended_after(row: &Row, lines: usize) -> Ended {
     }
 }
 
-// Whether the lines before a read that fails come out so.
-fn is_right_before<R: AllocGlobal + Threads + Sync>(
-    rt: &R,
-    row: &Row,
-    cut: usize,
-    rounds: Rounds,
-) -> Result<bool, Fail> {
-    let mut rodeo = of_three_bytes(rt.alloc())?;
-    let mut entries = Vec::new(rt.alloc());
-    let bytes = &row.bytes[..cut.min(row.bytes.len())];
-    let broken = Broken {
-        rest: bytes,
-        kind: ErrorKind::BrokenPipe,
-    };
-    let mut input = BufReader::with_capacity(rt.alloc(), 2, broken)?;
-    let ended = encode_stream(rt, &mut input, &mut rodeo, &mut entries, rounds);
-    let lines = ended_lines(bytes);
-    let wanted = &row.entries[..lines.min(row.entries.len())];
-    Ok(ends(ended, ended_after(row, lines))? && entries.as_slice() == wanted)
-}
-
-fn right_before<R: AllocGlobal + Threads + Sync>(rt: &R, rounds: Rounds) -> Result<usize, Fail> {
-    for at in 0..ROWS.len() {
-        for cut in 0..ROWS[at].bytes.len() + 1 {
-            if !is_right_before(rt, &ROWS[at], cut, rounds)? {
-                return Ok(at);
-            }
-        }
-    }
-    Ok(ROWS.len())
-}
-
-// A bad line before the failed read decides.
+// The lines before a read that fails come out so. A bad line before it decides.
 #[test]
 fn reads_that_fail_at_each_byte(rt: HostRuntime) -> Result<(), Fail> {
-    for size in &[1, 4, 9] {
-        all_right(&rt, right_before(&rt, rounds_of(1, *size)), ROWS.len())?;
-        all_right(&rt, right_before(&rt, rounds_of(3, *size)), ROWS.len())?;
+    for (workers, size) in [(1, 1), (3, 1), (1, 4), (3, 4), (1, 9), (3, 9)] {
+        for (number, row) in ROWS.iter().enumerate() {
+            for cut in 0..row.bytes.len() + 1 {
+                let rest = &row.bytes[..cut];
+                let kind = ErrorKind::BrokenPipe;
+                let (_rodeo, entries, ended) = encoded(
+                    &rt,
+                    Broken { rest, kind },
+                    2,
+                    rounds_of(workers, size),
+                )?;
+                let lines = ended_lines(rest);
+                is_so_at(&rt, ends(ended, ended_after(row, lines))?, number);
+                let wanted = &row.entries[..lines.min(row.entries.len())];
+                is_so_at(&rt, entries.as_slice() == wanted, number);
+            }
+        }
     }
     Ok(())
 }
@@ -345,40 +305,22 @@ static KINDS: [ErrorKind; 41] = [
     ErrorKind::Uncategorized,
 ];
 
-// Whether a stream whose read fails by an error of this kind, after some lines, ends by that kind.
-fn is_kind_kept<R: AllocGlobal + Threads + Sync>(
-    rt: &R,
-    kind: ErrorKind,
-    rounds: Rounds,
-) -> Result<bool, Fail> {
-    let mut rodeo = of_three_bytes(rt.alloc())?;
-    let mut entries = Vec::new(rt.alloc());
-    let broken = Broken {
-        rest: b"a\na\na\na\na\na\na\na\n".as_slice(),
-        kind,
-    };
-    let mut input = BufReader::with_capacity(rt.alloc(), 2, broken)?;
-    match encode_stream(rt, &mut input, &mut rodeo, &mut entries, rounds) {
-        Err(StreamError::Read(error)) => Ok(error.kind() == kind && entries.len() == 8),
-        _ => Ok(false),
-    }
-}
-
-// The first kind that is not kept, or the number of kinds.
-fn kept_kinds<R: AllocGlobal + Threads + Sync>(rt: &R, rounds: Rounds) -> Result<usize, Fail> {
-    for at in 0..KINDS.len() {
-        if !is_kind_kept(rt, KINDS[at], rounds)? {
-            return Ok(at);
-        }
-    }
-    Ok(KINDS.len())
-}
-
+// A stream whose read fails by an error of a kind, after some lines, ends by that kind.
 #[test]
 fn kinds_of_failed_reads(rt: HostRuntime) -> Result<(), Fail> {
-    for size in &[1, 4, 100] {
-        all_right(&rt, kept_kinds(&rt, rounds_of(1, *size)), KINDS.len())?;
-        all_right(&rt, kept_kinds(&rt, rounds_of(3, *size)), KINDS.len())?;
+    for (workers, size) in [(1, 1), (3, 1), (1, 4), (3, 4), (1, 100), (3, 100)] {
+        for (number, kind) in KINDS.iter().enumerate() {
+            let broken = Broken {
+                rest: b"a\na\na\na\na\na\na\na\n".as_slice(),
+                kind: *kind,
+            };
+            let (_rodeo, entries, ended) = encoded(&rt, broken, 2, rounds_of(workers, size))?;
+            let is_kept = match ended {
+                Err(StreamError::Read(error)) => error.kind() == *kind,
+                _ => false,
+            };
+            is_so_at(&rt, is_kept && entries.len() == 8, number);
+        }
     }
     Ok(())
 }
@@ -431,58 +373,30 @@ fn entry_at(odd: Odd, place: usize, line: usize) -> u32 {
     }
 }
 
-// Whether these are the entries, up to the odd line if that ends it.
-fn are_wanted(entries: &[u32], odd: Odd, place: usize) -> bool {
-    let count = match odd {
-        Odd::Text | Odd::Null => LINES,
-        Odd::NotText | Odd::Refused => place,
-    };
-    if entries.len() != count {
-        return false;
-    }
-    for line in 0..entries.len() {
-        if entries[line] != entry_at(odd, place, line) {
-            return false;
-        }
-    }
-    true
-}
-
-fn is_right_with<R: AllocGlobal + Threads + Sync>(
-    rt: &R,
-    odd: Odd,
-    place: usize,
-    rounds: Rounds,
-) -> Result<bool, Fail> {
-    let mut rodeo = of_three_bytes(rt.alloc())?;
-    let mut entries = Vec::new(rt.alloc());
-    let bytes = lines_with(rt.alloc(), odd, place)?;
-    let mut input = BufReader::with_capacity(rt.alloc(), 5, bytes.as_slice())?;
-    let ended = encode_stream(rt, &mut input, &mut rodeo, &mut entries, rounds);
-    Ok(ends(ended, ended_with(odd, place))? && are_wanted(&entries, odd, place))
-}
-
-// The first place that is not right, or the number of lines.
-fn right_places<R: AllocGlobal + Threads + Sync>(
-    rt: &R,
-    odd: Odd,
-    rounds: Rounds,
-) -> Result<usize, Fail> {
-    for place in 0..LINES {
-        if !is_right_with(rt, odd, place, rounds)? {
-            return Ok(place);
-        }
-    }
-    Ok(LINES)
-}
-
-// Most lines are alike, so the blocks are encoded in rounds.
+// Most lines are alike, so the blocks are encoded in rounds. The entries go up to the odd line if that ends them.
 #[test]
 fn an_odd_line_in_each_block(rt: HostRuntime) -> Result<(), Fail> {
     for odd in &ODD {
-        all_right(&rt, right_places(&rt, *odd, rounds_of(2, 3)), LINES)?;
-        all_right(&rt, right_places(&rt, *odd, rounds_of(5, 1)), LINES)?;
-        all_right(&rt, right_places(&rt, *odd, rounds_of(5, 10)), LINES)?;
+        for (workers, size) in [(2, 3), (5, 1), (5, 10)] {
+            for place in 0..LINES {
+                let bytes = lines_with(rt.alloc(), *odd, place)?;
+                let (_rodeo, entries, ended) = encoded(
+                    &rt,
+                    bytes.as_slice(),
+                    5,
+                    rounds_of(workers, size),
+                )?;
+                is_so_at(&rt, ends(ended, ended_with(*odd, place))?, place);
+                let count = match odd {
+                    Odd::Text | Odd::Null => LINES,
+                    Odd::NotText | Odd::Refused => place,
+                };
+                is_so_at(&rt, entries.len() == count, place);
+                for (line, entry) in entries.iter().enumerate() {
+                    is_so_at(&rt, *entry == entry_at(*odd, place, line), place);
+                }
+            }
+        }
     }
     Ok(())
 }
@@ -490,17 +404,10 @@ fn an_odd_line_in_each_block(rt: HostRuntime) -> Result<(), Fail> {
 // Streams that take thousands of rounds, and blocks that take thousands of reads.
 
 // Whether all of this number of empty lines are encoded, by reads of a byte.
-fn are_encoded<R: AllocGlobal + Threads + Sync>(
-    rt: &R,
-    lines: usize,
-    rounds: Rounds,
-) -> Result<bool, Fail> {
+fn are_encoded(rt: &impl Host, lines: usize, rounds: Rounds) -> Result<bool, Fail> {
     let mut bytes = Vec::new(rt.alloc());
     bytes.resize(lines, b'\n')?;
-    let mut rodeo: SpurRodeo = Rodeo::default(rt.alloc())?;
-    let mut entries = Vec::new(rt.alloc());
-    let mut input = BufReader::with_capacity(rt.alloc(), 1, bytes.as_slice())?;
-    let ended = encode_stream(rt, &mut input, &mut rodeo, &mut entries, rounds);
+    let (_rodeo, entries, ended) = encoded(rt, bytes.as_slice(), 1, rounds)?;
     Ok(ended.is_ok() && entries.len() == lines)
 }
 

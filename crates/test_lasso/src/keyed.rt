@@ -3,10 +3,9 @@
 use crate::steps::is_so;
 use lasso::index::hash_text;
 use lasso::keyed::{KeyedState, keyed_by};
-use lasso::{FixedState, Key, LassoResult, Rodeo, Spur, ThreadedRodeo};
+use lasso::{FixedState, Key, Rodeo, Spur, ThreadedRodeo};
 use std::alloc::{AllocError, Global};
 use std::hash::BuildHasher;
-use std::sync::Wait;
 use std::test::*;
 use test_common::texts::colliding;
 
@@ -38,97 +37,51 @@ fn distinct(hashes: &[u64]) -> usize {
     count
 }
 
-// How many hashes the texts have under the fixed seed.
-fn fixed_hashes(alloc: Global, texts: &[String]) -> Result<usize, AllocError> {
-    Ok(distinct(&hashes(alloc, &FixedState::new(), texts)?))
-}
-
-// How many hashes the texts have under these keys.
-fn keyed_hashes(alloc: Global, texts: &[String], keys: [u8; 16]) -> Result<usize, Fail> {
-    let hasher = keyed_by(keys);
-    Ok(distinct(&hashes(alloc, &hasher, texts)?))
-}
-
 #[test]
 fn texts_collide_under_the_fixed_seed_alone(rt: HostRuntime) -> Result<(), Fail> {
     let texts = colliding(rt.alloc(), TEXTS)?;
-    is_so(
-        &rt,
-        fixed_hashes(rt.alloc(), &texts)? == 1,
-        "the fixed seed",
-    );
-    let keyed = keyed_hashes(rt.alloc(), &texts, *b"sixteen of bytes")?;
-    is_so(&rt, keyed == texts.len(), "a keyed hasher");
-    let keyed = keyed_hashes(rt.alloc(), &texts, *b"another sixteen ")?;
-    is_so(&rt, keyed == texts.len(), "another keyed hasher");
+    let fixed = distinct(&hashes(rt.alloc(), &FixedState::new(), &texts)?);
+    is_so(&rt, fixed == 1, "the fixed seed");
+    for keys in [*b"sixteen of bytes", *b"another sixteen "] {
+        let keyed = distinct(&hashes(rt.alloc(), &keyed_by(keys), &texts)?);
+        is_so(&rt, keyed == texts.len(), "a keyed hasher");
+    }
     Ok(())
 }
 
-type Keyed = Rodeo<Spur, KeyedState, Global>;
-
-// Interns the texts, and returns whether each got the next position.
-fn interns(rodeo: &mut Keyed, texts: &[String]) -> bool {
-    let mut all = true;
-    for position in 0..texts.len() {
-        match rodeo.try_get_or_intern(texts[position].as_str()) {
-            Ok(key) if key.into_usize() == position => {}
-            _ => all = false,
-        }
-    }
-    all
-}
-
-// How many of the texts are found at their positions.
-fn found(rodeo: &Keyed, texts: &[String]) -> usize {
-    let mut count: usize = 0;
-    for position in 0..texts.len() {
-        if let Some(key) = rodeo.get(texts[position].as_str())
-            && key.into_usize() == position
-        {
-            count = count.saturating_add(1);
-        }
-    }
-    count
-}
-
-// Whether each text gets the next position, and is found there.
-fn interns_and_finds(made: LassoResult<Keyed>, texts: &[String]) -> LassoResult<bool> {
-    let mut rodeo = made?;
-    Ok(interns(&mut rodeo, texts) && found(&rodeo, texts) == 10_000)
-}
-
+// Each text gets the next position, and is found there.
 #[test]
 fn a_keyed_interner_has_texts_that_collide_under_the_fixed_seed(
     rt: HostRuntime,
 ) -> Result<(), Fail> {
     let texts = colliding(rt.alloc(), TEXTS)?;
-    let made = Rodeo::with_hasher(rt.alloc(), keyed_by(*b"sixteen of bytes"));
-    is_so(&rt, interns_and_finds(made, &texts)?, "the positions");
-    Ok(())
-}
-
-// Interns the first hundred texts. Returns how many got the next position, and how many texts there are.
-fn interns_hundred<R: Wait>(
-    rt: &R,
-    shared: &ThreadedRodeo<Spur, KeyedState>,
-    texts: &[String],
-) -> LassoResult<(usize, usize)> {
-    let mut right: usize = 0;
-    for position in 0..texts.len().min(100) {
-        let key = shared.try_get_or_intern(rt, texts[position].as_str())?;
-        if key.into_usize() == position {
-            right = right.saturating_add(1);
-        }
+    let mut rodeo: Rodeo<Spur, KeyedState, Global> = Rodeo::with_hasher(
+        rt.alloc(),
+        keyed_by(*b"sixteen of bytes"),
+    )?;
+    for (position, text) in texts.iter().enumerate() {
+        let key = rodeo.try_get_or_intern(text.as_str())?;
+        is_so(&rt, key.into_usize() == position, "the next position");
     }
-    Ok((right, shared.len()))
+    for (position, text) in texts.iter().enumerate() {
+        let key = rodeo.get(text.as_str());
+        is_so(&rt, key == Spur::try_from_usize(position), "the position");
+    }
+    Ok(())
 }
 
 #[test]
 fn a_shared_interner_may_be_keyed(rt: HostRuntime) -> Result<(), Fail> {
     let texts = colliding(rt.alloc(), TEXTS)?;
-    let shared = ThreadedRodeo::with_hasher(rt.alloc(), keyed_by(*b"sixteen of bytes"))?;
-    let counts = interns_hundred(&rt, &shared, &texts)?;
-    is_so(&rt, counts == (100, 100), "the positions");
+    let shared: ThreadedRodeo<Spur, KeyedState> = ThreadedRodeo::with_hasher(
+        rt.alloc(),
+        keyed_by(*b"sixteen of bytes"),
+    )?;
+    for (position, text) in texts.iter().take(100).enumerate() {
+        let key = shared.try_get_or_intern(&rt, text.as_str())?;
+        is_so(&rt, key.into_usize() == position, "the next position");
+    }
+    is_so(&rt, shared.len() == 100, "the number of texts");
     Ok(())
 }
 

@@ -3,12 +3,9 @@ use crate::interfaces::made_for;
 use crate::laws::{
     boxed_object_interns_as_one, boxed_rodeo_object_interns_as_one, object_interns_as_one,
 };
-use crate::steps::{
-    Answer, CASES, Case, LIMIT, is_answer, is_number, is_so, is_text, number_of, of_hello,
-};
+use crate::steps::{Answer, CASES, Case, LIMIT, is_answer, is_so, of_hello};
 use lasso::interface::{SpurInterner, SpurReader, SpurResolver};
-use lasso::{Key, LassoResult, Spur, SpurRodeo, SpurRodeoReader, SpurRodeoResolver};
-use std::process::Abort;
+use lasso::{LassoResult, Spur};
 use std::test::Fail;
 
 fn gives(interner: &mut dyn SpurInterner, text: &str, wanted: Answer) -> LassoResult<bool> {
@@ -22,16 +19,9 @@ fn keeps(interner: &mut dyn SpurInterner, text: &'static str, wanted: Answer) ->
 // Whether the text is there, and its key stands for it.
 fn resolves(interner: &dyn SpurInterner, text: &str) -> bool {
     match interner.get(text) {
-        Some(key) => is_text(interner.try_resolve(key), text) && interner.contains_key(key),
+        Some(key) => interner.try_resolve(key) == Some(text) && interner.contains_key(key),
         None => false,
     }
-}
-
-fn has_one_text(interner: &dyn SpurInterner) -> bool {
-    interner.len() == 1
-        && interner.contains("Hello, world!")
-        && !interner.contains("Hello")
-        && resolves(interner, "Hello, world!")
 }
 
 // Whether an interner with no text takes one, and finds it.
@@ -40,7 +30,10 @@ fn takes_one_text(interner: &mut dyn SpurInterner) -> LassoResult<bool> {
         gives(interner, "Hello, world!", Ok(0))?
             && gives(interner, "Hello, world!", Ok(0))?
             && keeps(interner, "Hello, world!", Ok(0))?
-            && has_one_text(interner),
+            && interner.len() == 1
+            && interner.contains("Hello, world!")
+            && !interner.contains("Hello")
+            && resolves(interner, "Hello, world!"),
     )
 }
 
@@ -96,43 +89,29 @@ fn left_by(case: Case) -> (&'static str, usize) {
     }
 }
 
-// Whether the calls are right, and a law holds of the text.
-fn runs_object(rodeo: &mut SpurRodeo, case: Case, text: &str) -> LassoResult<bool> {
-    let interner: &mut dyn SpurInterner = rodeo;
-    Ok(are_right(interner, case)? && object_interns_as_one(interner, text)?)
-}
-
-fn runs<R: AllocGlobal + Abort>(rt: &R, case: Case) -> Result<(), Fail> {
-    let (text, usage) = left_by(case);
-    let mut rodeo = made_for(rt.alloc(), case)?;
-    is_so(rt, runs_object(&mut rodeo, case, text)?, "the calls");
-    is_so(rt, rodeo.current_memory_usage() == usage, "the usage");
-    Ok(())
-}
-
+// The calls are right, and a law holds of a present text.
 #[test]
 fn calls_of_an_object(rt: HostRuntime) -> Result<(), Fail> {
     for case in CASES.iter() {
-        runs(&rt, *case)?;
+        let (text, usage) = left_by(*case);
+        let mut rodeo = made_for(rt.alloc(), *case)?;
+        let interner: &mut dyn SpurInterner = &mut rodeo;
+        is_so(&rt, are_right(interner, *case)?, "the calls");
+        is_so(&rt, object_interns_as_one(interner, text)?, "the law");
+        is_so(&rt, rodeo.current_memory_usage() == usage, "the usage");
     }
     Ok(())
 }
 
 // Makes the calls on what the box holds. Then a law holds of the box, with a present text.
-fn runs_box<R: AllocGlobal + Abort>(rt: &R, case: Case) -> Result<(), Fail> {
-    let (text, _usage) = left_by(case);
-    let rodeo = made_for(rt.alloc(), case)?;
-    let mut interner: Box<dyn SpurInterner + Drop> = Box::new(rt.alloc(), rodeo)?;
-    is_so(rt, are_right(&mut *interner, case)?, "the calls");
-    let is_one = boxed_object_interns_as_one(interner, text)?;
-    is_so(rt, is_one, "the law of interning");
-    Ok(())
-}
-
 #[test]
 fn calls_of_an_object_in_a_box(rt: HostRuntime) -> Result<(), Fail> {
     for case in CASES.iter() {
-        runs_box(&rt, *case)?;
+        let (text, _usage) = left_by(*case);
+        let rodeo = made_for(rt.alloc(), *case)?;
+        let mut interner: Box<dyn SpurInterner + Drop> = Box::new(rt.alloc(), rodeo)?;
+        is_so(&rt, are_right(&mut *interner, *case)?, "the calls");
+        is_so(&rt, boxed_object_interns_as_one(interner, text)?, "the law");
     }
     Ok(())
 }
@@ -145,74 +124,28 @@ fn a_boxed_rodeo_interns_as_one(rt: HostRuntime) -> Result<(), Fail> {
     Ok(())
 }
 
-// Whether `Hello, world!` is there, and `Goodbye!` is not.
-fn reads_hello(reader: &dyn SpurReader) -> bool {
-    match reader.get("Hello, world!") {
-        Some(first) => {
-            reader.contains("Hello, world!")
-                && reader.get("Goodbye!").is_none()
-                && is_text(reader.try_resolve(first), "Hello, world!")
-                && reader.len() == 1
-        }
-        None => false,
-    }
-}
-
+// `Hello, world!` is there, and `Goodbye!` is not.
 #[test]
 fn frozen_forms(rt: HostRuntime) -> Result<(), Fail> {
     let frozen = of_hello(rt.alloc())?.into_reader();
-    is_so(&rt, reads_hello(&frozen), "the reader");
+    let reader: &dyn SpurReader = &frozen;
+    let first = reader.get("Hello, world!").ok_or("absent")?;
+    is_so(&rt, reader.contains("Hello, world!"), "the text");
+    is_so(&rt, reader.get("Goodbye!").is_none(), "another text");
+    let text = reader.try_resolve(first);
+    is_so(&rt, text == Some("Hello, world!"), "the text of its key");
+    is_so(&rt, reader.len() == 1, "the number of texts");
     Ok(())
-}
-
-fn gives_hello(resolver: &dyn SpurResolver) -> bool {
-    let first = Spur::default();
-    is_text(resolver.try_resolve(first), "Hello, world!")
-        && resolver.contains_key(first)
-        && resolver.len() == 1
 }
 
 #[test]
 fn a_frozen_resolver(rt: HostRuntime) -> Result<(), Fail> {
     let frozen = of_hello(rt.alloc())?.into_resolver();
-    is_so(&rt, gives_hello(&frozen), "the resolver");
-    Ok(())
-}
-
-// What frozen interners of the tests have to show. Their examples are scripts of `tool_replay`.
-
-// Whether the key with this number stands for the text.
-fn is_key_of(reader: &SpurRodeoReader, number: usize, text: &str) -> bool {
-    match Spur::try_from_usize(number) {
-        Some(key) => is_text(reader.try_resolve(key), text),
-        None => false,
-    }
-}
-
-/// Fails the test unless the reader that was made has this number of texts, and the last is this one.
-pub fn ends_with(
-    rt: &impl Abort,
-    made: LassoResult<SpurRodeoReader>,
-    count: usize,
-    text: &str,
-) -> Result<(), Fail> {
-    let reader = made?;
-    let last = count.saturating_sub(1);
-    is_so(rt, reader.len() == count, "the number of texts");
-    is_so(rt, is_number(number_of(reader.get(text)), last), "the key");
-    is_so(rt, is_key_of(&reader, last, text), "the text");
-    Ok(())
-}
-
-/// Fails the test unless the resolver that was made has this text alone.
-pub fn has_alone(
-    rt: &impl Abort,
-    made: LassoResult<SpurRodeoResolver>,
-    text: &str,
-) -> Result<(), Fail> {
-    let resolver = made?;
-    is_so(rt, resolver.len() == 1, "the number of texts");
-    let is_there = is_text(resolver.try_resolve(Spur::default()), text);
-    is_so(rt, is_there, "the text");
+    let resolver: &dyn SpurResolver = &frozen;
+    let first = Spur::default();
+    let text = resolver.try_resolve(first);
+    is_so(&rt, text == Some("Hello, world!"), "the text");
+    is_so(&rt, resolver.contains_key(first), "its key");
+    is_so(&rt, resolver.len() == 1, "the number of texts");
     Ok(())
 }

@@ -1,85 +1,23 @@
 //! Tests of calls that may run out of memory. If one does, the test checks that all is as it was before the
 //! call, and makes the call again. All replies have to be those that were worked out by hand.
 //! `trials/refused-tests` runs each test with its requests for memory refused in turn. If nothing is refused,
-//! each call has to return its value at once. Each call stands in a function without a contract, so that the proofs
-//! stay small.
+//! each call has to return its value at once.
 mod lists;
 mod makers;
 mod shared;
 mod single;
 
 use crate::refused::makers::{Interner, Scenario, State, Way, shows};
+use crate::steps::is_so;
 use lasso::{
-    FixedState, JsonError, Key, LassoError, LassoErrorKind, LassoResult, Rodeo, RodeoReader,
-    RodeoResolver, Spur, ThreadedRodeo,
+    FixedState, JsonError, LassoError, LassoErrorKind, Rodeo, Spur, SpurRodeo, ThreadedRodeo,
 };
 use serde_json::Value;
 use std::alloc::{AllocError, Global};
 use std::fmt::Debug;
-use std::process::Abort;
-use std::sync::Wait;
 use std::test::Fail;
-use test_steps::calls::{Caller, DefaultCaller};
-
-/// An interner for one thread.
-pub type Single = Rodeo<Spur, FixedState, Global>;
-
-/// An interner of these texts that threads share.
-pub fn threaded_of<R: AllocGlobal + Wait + Abort>(
-    rt: &R,
-    refused: &mut Refused,
-    texts: &[&'static str],
-) -> Result<Interner<Spur>, Fail> {
-    retried!(rt, refused, "from_iter", threaded_of_once(rt, texts))
-}
-
-fn threaded_of_once<R: AllocGlobal + Wait>(
-    rt: &R,
-    texts: &[&'static str],
-) -> LassoResult<Interner<Spur>> {
-    ThreadedRodeo::from_iter(rt.alloc(), rt, texts.iter().copied())
-}
-
-/// An interner of these texts for one thread. The call is told by this name.
-pub fn single_of<R: AllocGlobal + Abort>(
-    rt: &R,
-    refused: &mut Refused,
-    name: &'static str,
-    texts: &[&'static str],
-) -> Result<Single, Fail> {
-    retried!(rt, refused, name, single_of_once(rt.alloc(), texts))
-}
-
-fn single_of_once(alloc: Global, texts: &[&'static str]) -> LassoResult<Single> {
-    Rodeo::from_iter(alloc, texts.iter().copied())
-}
-
-/// Interns the texts in turn.
-pub fn extend_once<R: Wait>(
-    rt: &R,
-    interner: &Interner<Spur>,
-    texts: &[&'static str],
-) -> LassoResult<()> {
-    interner.extend(rt, texts.iter().copied())
-}
-
-/// Freezes the interner to a reader.
-pub fn read_once<R: Wait, K: Key>(
-    rt: &R,
-    interner: Interner<K>,
-) -> LassoResult<RodeoReader<K, FixedState, Global>> {
-    interner.into_reader(rt)
-}
-
-/// Freezes the interner to a resolver.
-pub fn resolve_once<R: Wait, K: Key>(
-    rt: &R,
-    interner: Interner<K>,
-) -> LassoResult<RodeoResolver<K, Global>> {
-    interner.into_resolver(rt)
-}
-
-// Calls that are made again after they ran out of memory.
+use test_steps::Host;
+use test_steps::calls::{Caller, numbered};
 
 /// An error of a call that may run out of memory.
 pub trait CallError {
@@ -111,102 +49,153 @@ impl CallError for AllocError {
     }
 }
 
-/// The call of a test that ran out of memory, if any. At most one does, as one request of a run is refused.
-#[derive(Clone, Copy)]
-pub struct Refused {
-    call: Option<&'static str>,
+/// A test, and which of its calls ran out of memory, if any. At most one does, as one request of a run is refused.
+#[derive(Drop)]
+pub struct Run<'a, R: Host> {
+    pub rt: &'a R,
+    refused: Option<&'static str>,
 }
 
-impl Refused {
+impl<'a, R: Host> Run<'a, R> {
     /// No call has run out of memory.
-    pub fn none() -> Self {
-        Refused { call: None }
+    pub fn new(rt: &'a R) -> Self {
+        Run { rt, refused: None }
+    }
+
+    /// Ends the test if this does not hold.
+    pub fn is_so(&self, holds: bool, what: &str) {
+        is_so(self.rt, holds, what);
     }
 
     /// Notes that this call ran out of memory. It has to be the first one of the test.
-    pub fn note(&mut self, rt: &impl Abort, call: &'static str) {
-        is_so(rt, self.call.is_none(), call);
-        self.call = Some(call);
+    pub fn note(&mut self, call: &'static str) {
+        self.is_so(self.refused.is_none(), call);
+        self.refused = Some(call);
     }
 
     /// The value of a call. If there is none, the call has to have run out of memory, which is noted.
     pub fn value<T, E: CallError + Drop>(
         &mut self,
-        rt: &impl Abort,
         call: &'static str,
         reply: Result<T, E>,
     ) -> Option<T> {
         match reply {
             Ok(value) => Some(value),
             Err(error) => {
-                is_so(rt, error.is_out_of_memory(), call);
-                self.note(rt, call);
+                self.is_so(error.is_out_of_memory(), call);
+                self.note(call);
                 None
             }
         }
     }
 
+    /// The value of a call that is made again, which has to succeed.
+    pub fn second_value<T, E: Debug + Drop>(
+        &self,
+        call: &'static str,
+        reply: Result<T, E>,
+    ) -> Result<T, Fail> {
+        self.is_so(reply.is_ok(), call);
+        match reply {
+            Ok(value) => Ok(value),
+            Err(error) => Err(Fail::from(error)),
+        }
+    }
+
     /// Ends a test whose checks all hold. If a call ran out of memory, it returns an error that names the
     /// call.
-    pub fn end(self) -> Result<(), Fail> {
-        match self.call {
+    pub fn end(&self) -> Result<(), Fail> {
+        match self.refused {
             Some(call) => Err(Fail::new(format_args!("out of memory at {call}"))),
             None => Ok(()),
         }
     }
 }
 
-/// Ends the test if this does not hold.
-pub fn is_so(rt: &impl Abort, holds: bool, what: &str) {
-    assert!(rt; holds, "{what}");
-}
-
-/// The value of a call that is made again, which has to succeed.
-pub fn second_value<T, E: Debug + Drop>(
-    rt: &impl Abort,
-    call: &'static str,
-    reply: Result<T, E>,
-) -> Result<T, Fail> {
-    match reply {
-        Ok(value) => Ok(value),
-        Err(error) => {
-            is_so(rt, false, call);
-            Err(Fail::from(error))
-        }
-    }
-}
-
 /// The value of a call. If it runs out of memory, the condition has to hold, and the call is made again.
 macro_rules! retried {
-    ($rt:expr, $refused:expr, $name:expr, $call:expr, $unchanged:expr) => {{
+    ($run:expr, $name:expr, $call:expr, $unchanged:expr) => {{
         let name = $name;
         let first = $call;
-        match $refused.value($rt, name, first) {
+        match $run.value(name, first) {
             Some(value) => Ok(value),
             None => {
-                is_so($rt, $unchanged, name);
+                let is_unchanged = $unchanged;
+                $run.is_so(is_unchanged, name);
                 let second = $call;
-                second_value($rt, name, second)
+                $run.second_value(name, second)
             }
         }
     }};
-    ($rt:expr, $refused:expr, $name:expr, $call:expr) => {{
-        let name = $name;
-        let first = $call;
-        match $refused.value($rt, name, first) {
-            Some(value) => Ok(value),
-            None => {
-                let second = $call;
-                second_value($rt, name, second)
-            }
-        }
-    }};
+    ($run:expr, $name:expr, $call:expr) => {
+        retried!($run, $name, $call, true)
+    };
 }
 
 pub(crate) use retried;
 
-// Interners that threads share, read from JSON and written as JSON, and a pass with hints. Out of memory it keeps none,
-// and a refused text is not met.
+impl<'a, R: Host> Run<'a, R> {
+    /// An interner of these texts that threads share.
+    pub fn threaded_of(&mut self, texts: &[&'static str]) -> Result<Interner<Spur>, Fail> {
+        let rt = self.rt;
+        retried!(
+            self,
+            "from_iter",
+            ThreadedRodeo::from_iter(rt.alloc(), rt, texts.iter().copied())
+        )
+    }
+
+    /// An interner of these texts for one thread. The call is told by this name.
+    pub fn single_of(
+        &mut self,
+        name: &'static str,
+        texts: &[&'static str],
+    ) -> Result<SpurRodeo, Fail> {
+        let alloc = self.rt.alloc();
+        retried!(self, name, Rodeo::from_iter(alloc, texts.iter().copied()))
+    }
+
+    // The interner that the JSON text describes.
+    fn read(&mut self, text: &str) -> Result<Interner<Spur>, Fail> {
+        let alloc = self.rt.alloc();
+        let value: Result<Value, Fail> = retried!(self, "from_str", Value::from_str(alloc, text));
+        let value = value?;
+        retried!(
+            self,
+            "deserialize",
+            ThreadedRodeo::deserialize(alloc, &value)
+        )
+    }
+
+    /// Writes the interner as this JSON text. If memory runs out, the interner has to show this state of the list.
+    pub fn write(
+        &mut self,
+        interner: &Interner<Spur>,
+        list: &[&'static str],
+        state: State,
+        wanted: &str,
+    ) -> Result<(), Fail> {
+        let rt = self.rt;
+        let written = retried!(
+            self,
+            "serialize",
+            interner.serialize(rt.alloc()),
+            shows(rt, interner, list, state)
+        );
+        self.is_so(shows(rt, interner, list, state), "what was written");
+        self.check_written(&written?, wanted)
+    }
+
+    /// Checks that this is the value's JSON text.
+    pub fn check_written(&mut self, value: &Value, wanted: &str) -> Result<(), Fail> {
+        let alloc = self.rt.alloc();
+        let text: Result<String, Fail> = retried!(self, "to_string", value.to_string(alloc));
+        self.is_so(text?.as_str() == wanted, wanted);
+        Ok(())
+    }
+}
+
+// Interners that threads share, read from JSON and written as JSON.
 
 const FIRST_TWO: State = State { texts: 2, usage: 2 };
 
@@ -225,133 +214,26 @@ static ADDED: Scenario<'static> = Scenario {
 // Reads an interner from the JSON, interns a new text, and writes the interner as an object.
 #[test]
 fn an_object_and_an_array_are_read(rt: HostRuntime) -> Result<(), Fail> {
-    let mut refused = Refused::none();
+    let mut run = Run::new(&rt);
     for text in [r#"{"a":2,"b":1}"#, r#"["b","a"]"#] {
-        let interner = read(&rt, &mut refused, text)?;
-        add_a_text(&rt, &mut refused, &interner)?;
+        let interner = run.read(text)?;
+        run.intern_steps(ADDED, &interner, FIRST_TWO);
+        run.write(&interner, ADDED.list, THREE, r#"{"a":2,"b":1,"c":3}"#)?;
     }
-    refused.end()
-}
-
-// Interns a new text in an interner of two, and writes the interner.
-fn add_a_text<R: AllocGlobal + Wait + Abort>(
-    rt: &R,
-    refused: &mut Refused,
-    interner: &Interner<Spur>,
-) -> Result<(), Fail> {
-    ADDED.intern_steps(rt, refused, interner, FIRST_TWO);
-    write(
-        rt,
-        refused,
-        interner,
-        ADDED.list,
-        THREE,
-        r#"{"a":2,"b":1,"c":3}"#,
-    )
+    run.end()
 }
 
 // An interner of the empty text, which takes no bytes.
 #[test]
 fn the_empty_text_is_read(rt: HostRuntime) -> Result<(), Fail> {
-    let mut refused = Refused::none();
-    let interner = read(&rt, &mut refused, r#"{"":1}"#)?;
+    let mut run = Run::new(&rt);
+    let interner = run.read(r#"{"":1}"#)?;
     let one = State {
         texts: 1,
         usage: 4096,
     };
-    is_so(&rt, shows(&rt, &interner, &[""], one), "the empty text");
-    refused.end()
-}
-
-// The value of the JSON text.
-fn value_of<R: AllocGlobal + Abort>(
-    rt: &R,
-    refused: &mut Refused,
-    text: &str,
-) -> Result<Value, Fail> {
-    retried!(rt, refused, "from_str", Value::from_str(rt.alloc(), text))
-}
-
-// The interner that the JSON text describes.
-fn read<R: AllocGlobal + Abort>(
-    rt: &R,
-    refused: &mut Refused,
-    text: &str,
-) -> Result<Interner<Spur>, Fail> {
-    let value = value_of(rt, refused, text)?;
-    read_value(rt, refused, &value)
-}
-
-fn read_value<R: AllocGlobal + Abort>(
-    rt: &R,
-    refused: &mut Refused,
-    value: &Value,
-) -> Result<Interner<Spur>, Fail> {
-    let name = "deserialize";
-    retried!(rt, refused, name, json_read_once(rt.alloc(), value))
-}
-
-fn json_read_once(alloc: Global, value: &Value) -> Result<Interner<Spur>, JsonError> {
-    ThreadedRodeo::deserialize(alloc, value)
-}
-
-/// Writes the interner as this JSON text. If memory runs out, the interner has to show this state of the list.
-pub fn write<R: AllocGlobal + Wait + Abort>(
-    rt: &R,
-    refused: &mut Refused,
-    interner: &Interner<Spur>,
-    list: &[&'static str],
-    state: State,
-    wanted: &str,
-) -> Result<(), Fail> {
-    let written = to_json(rt, refused, interner, list, state)?;
-    is_so(
-        rt,
-        shows(rt, interner, list, state),
-        "the interner that was written",
-    );
-    check_written(rt, refused, &written, wanted)
-}
-
-fn to_json<R: AllocGlobal + Wait + Abort>(
-    rt: &R,
-    refused: &mut Refused,
-    interner: &Interner<Spur>,
-    list: &[&'static str],
-    state: State,
-) -> Result<Value, Fail> {
-    retried!(
-        rt,
-        refused,
-        "serialize",
-        to_json_once(rt.alloc(), interner),
-        shows(rt, interner, list, state)
-    )
-}
-
-fn to_json_once(alloc: Global, interner: &Interner<Spur>) -> Result<Value, JsonError> {
-    interner.serialize(alloc)
-}
-
-/// Checks that this is the value's JSON text.
-pub fn check_written<R: AllocGlobal + Abort>(
-    rt: &R,
-    refused: &mut Refused,
-    value: &Value,
-    wanted: &str,
-) -> Result<(), Fail> {
-    let text = print(rt, refused, value)?;
-    is_so(rt, text.as_str() == wanted, wanted);
-    Ok(())
-}
-
-// The value's JSON text.
-fn print<R: AllocGlobal + Abort>(
-    rt: &R,
-    refused: &mut Refused,
-    value: &Value,
-) -> Result<String, Fail> {
-    retried!(rt, refused, "to_string", value.to_string(rt.alloc()))
+    run.is_so(shows(&rt, &interner, &[""], one), "the empty text");
+    run.end()
 }
 
 // A pass with hints. Out of memory it keeps none, and a refused text is not met.
@@ -361,91 +243,48 @@ static TEXTS: [&str; 3] = ["red", "green", "blue"];
 // How often each text is looked up and interned again: the first time a hint is kept, and then it is asked.
 const TIMES: u32 = 3;
 
-fn interner_once(alloc: Global) -> LassoResult<Interner<Spur>> {
-    ThreadedRodeo::new(alloc)
-}
-
-// Interns the text by the pass. Returns its number.
-fn interned<R: Wait>(rt: &R, caller: &mut DefaultCaller<'_>, text: &str) -> LassoResult<usize> {
-    Ok(caller.copied(rt, text)?.into_usize())
-}
+type Hinted<'a, R> = Caller<'a, Spur, FixedState, R>;
 
 // Whether the first `count` texts are present, and no other one, by the pass and by the interner.
-fn has_first<R: Wait>(rt: &R, caller: &mut DefaultCaller<'_>, count: usize) -> bool {
+fn has_first<R: Host>(caller: &mut Hinted<'_, R>, count: usize) -> bool {
     let state = State {
         texts: count,
         usage: 4096,
     };
-    let mut all = shows(rt, caller.shared, &TEXTS, state);
-    for position in 0..TEXTS.len() {
-        let wanted = if position < count {
-            Some(position)
-        } else {
-            None
-        };
-        all &= caller.found(rt, TEXTS[position]) == wanted;
+    let mut all = shows(caller.rt, caller.shared, &TEXTS, state);
+    for (position, text) in TEXTS.iter().enumerate() {
+        let number = caller.found(*text);
+        all &= number.is_some() == (position < count);
+        all &= number.is_none() || number == Some(position);
     }
     all
 }
 
-// Whether the text has this number, which it keeps.
-fn keeps_number<R: Wait>(
-    rt: &R,
-    caller: &mut DefaultCaller<'_>,
-    text: &str,
-    number: usize,
-) -> LassoResult<bool> {
-    let mut all = true;
-    for _ in 0..TIMES {
-        all &= caller.found(rt, text) == Some(number);
-        all &= interned(rt, caller, text)? == number;
-    }
-    Ok(all)
-}
-
-// Interns the text with this number, again if memory runs out, and meets it again. A present text is never
+// Interns three texts by a pass with hints, each again if memory runs out, and meets each again. A present text is never
 // refused.
-fn take<R: Wait + Abort>(
-    rt: &R,
-    refused: &mut Refused,
-    caller: &mut DefaultCaller<'_>,
-    number: usize,
-) -> Result<(), Fail> {
-    let text = TEXTS[number % TEXTS.len()];
-    let taken = retried!(
-        rt,
-        refused,
-        text,
-        interned(rt, caller, text),
-        has_first(rt, caller, number)
-    )?;
-    is_so(rt, taken == number, text);
-    let keeps = second_value(rt, text, keeps_number(rt, caller, text, number))?;
-    is_so(rt, keeps, text);
-    Ok(())
-}
-
-// Interns three texts by a pass with hints.
-fn take_all<R: AllocGlobal + Wait + Abort>(
-    rt: &R,
-    refused: &mut Refused,
-    interner: &Interner<Spur>,
-) -> Result<(), Fail> {
-    let mut caller = Caller::hinted(rt.alloc(), interner);
-    if !caller.has_hints() {
-        refused.note(rt, "pass_with_hints");
-    }
-    for number in 0..TEXTS.len() {
-        take(rt, refused, &mut caller, number)?;
-    }
-    is_so(rt, has_first(rt, &mut caller, 3), "three texts");
-    Ok(())
-}
-
 #[test]
 fn a_pass_with_hints(rt: HostRuntime) -> Result<(), Fail> {
-    let mut refused = Refused::none();
-    let interner = retried!(&rt, &mut refused, "new", interner_once(rt.alloc()))?;
-    take_all(&rt, &mut refused, &interner)?;
-    refused.end()
+    let mut run = Run::new(&rt);
+    let made: Result<Interner<Spur>, Fail> = retried!(run, "new", ThreadedRodeo::new(rt.alloc()));
+    let interner = made?;
+    let mut caller = Caller::hinted(&rt, &interner);
+    if !caller.has_hints() {
+        run.note("pass_with_hints");
+    }
+    for (number, text) in TEXTS.iter().enumerate() {
+        let taken: Result<usize, Fail> = retried!(
+            run,
+            *text,
+            numbered(caller.copied(*text)),
+            has_first(&mut caller, number)
+        );
+        run.is_so(taken? == number, *text);
+        for _ in 0..TIMES {
+            run.is_so(caller.found(*text) == Some(number), *text);
+            let again = run.second_value(*text, numbered(caller.copied(*text)))?;
+            run.is_so(again == number, *text);
+        }
+    }
+    run.is_so(has_first(&mut caller, 3), "three texts");
+    run.end()
 }

@@ -1,17 +1,9 @@
 //! Calls of the interfaces as rows, each with what it has to return. One function makes the calls of all rows,
 //! so a test that is a list of rows is proved as fast as one of a single call.
-ghost use Rattle.std.specs.Prelude.{◌≡◌};
-
 use crate::laws::{finds_what_resolves, interns_as_one, looks_up_alike};
 use lasso::interface::{Interner, Reader, Resolver};
-use lasso::{
-    Key, LassoErrorKind, LassoResult, Pass, Rodeo, Spur, SpurRodeo, SpurThreadedRodeo,
-    ThreadedRodeo,
-};
+use lasso::{Key, LassoErrorKind, LassoResult, Rodeo, SpurRodeo, SpurThreadedRodeo, ThreadedRodeo};
 use std::alloc::Global;
-use std::process::Abort;
-use std::sync::Wait;
-use std::test::Fail;
 
 /// A call that interns a text.
 #[derive(Clone, Copy)]
@@ -23,8 +15,8 @@ pub enum Way {
 }
 
 // Interns the text by the call.
-fn key_by<K: Key, R: Wait, I: Interner<K>>(
-    rt: &R,
+fn key_by<K: Key, I: Interner<K>>(
+    rt: &impl Host,
     interner: &mut I,
     way: Way,
     text: &'static str,
@@ -56,6 +48,8 @@ pub enum Step {
 
 use Step::{Counts, Finds, Interns, InternsAsOne, Keeps, ReadsHello};
 use Way::{Copied, Static, TryCopied, TryStatic};
+use test_steps::Host;
+use test_steps::calls::number_of;
 
 // `Hello, world!` by each of the four intern calls into an interner without a text, and then all that a reader
 // says of it.
@@ -158,8 +152,8 @@ pub fn steps_of(case: Case) -> &'static [Step] {
 }
 
 /// Whether the text has this number, or is absent.
-pub fn finds<K: Key, R: Wait, T: Reader<K>>(
-    rt: &R,
+pub fn finds<K: Key, T: Reader<K>>(
+    rt: &impl Host,
     reader: &T,
     text: &str,
     number: Option<usize>,
@@ -171,21 +165,17 @@ fn counts<K: Key, T: Resolver<K>>(resolver: &T, count: usize) -> bool {
     resolver.len() == count && resolver.is_empty() == (count == 0)
 }
 
-// Whether the key stands for this text, or for none, by each call that says so.
-fn is_key_of<K: Key, T: Resolver<K>>(resolver: &T, key: K, text: Option<&str>) -> bool {
+// Whether the key with this number stands for this text, or for none, by each call that says so. `false` if there is
+// no such key.
+fn stands_for<K: Key, T: Resolver<K>>(resolver: &T, number: usize, text: Option<&str>) -> bool {
+    let Some(key) = K::try_from_usize(number) else {
+        return false;
+    };
     resolver.try_resolve(key) == text
         && resolver.resolve(key) == text
         && resolver.resolve_unchecked(key) == text
         && resolver.contains_key(key) == text.is_some()
         && looks_up_alike(resolver, key)
-}
-
-// Whether the key with this number stands for this text, or for none. `false` if there is no such key.
-fn stands_for<K: Key, T: Resolver<K>>(resolver: &T, number: usize, text: Option<&str>) -> bool {
-    match K::try_from_usize(number) {
-        Some(key) => is_key_of(resolver, key, text),
-        None => false,
-    }
 }
 
 // Whether key 0 stands for `Hello, world!`, and no other text is there.
@@ -196,7 +186,7 @@ fn resolves_hello<K: Key, T: Resolver<K>>(resolver: &T) -> bool {
 }
 
 // Whether `Hello, world!` is the only text.
-fn has_hello<K: Key, R: Wait, T: Reader<K>>(rt: &R, reader: &T) -> bool {
+fn has_hello<K: Key, T: Reader<K>>(rt: &impl Host, reader: &T) -> bool {
     finds(rt, reader, "Hello, world!", Some(0))
         && finds(rt, reader, "Hello", None)
         && finds_what_resolves(rt, reader, "Hello, world!")
@@ -209,24 +199,13 @@ pub fn gives_hello<K: Key, T: Resolver<K>>(resolver: &T) -> bool {
 }
 
 /// Whether `Hello, world!` is the only text, by the reader and by a reference to it.
-pub fn reads_hello<K: Key, R: Wait, T: Reader<K>>(rt: &R, reader: &T) -> bool {
-    has_hello::<K, R, T>(rt, reader) && has_hello::<K, R, &T>(rt, &reader)
-}
-
-// Whether the text's key stands for it.
-fn keeps<K: Key, R: Wait, I: Interner<K>>(
-    rt: &R,
-    interner: &mut I,
-    way: Way,
-    text: &'static str,
-) -> LassoResult<bool> {
-    let key = key_by(rt, interner, way, text)?;
-    Ok(is_text(interner.try_resolve(key), text))
+pub fn reads_hello<K: Key, T: Reader<K>>(rt: &impl Host, reader: &T) -> bool {
+    has_hello::<K, T>(rt, reader) && has_hello::<K, &T>(rt, &reader)
 }
 
 // Makes the call. Returns whether it returned what it has to. Out of memory is an error.
-fn is_right<K: Key, R: Wait, I: Interner<K>>(
-    rt: &R,
+fn is_right<K: Key, I: Interner<K>>(
+    rt: &impl Host,
     interner: &mut I,
     step: Step,
 ) -> LassoResult<bool> {
@@ -236,14 +215,17 @@ fn is_right<K: Key, R: Wait, I: Interner<K>>(
         Counts(count) => Ok(counts(interner, count)),
         ReadsHello => Ok(reads_hello(rt, interner)),
         InternsAsOne(text) => interns_as_one(rt, interner, text),
-        Keeps(way, text) => keeps(rt, interner, way, text),
+        Keeps(way, text) => {
+            let key = key_by(rt, interner, way, text)?;
+            Ok(interner.try_resolve(key) == Some(text))
+        }
     }
 }
 
 /// Makes the calls in order, up to the first that returns something else. Returns how many returned what they
 /// have to.
-pub fn first_wrong<K: Key, R: Wait, I: Interner<K>>(
-    rt: &R,
+pub fn first_wrong<K: Key, I: Interner<K>>(
+    rt: &impl Host,
     interner: &mut I,
     steps: &[Step],
 ) -> LassoResult<usize> {
@@ -255,23 +237,11 @@ pub fn first_wrong<K: Key, R: Wait, I: Interner<K>>(
     Ok(steps.len())
 }
 
-// The assertions of these tests, comparisons of what calls return, and calls that several of them make. None has a
-// contract, so a test of many calls is proved as fast as one of few.
+// The assertions of these tests, comparisons of what calls return, and calls that several of them make.
 
 // Fails the test unless this holds. `what` names what was checked.
-pub(super) fn is_so(rt: &impl Abort, holds: bool, what: &str) {
+pub(super) fn is_so(rt: &impl Host, holds: bool, what: &str) {
     assert!(rt; holds, "{what}");
-}
-
-// Fails the test unless the calls ended well and this holds.
-pub(super) fn ends_so(rt: &impl Abort, ended: Result<bool, Fail>, what: &str) -> Result<(), Fail> {
-    match ended {
-        Ok(holds) => {
-            is_so(rt, holds, what);
-            Ok(())
-        }
-        Err(fault) => Err(fault),
-    }
 }
 
 /// An interner with `Hello, world!` alone, made by `default`.
@@ -287,35 +257,11 @@ pub fn fresh(alloc: Global) -> LassoResult<SpurThreadedRodeo> {
 }
 
 /// An interner that threads share, with `Hello, world!` alone.
-pub fn hello(rt: &impl Wait, alloc: Global) -> LassoResult<SpurThreadedRodeo> {
-    let shared = fresh(alloc)?;
+pub fn hello(rt: &impl Host) -> LassoResult<SpurThreadedRodeo> {
+    let shared = fresh(rt.alloc())?;
     shared.try_get_or_intern(rt, "Hello, world!")?;
     Ok(shared)
 }
-
-// Whether the pass has seen this number of texts.
-pub(super) fn has_seen(rodeo: &SpurThreadedRodeo, pass: &mut Pass<Spur>, count: usize) -> bool
-    requires { pass.old.of ≡ rodeo.now }
-    ensures { pass.new.of ≡ pass.old.of }
-{
-    rodeo.len_as(pass) == count
-}
-
-// Whether the key resolves to the text by the pass.
-pub(super) fn stands_by_pass(
-    rodeo: &SpurThreadedRodeo,
-    pass: &mut Pass<Spur>,
-    key: Spur,
-    text: &str,
-) -> bool
-    requires { pass.old.of ≡ rodeo.now }
-    ensures { pass.new.of ≡ pass.old.of }
-{
-    rodeo.try_resolve_as(pass, key) == Some(text)
-}
-
-// The assertion of the tests, and comparisons of what calls return. None has a contract, so a test of many
-// calls is proved as fast as one of few.
 
 /// The refusal by a memory limit.
 pub const LIMIT: LassoErrorKind = LassoErrorKind::MemoryLimitReached;
@@ -327,16 +273,8 @@ pub const NO_KEY: LassoErrorKind = LassoErrorKind::KeySpaceExhaustion;
 pub type Answer = Result<usize, LassoErrorKind>;
 
 /// Fails the test unless all rows were right. `right` is the number of the first wrong one.
-pub fn all_right(rt: &impl Abort, right: usize, rows: usize) {
+pub fn all_right(rt: &impl Host, right: usize, rows: usize) {
     assert!(rt; right == rows, "row {right}");
-}
-
-/// The number of the key, if there is one.
-pub fn number_of<K: Key>(found: Option<K>) -> Option<usize> {
-    match found {
-        Some(key) => Some(key.into_usize()),
-        None => None,
-    }
 }
 
 /// Whether the call returned this. Out of memory is an error.
@@ -346,17 +284,4 @@ pub fn is_answer<K: Key>(reply: LassoResult<K>, wanted: Answer) -> LassoResult<b
         Err(error) if error.kind().is_failed_alloc() => Err(error),
         Err(error) => Ok(wanted == Err(error.kind())),
     }
-}
-
-/// Whether this number was found.
-pub fn is_number(found: Option<usize>, number: usize) -> bool {
-    match found {
-        Some(found) => found == number,
-        None => false,
-    }
-}
-
-/// Whether this text was found.
-pub fn is_text(found: Option<&str>, text: &str) -> bool {
-    found == Some(text)
 }

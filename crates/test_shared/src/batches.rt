@@ -5,11 +5,9 @@ use Step::{ByNew, ByOne, ByOther, Counts, Finds, IsLimited, Limits, Lists, Reads
 use lasso_parts::keys::{Key, Spur};
 use lasso_parts::util::{FixedState, LassoErrorKind};
 use std::hash::BuildHasher;
-use std::process::Abort;
-use std::sync::Wait;
 use std::test::*;
-use test_steps::cases::{HINTED, PLAIN, SIZE, sized, steps_of};
-use test_steps::makers::{Maker, maker_for};
+use test_steps::Host;
+use test_steps::cases::{HINTED, Maker, PLAIN, SIZE, maker_for, sized, steps_of};
 use test_steps::steps::Call::{self, FindsAll, Serves, TakesAll};
 use test_steps::steps::Step;
 use test_steps::texts::KeyNumbers::{Any, Are, From};
@@ -17,13 +15,13 @@ use test_steps::texts::LENGTHS;
 use test_steps::texts::List::{Numbers, Texts};
 
 // Makes the calls by passes without hints, and three times each by passes with hints.
-fn runs_both<K: Key, S: BuildHasher + Default + Drop, R: AllocGlobal + Wait + Abort>(
-    rt: &R,
+fn runs_both<K: Key, S: BuildHasher + Default + Drop>(
+    rt: &impl Host,
     maker: Maker,
     steps: &[Step],
 ) -> Result<(), Fail> {
-    runs_as::<K, S, R>(rt, maker, steps, PLAIN)?;
-    runs_as::<K, S, R>(rt, maker, steps, HINTED)
+    runs_as::<K, S>(rt, maker, steps, PLAIN)?;
+    runs_as::<K, S>(rt, maker, steps, HINTED)
 }
 
 // Whatever pass would do it, no limit is set, no other text is interned, and only the bytes of new texts are taken.
@@ -43,7 +41,7 @@ fn interning_a_batch_leaves_all_else(rt: HostRuntime) -> Result<(), Fail> {
         ByOther(TakesAll(Numbers(0, 3000), From(3), None)),
         Counts(3003),
     ];
-    runs_both::<Spur, FixedState, _>(&rt, Maker::Sized(50, 4, usize::MAX), &STEPS)
+    runs_both::<Spur, FixedState>(&rt, Maker::Sized(50, 4, usize::MAX), &STEPS)
 }
 
 #[test]
@@ -61,19 +59,15 @@ fn looking_up_a_batch_leaves_all(rt: HostRuntime) -> Result<(), Fail> {
         Lists(Texts(&["é"])),
         Limits(usize::MAX),
     ];
-    runs_both::<Spur, FixedState, _>(&rt, Maker::Sized(50, 4, usize::MAX), &STEPS)
+    runs_both::<Spur, FixedState>(&rt, Maker::Sized(50, 4, usize::MAX), &STEPS)
 }
 
 // Makes the calls for each length of texts.
-fn runs_each_length<R: AllocGlobal + Wait + Abort>(
-    rt: &R,
-    maker: Maker,
-    steps: &[Step],
-) -> Result<(), Fail> {
+fn runs_each_length(rt: &impl Host, maker: Maker, steps: &[Step]) -> Result<(), Fail> {
     for length in LENGTHS.iter() {
         let case = sized(*length);
         let rows = steps_of(rt.alloc(), case, steps)?;
-        runs_both::<Spur, FixedState, R>(rt, maker_for(case, maker), &rows)?;
+        runs_both::<Spur, FixedState>(rt, maker_for(case, maker), &rows)?;
     }
     Ok(())
 }
@@ -140,7 +134,7 @@ fn interning_a_batch_by_serving_hints_leaves_all_else(rt: HostRuntime) -> Result
         ByNew(Call::Sums(5000, 4)),
         Lists(Texts(&["é", "ab", ""])),
     ];
-    runs_as::<Spur, FixedState, _>(&rt, Maker::Sized(50, 4, usize::MAX), &STEPS, HINTED)
+    runs_as::<Spur, FixedState>(&rt, Maker::Sized(50, 4, usize::MAX), &STEPS, HINTED)
 }
 
 #[test]
@@ -158,7 +152,7 @@ fn looking_up_a_batch_by_serving_hints_leaves_all(rt: HostRuntime) -> Result<(),
         ByNew(Call::Sums(5000, 4)),
         Lists(Texts(&["é"])),
     ];
-    runs_as::<Spur, FixedState, _>(&rt, Maker::Sized(50, 4, usize::MAX), &STEPS, HINTED)
+    runs_as::<Spur, FixedState>(&rt, Maker::Sized(50, 4, usize::MAX), &STEPS, HINTED)
 }
 
 // Two threads intern both lists, each beginning with another one.

@@ -11,9 +11,9 @@ use lasso_shared::laws::{
     seen_texts_keep_keys,
 };
 use lasso_shared::threaded::ThreadedRodeo;
-use std::process::Abort;
 use std::sync::Wait;
 use std::test::*;
+use test_steps::Host;
 use test_steps::calls::{Shared, made, pass_of};
 
 // Interns the text by one pass, and resolves its key by another, which has met the first.
@@ -168,20 +168,14 @@ fn have_their_keys<R: Wait>(
 }
 
 // Makes two passes. Fails unless they rely on each other.
-fn rely_on_each_other<R: Wait + Abort>(rt: &R, shared: &Shared) -> LassoResult<()> {
+fn rely_on_each_other<R: Host>(rt: &R, shared: &Shared) -> LassoResult<()> {
     let mut one = pass_of(shared);
     let mut other = pass_of(shared);
     numbers_differ(shared, &mut one, &mut other);
-    is_so(
-        rt,
-        find_each_other(rt, shared, &mut one, &mut other)?,
-        "the texts",
-    );
-    is_so(
-        rt,
-        have_their_keys(rt, shared, &mut one, &mut other)?,
-        "the keys",
-    );
+    let holds = find_each_other(rt, shared, &mut one, &mut other)?;
+    is_so(rt, holds, "the texts");
+    let holds = have_their_keys(rt, shared, &mut one, &mut other)?;
+    is_so(rt, holds, "the keys");
     Ok(())
 }
 

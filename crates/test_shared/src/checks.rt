@@ -1,7 +1,6 @@
 //! The assertions of these tests. Each stands here once, and says what was checked.
-use crate::comparing::{bytes_of, compares, compares_all, compares_single, single_of};
-use crate::freezing::{FROZEN, Frozen, is_frozen};
-use crate::showing::{are_walked, array_of, comes_at, debug_of, is_written_as, object_of, prints};
+use crate::freezing::{FROZEN, is_frozen};
+use crate::showing::{array_of, object_of};
 use lasso_parts::json::JsonError;
 use lasso_parts::keys::{Key, Spur};
 use lasso_parts::util::{FixedState, LassoError, LassoErrorKind, LassoResult};
@@ -10,47 +9,42 @@ use lasso_single::rodeo::Rodeo;
 use serde_json::Value;
 use std::alloc::Global;
 use std::hash::BuildHasher;
-use std::process::Abort;
-use std::sync::Wait;
 use std::test::*;
-use std::thread::Threads;
-use test_steps::calls::{Shared, usage};
-use test_steps::cases::{Case, PLAIN, items_for, of_way, sized, steps_of};
-use test_steps::makers::{Maker, make, maker_for, of_items};
+use test_steps::Host;
+use test_steps::calls::{Caller, Shared};
+use test_steps::cases::{
+    Case, Maker, PLAIN, items_for, make, maker_for, of_items, of_way, sized, steps_of,
+};
 use test_steps::passes::{are_right_beside, first_wrong_of};
-use test_steps::steps::{Step, Way, finds, has_len, lists};
+use test_steps::steps::{Step, Way};
 use test_steps::texts::List;
 
 // Fails unless this holds.
-pub fn is_so(rt: &impl Abort, holds: bool, what: &str) {
+pub fn is_so(rt: &impl Host, holds: bool, what: &str) {
     assert!(rt; holds, "{what}");
 }
 
 // Fails unless this holds of the case with this number.
-pub fn is_so_at(rt: &impl Abort, holds: bool, number: usize) {
+pub fn is_so_at(rt: &impl Host, holds: bool, number: usize) {
     assert!(rt; holds, "{number}");
 }
 
-// Fails unless all rows were right. `right` is the number of the first wrong one.
-fn all_right(rt: &impl Abort, right: usize, rows: usize, size: usize) {
-    assert!(rt; right == rows, "row {right} at {size}");
-}
-
 // Makes the calls in order. Fails unless each returns what it has to.
-pub fn runs_in<K: Key, S: BuildHasher + Drop, R: AllocGlobal + Wait + Abort>(
-    rt: &R,
+pub fn runs_in<K: Key, S: BuildHasher + Drop>(
+    rt: &impl Host,
     shared: &ThreadedRodeo<K, S>,
     steps: &[Step],
     case: Case,
 ) -> Result<(), Fail> {
     let right = first_wrong_of(rt, shared, steps, case)?;
-    all_right(rt, right, steps.len(), case.size.unwrap_or(0));
+    let size = case.size.unwrap_or(0);
+    assert!(rt; right == steps.len(), "row {right} at {size}");
     Ok(())
 }
 
 // Makes the calls in order in a new interner.
-pub fn runs_as<K: Key, S: BuildHasher + Default + Drop, R: AllocGlobal + Wait + Abort>(
-    rt: &R,
+pub fn runs_as<K: Key, S: BuildHasher + Default + Drop>(
+    rt: &impl Host,
     maker: Maker,
     steps: &[Step],
     case: Case,
@@ -60,17 +54,13 @@ pub fn runs_as<K: Key, S: BuildHasher + Default + Drop, R: AllocGlobal + Wait + 
 }
 
 // Makes the calls in order in a new interner with the default keys and hasher.
-pub fn runs<R: AllocGlobal + Wait + Abort>(
-    rt: &R,
-    maker: Maker,
-    steps: &[Step],
-) -> Result<(), Fail> {
-    runs_as::<Spur, FixedState, R>(rt, maker, steps, PLAIN)
+pub fn runs(rt: &impl Host, maker: Maker, steps: &[Step]) -> Result<(), Fail> {
+    runs_as::<Spur, FixedState>(rt, maker, steps, PLAIN)
 }
 
 // Makes the calls in order in a new interner for each of the sizes and each of the calls.
-pub fn runs_each<K: Key, R: AllocGlobal + Wait + Abort>(
-    rt: &R,
+pub fn runs_each<K: Key>(
+    rt: &impl Host,
     maker: Maker,
     steps: &[Step],
     sizes: &[usize],
@@ -80,15 +70,15 @@ pub fn runs_each<K: Key, R: AllocGlobal + Wait + Abort>(
         let case = sized(*size);
         let rows = steps_of(rt.alloc(), case, steps)?;
         for way in ways.iter() {
-            runs_as::<K, FixedState, R>(rt, maker_for(case, maker), &rows, of_way(*way))?;
+            runs_as::<K, FixedState>(rt, maker_for(case, maker), &rows, of_way(*way))?;
         }
     }
     Ok(())
 }
 
 // Makes the calls for each of the sizes in one interner, and then the last ones.
-pub fn runs_in_one<R: AllocGlobal + Wait + Abort>(
-    rt: &R,
+pub fn runs_in_one(
+    rt: &impl Host,
     maker: Maker,
     steps: &[Step],
     sizes: &[usize],
@@ -101,24 +91,9 @@ pub fn runs_in_one<R: AllocGlobal + Wait + Abort>(
     runs_in(rt, &shared, last, PLAIN)
 }
 
-// Makes calls in two threads. Fails unless each returns what it has to.
-pub fn runs_beside<R: AllocGlobal + Threads + Wait + Sync + Abort>(
-    rt: &R,
-    shared: &Shared,
-    steps: (&[Step], &[Step]),
-    case: Case,
-) -> Result<(), Fail> {
-    is_so(
-        rt,
-        are_right_beside(rt, shared, steps, case)?,
-        "two threads",
-    );
-    Ok(())
-}
-
 // Makes calls in a new interner, then others in two threads, and the last ones.
-pub fn runs_in_two<R: AllocGlobal + Threads + Wait + Sync + Abort>(
-    rt: &R,
+pub fn runs_in_two(
+    rt: &impl Host,
     first: &[Step],
     steps: (&[Step], &[Step]),
     last: &[Step],
@@ -126,12 +101,12 @@ pub fn runs_in_two<R: AllocGlobal + Threads + Wait + Sync + Abort>(
 ) -> Result<(), Fail> {
     let shared: Shared = make(rt, Maker::Default)?;
     runs_in(rt, &shared, first, PLAIN)?;
-    runs_beside(rt, &shared, steps, case)?;
+    let are_right = are_right_beside(rt, &shared, steps, case)?;
+    is_so(rt, are_right, "two threads");
     runs_in(rt, &shared, last, PLAIN)
 }
 
-// Rows: calls of an interner, and looks at all that it shows. Where the interner of a test comes from, and the
-// assertions over rows; each says what was checked.
+// Rows: calls of an interner, and looks at all that it shows.
 
 /// Calls, or a look at what the interner shows.
 #[derive(Clone, Copy)]
@@ -159,114 +134,78 @@ pub(super) enum Look {
     ComparesSingle(List, bool),
 }
 
-// Whether each of the texts is found at its position.
-fn are_found<K: Key, S: BuildHasher + Drop, R: Wait>(
-    rt: &R,
-    shared: &ThreadedRodeo<K, S>,
-    texts: &[&'static str],
-) -> bool {
-    let mut all = true;
-    for position in 0..texts.len() {
-        all &= finds(rt, shared, texts[position], Some(position));
+/// An interner, with what looks at it need.
+#[derive(Drop)]
+pub(super) struct Shown<'a, K: Key, S: BuildHasher + Drop, R: Host> {
+    pub(super) rt: &'a R,
+    pub(super) shared: &'a ThreadedRodeo<K, S>,
+}
+
+/// Looks at the interner.
+pub(super) fn look_at<'a, K: Key, S: BuildHasher + Drop, R: Host>(
+    rt: &'a R,
+    shared: &'a ThreadedRodeo<K, S>,
+) -> Shown<'a, K, S, R> {
+    Shown { rt, shared }
+}
+
+impl<'a, K: Key, S: BuildHasher + Default + Drop, R: Host> Shown<'a, K, S, R> {
+    // Whether look-ups, keys and walks show exactly these texts.
+    fn shows(&self, texts: &[&'static str]) -> bool {
+        let caller = Caller::new(self.rt, self.shared);
+        let mut all = caller.has_len(texts.len());
+        for (position, text) in texts.iter().enumerate() {
+            all &= caller.finds(*text, Some(position));
+        }
+        all && caller.lists(texts) && self.are_walked(texts)
     }
-    all
-}
 
-// Whether look-ups, keys and walks show exactly these texts.
-fn shows<K: Key, S: BuildHasher + Drop, R: Wait>(
-    rt: &R,
-    shared: &ThreadedRodeo<K, S>,
-    texts: &[&'static str],
-) -> bool {
-    has_len(shared, texts.len())
-        && are_found(rt, shared, texts)
-        && lists(shared, texts)
-        && are_walked(shared, texts)
-}
-
-// Whether the interner is written and printed as these texts.
-fn writes<K: Key, S: BuildHasher + Drop, R: AllocGlobal>(
-    rt: &R,
-    shared: &ThreadedRodeo<K, S>,
-    texts: &[&'static str],
-) -> LassoResult<bool> {
-    let alloc = rt.alloc();
-    let is_written = is_written_as(alloc, shared, object_of(alloc, texts)?.as_str());
-    Ok(prints(alloc, shared, debug_of(alloc, texts)?.as_str()) && is_written)
-}
-
-// Looks at the interner. Returns whether it shows what it has to.
-fn is_shown<K: Key, S: BuildHasher + Default + Drop, R: AllocGlobal + Wait>(
-    rt: &R,
-    shared: &ThreadedRodeo<K, S>,
-    look: Look,
-    case: Case,
-) -> LassoResult<bool> {
-    let alloc = rt.alloc();
-    match look {
-        Look::Shows(list) => Ok(shows(rt, shared, &items_for(alloc, case, list)?)),
-        Look::Writes(list) => writes(rt, shared, &items_for(alloc, case, list)?),
-        Look::UsesBytesOf(list) => {
-            Ok(usage(rt, shared) == bytes_of(&items_for(alloc, case, list)?))
-        }
-        Look::Compares(list, wanted) => {
-            compares(rt, shared, &items_for(alloc, case, list)?, wanted)
-        }
-        Look::ComparesAll(list, wanted) => {
-            compares_all(rt, shared, &items_for(alloc, case, list)?, wanted)
-        }
-        Look::ComparesSingle(list, wanted) => {
-            compares_single(rt, alloc, shared, &items_for(alloc, case, list)?, wanted)
-        }
-        _ => Ok(false),
+    // Makes the call, or looks at the interner. Returns whether it returns or shows what it has to.
+    fn holds(&self, look: Look, case: Case) -> LassoResult<bool> {
+        let alloc = self.rt.alloc();
+        Ok(match look {
+            Look::Does(steps) => {
+                first_wrong_of(self.rt, self.shared, steps, case)? == steps.len()
+            }
+            Look::Json(json) => self.is_written_as(json),
+            Look::Prints(text) => self.prints(text),
+            Look::Walks(place, text) => self.shared.strings().nth(place) == Some(text),
+            Look::Shows(list) => self.shows(&items_for(alloc, case, list)?),
+            Look::Writes(list) => self.writes(&items_for(alloc, case, list)?)?,
+            Look::UsesBytesOf(list) => {
+                let bytes = bytes_of(&items_for(alloc, case, list)?);
+                self.shared.current_memory_usage(self.rt) == bytes
+            }
+            Look::Compares(list, wanted) => {
+                self.compares(&items_for(alloc, case, list)?, wanted)?
+            }
+            Look::ComparesAll(list, wanted) => {
+                self.compares_all(&items_for(alloc, case, list)?, wanted)?
+            }
+            Look::ComparesSingle(list, wanted) => {
+                self.compares_single(&items_for(alloc, case, list)?, wanted)?
+            }
+        })
     }
-}
 
-// Makes the call, or looks at the interner. Returns whether it returns or shows what it has to.
-fn holds<K: Key, S: BuildHasher + Default + Drop, R: AllocGlobal + Wait>(
-    rt: &R,
-    shared: &ThreadedRodeo<K, S>,
-    look: Look,
-    case: Case,
-) -> LassoResult<bool> {
-    match look {
-        Look::Does(steps) => Ok(first_wrong_of(rt, shared, steps, case)? == steps.len()),
-        Look::Json(json) => Ok(is_written_as(rt.alloc(), shared, json)),
-        Look::Prints(text) => Ok(prints(rt.alloc(), shared, text)),
-        Look::Walks(place, text) => Ok(comes_at(shared, place, text)),
-        _ => is_shown(rt, shared, look, case),
+    /// Goes through the rows, up to the first that is wrong. Returns how many are right before it.
+    pub(super) fn first_wrong(&self, looks: &[Look], case: Case) -> LassoResult<usize> {
+        for index in 0..looks.len() {
+            if !self.holds(looks[index], case)? {
+                return Ok(index);
+            }
+        }
+        Ok(looks.len())
     }
 }
 
-/// Goes through the rows, up to the first that is wrong. Returns how many are right before it.
-pub(super) fn first_wrong_look<K: Key, S: BuildHasher + Default + Drop, R: AllocGlobal + Wait>(
-    rt: &R,
-    shared: &ThreadedRodeo<K, S>,
-    looks: &[Look],
-    case: Case,
-) -> LassoResult<usize> {
-    for index in 0..looks.len() {
-        if !holds(rt, shared, looks[index], case)? {
-            return Ok(index);
-        }
+/// How many bytes the texts have.
+pub(super) fn bytes_of(texts: &[&str]) -> usize {
+    let mut bytes: usize = 0;
+    for text in texts.iter() {
+        bytes = bytes.saturating_add(text.len());
     }
-    Ok(looks.len())
-}
-
-/// Makes an interner, goes through the rows, and freezes it. Returns whether all rows were right, and the frozen
-/// form has exactly these texts and lacks the absent one.
-pub(super) fn freezes<K: Key, S: BuildHasher + Default + Drop, R: AllocGlobal + Wait>(
-    rt: &R,
-    origin: Origin,
-    looks: &[Look],
-    frozen: (Frozen, List, &str),
-    case: Case,
-) -> LassoResult<bool> {
-    let (form, list, absent) = frozen;
-    let shared: ThreadedRodeo<K, S> = make_from(rt, origin, case)?;
-    let right = first_wrong_look(rt, &shared, looks, case)?;
-    let texts = items_for(rt.alloc(), case, list)?;
-    Ok(is_frozen(rt, shared, form, &texts, absent)? && right == looks.len())
+    bytes
 }
 
 // Where the interner of a test comes from.
@@ -303,99 +242,76 @@ pub(super) fn value_of(alloc: Global, json: &str) -> LassoResult<Value> {
     }
 }
 
-/// The interner that is read from the value.
-pub(super) fn read<K: Key, S: BuildHasher + Default + Drop>(
-    alloc: Global,
-    value: Result<Value, JsonError>,
-) -> LassoResult<ThreadedRodeo<K, S>> {
+// The value that was written.
+fn written(value: Result<Value, JsonError>) -> LassoResult<Value> {
     match value {
-        Ok(value) => match ThreadedRodeo::deserialize(alloc, &value) {
-            Ok(shared) => Ok(shared),
-            Err(_) => unread(),
-        },
+        Ok(value) => Ok(value),
         Err(_) => unread(),
     }
 }
 
-// The interner that is read from the JSON text.
-fn read_text<K: Key, S: BuildHasher + Default + Drop>(
+// The interner that is read from the value.
+fn read<K: Key, S: BuildHasher + Default + Drop>(
     alloc: Global,
-    json: &str,
+    value: &Value,
 ) -> LassoResult<ThreadedRodeo<K, S>> {
-    read(alloc, Ok(value_of(alloc, json)?))
+    match ThreadedRodeo::deserialize(alloc, value) {
+        Ok(shared) => Ok(shared),
+        Err(_) => unread(),
+    }
 }
 
 // What an interner for one thread of these texts writes.
-fn written(alloc: Global, texts: &[&'static str]) -> LassoResult<Result<Value, JsonError>> {
-    let rodeo: Rodeo<Spur, FixedState, Global> = single_of(alloc, texts)?;
-    Ok(rodeo.serialize(alloc))
-}
-
-// What one that threads share writes, if it is read from that.
-fn written_again(alloc: Global, texts: &[&'static str]) -> LassoResult<Result<Value, JsonError>> {
-    let shared: ThreadedRodeo<Spur, FixedState> = read(alloc, written(alloc, texts)?)?;
-    Ok(shared.serialize(alloc))
-}
-
-// Makes the interner of a list.
-fn make_of<K: Key, S: BuildHasher + Default + Drop, R: Wait>(
-    rt: &R,
-    alloc: Global,
-    origin: Origin,
-    texts: &[&'static str],
-) -> LassoResult<ThreadedRodeo<K, S>> {
-    match origin {
-        Origin::Items(_) => of_items(rt, alloc, texts),
-        Origin::Object(_) => read_text(alloc, object_of(alloc, texts)?.as_str()),
-        Origin::Array(_) => read_text(alloc, array_of(alloc, texts)?.as_str()),
-        Origin::Written(_) => read(alloc, written(alloc, texts)?),
-        Origin::WrittenAgain(_) => read(alloc, written_again(alloc, texts)?),
-        _ => unread(),
-    }
+fn written_by_one(alloc: Global, texts: &[&'static str]) -> LassoResult<Value> {
+    let rodeo: Rodeo<Spur, FixedState, Global> = Rodeo::from_iter(alloc, texts.iter().copied())?;
+    written(rodeo.serialize(alloc))
 }
 
 /// Makes the interner.
-pub(super) fn make_from<K: Key, S: BuildHasher + Default + Drop, R: AllocGlobal + Wait>(
-    rt: &R,
+pub(super) fn make_from<K: Key, S: BuildHasher + Default + Drop>(
+    rt: &impl Host,
     origin: Origin,
     case: Case,
 ) -> LassoResult<ThreadedRodeo<K, S>> {
-    match origin {
-        Origin::Made(maker) => make(rt, maker_for(case, maker)),
-        Origin::Json(json) => read_text(rt.alloc(), json),
-        Origin::Items(list)
-        | Origin::Object(list)
-        | Origin::Array(list)
-        | Origin::Written(list)
-        | Origin::WrittenAgain(list) => {
-            make_of(rt, rt.alloc(), origin, &items_for(rt.alloc(), case, list)?)
+    let alloc = rt.alloc();
+    let value = match origin {
+        Origin::Made(maker) => return make(rt, maker_for(case, maker)),
+        Origin::Items(list) => return of_items(rt, &items_for(alloc, case, list)?),
+        Origin::Json(json) => value_of(alloc, json)?,
+        Origin::Object(list) => {
+            let json = object_of(alloc, &items_for(alloc, case, list)?)?;
+            value_of(alloc, json.as_str())?
         }
-    }
-}
-
-// The assertions of the tests that read what an interner shows. Each stands here once, and says what was checked.
-
-// Fails unless all rows were right. `right` is the number of the first wrong one.
-fn all_looks_right(rt: &impl Abort, right: usize, rows: usize, case: Case) {
-    let (size, text) = (case.size.unwrap_or(0), case.pair.0);
-    assert!(rt; right == rows, "row {right} at {size} of {text}");
+        Origin::Array(list) => {
+            let json = array_of(alloc, &items_for(alloc, case, list)?)?;
+            value_of(alloc, json.as_str())?
+        }
+        Origin::Written(list) => written_by_one(alloc, &items_for(alloc, case, list)?)?,
+        Origin::WrittenAgain(list) => {
+            let value = written_by_one(alloc, &items_for(alloc, case, list)?)?;
+            let shared: Shared = read(alloc, &value)?;
+            written(shared.serialize(alloc))?
+        }
+    };
+    read(alloc, &value)
 }
 
 /// Goes through the rows. Fails unless all are right.
-pub(super) fn shows_in<K: Key, S: BuildHasher + Default + Drop, R: AllocGlobal + Wait + Abort>(
-    rt: &R,
+pub(super) fn shows_in<K: Key, S: BuildHasher + Default + Drop>(
+    rt: &impl Host,
     shared: &ThreadedRodeo<K, S>,
     looks: &[Look],
     case: Case,
 ) -> Result<(), Fail> {
-    let right = first_wrong_look(rt, shared, looks, case)?;
-    all_looks_right(rt, right, looks.len(), case);
+    let right = look_at(rt, shared).first_wrong(looks, case)?;
+    let (size, text) = (case.size.unwrap_or(0), case.pair.0);
+    assert!(rt; right == looks.len(), "row {right} at {size} of {text}");
     Ok(())
 }
 
 /// Goes through the rows with a new interner.
-pub(super) fn shows_as<K: Key, S: BuildHasher + Default + Drop, R: AllocGlobal + Wait + Abort>(
-    rt: &R,
+pub(super) fn shows_as<K: Key, S: BuildHasher + Default + Drop>(
+    rt: &impl Host,
     origin: Origin,
     looks: &[Look],
     case: Case,
@@ -405,30 +321,25 @@ pub(super) fn shows_as<K: Key, S: BuildHasher + Default + Drop, R: AllocGlobal +
 }
 
 /// Goes through the rows with a new interner of the default keys and hasher.
-pub(super) fn shows_rows<R: AllocGlobal + Wait + Abort>(
-    rt: &R,
-    origin: Origin,
-    looks: &[Look],
-) -> Result<(), Fail> {
-    shows_as::<Spur, FixedState, R>(rt, origin, looks, PLAIN)
+pub(super) fn shows_rows(rt: &impl Host, origin: Origin, looks: &[Look]) -> Result<(), Fail> {
+    shows_as::<Spur, FixedState>(rt, origin, looks, PLAIN)
 }
 
 /// Goes through the rows with a new interner, and freezes it, in each way. Fails unless all rows are right, and
 /// each frozen form has exactly the texts of the list and lacks the absent one.
-pub(super) fn freezes_as<K: Key, S: BuildHasher + Default + Drop, R: AllocGlobal + Wait + Abort>(
-    rt: &R,
+pub(super) fn freezes_as<K: Key, S: BuildHasher + Default + Drop>(
+    rt: &impl Host,
     origin: Origin,
     looks: &[Look],
     frozen: (List, &str),
     case: Case,
 ) -> Result<(), Fail> {
+    let (list, absent) = frozen;
     for form in FROZEN.iter() {
-        let frozen = (*form, frozen.0, frozen.1);
-        is_so(
-            rt,
-            freezes::<K, S, R>(rt, origin, looks, frozen, case)?,
-            frozen.2,
-        );
+        let shared: ThreadedRodeo<K, S> = make_from(rt, origin, case)?;
+        shows_in(rt, &shared, looks, case)?;
+        let texts = items_for(rt.alloc(), case, list)?;
+        is_so(rt, is_frozen(rt, shared, *form, &texts, absent)?, absent);
     }
     Ok(())
 }

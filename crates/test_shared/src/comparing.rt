@@ -1,5 +1,5 @@
 //! An interner that threads share, compared with others and with the forms for one thread.
-use crate::checks::{Look, Origin, is_so, shows_as, shows_rows};
+use crate::checks::{Look, Origin, Shown, bytes_of, is_so_at, look_at, shows_as, shows_rows};
 use Look::{Compares, ComparesAll, ComparesSingle, Does};
 use Step::{Copies, Counts, EqualsItself, Extends, Interns, IsLimited, Limits, Uses};
 use lasso_parts::keys::{Key, Spur};
@@ -9,14 +9,12 @@ use lasso_single::reader::RodeoReader;
 use lasso_single::rodeo::Rodeo;
 use std::alloc::{AllocError, Global};
 use std::hash::BuildHasher;
-use std::process::Abort;
-use std::sync::Wait;
 use std::test::*;
 use test_common::hashers::{FirstState, LowState, SameState};
-use test_steps::calls::{Shared, limit, usage};
-use test_steps::cases::{PLAIN, SIZE, sized};
-use test_steps::makers::{Maker, make, of_items};
-use test_steps::steps::{FULL, Step, Way, extends, interned, is_reply};
+use test_steps::Host;
+use test_steps::calls::{Caller, Shared};
+use test_steps::cases::{Maker, PLAIN, SIZE, make, of_items, sized};
+use test_steps::steps::{FULL, Step, Way, is_reply};
 use test_steps::texts::List::{Numbers, Texts};
 use test_steps::texts::{LENGTHS, items_of};
 
@@ -61,10 +59,10 @@ fn no_hasher_makes_lists_unequal(rt: HostRuntime) -> Result<(), Fail> {
         ComparesAll(Texts(&["a", "b", "d"]), false),
     ];
     let origin = Origin::Made(Maker::Default);
-    shows_as::<Spur, FixedState, _>(&rt, origin, &LOOKS, PLAIN)?;
-    shows_as::<Spur, SameState, _>(&rt, origin, &LOOKS, PLAIN)?;
-    shows_as::<Spur, FirstState, _>(&rt, origin, &LOOKS, PLAIN)?;
-    shows_as::<Spur, LowState, _>(&rt, origin, &LOOKS, PLAIN)
+    shows_as::<Spur, FixedState>(&rt, origin, &LOOKS, PLAIN)?;
+    shows_as::<Spur, SameState>(&rt, origin, &LOOKS, PLAIN)?;
+    shows_as::<Spur, FirstState>(&rt, origin, &LOOKS, PLAIN)?;
+    shows_as::<Spur, LowState>(&rt, origin, &LOOKS, PLAIN)
 }
 
 // The limit is neither 0 nor `usize::MAX`. That of each form is compared too.
@@ -96,7 +94,7 @@ fn no_comparison_takes_a_byte(rt: HostRuntime) -> Result<(), Fail> {
     ];
     for length in LENGTHS.iter() {
         let origin = Origin::Made(Maker::Full(2 * SIZE));
-        shows_as::<Spur, FixedState, _>(&rt, origin, &LOOKS, sized(*length))?;
+        shows_as::<Spur, FixedState>(&rt, origin, &LOOKS, sized(*length))?;
     }
     Ok(())
 }
@@ -132,41 +130,21 @@ fn with_other(
     Ok(items)
 }
 
-// Whether the interner differs from each form of its list with another text at this position, or after it.
-fn differs_at<R: AllocGlobal + Wait>(
-    rt: &R,
-    shared: &Shared,
-    texts: &[&'static str],
-    position: usize,
-) -> LassoResult<bool> {
-    let mut all = true;
-    for other in OTHERS.iter() {
-        let items = with_other(rt.alloc(), texts, position, *other)?;
-        all &= compares(rt, shared, &items, false)?;
-    }
-    Ok(all)
-}
-
-// An interner of the first `count` numbers has to be equal to each form of its list, and to no form of one that
-// differs in one text: the first, the middle or the last one, or one that is appended.
-fn tells_one_apart<R: AllocGlobal + Wait + Abort>(rt: &R, count: usize) -> Result<(), Fail> {
-    let texts = items_of(rt.alloc(), Numbers(0, count))?;
-    let shared = of_items::<Spur, FixedState, R>(rt, rt.alloc(), &texts)?;
-    is_so(rt, compares(rt, &shared, &texts, true)?, "the same texts");
-    for position in [0, count / 2, count.saturating_sub(1), count] {
-        is_so(
-            rt,
-            differs_at(rt, &shared, &texts, position)?,
-            "another text",
-        );
-    }
-    Ok(())
-}
-
+// An interner of the first numbers has to be equal to each form of its list, and to no form of one that differs in one
+// text: the first, the middle or the last one, or one that is appended.
 #[test]
 fn one_other_text_of_many_makes_a_list_unequal(rt: HostRuntime) -> Result<(), Fail> {
-    for count in [1, 2, 3, 4, 5, 10, 17, 40, 300, 3000] {
-        tells_one_apart(&rt, count)?;
+    for count in [1, 2, 3, 4, 5, 10, 17, 40, 300, 3000usize] {
+        let texts = items_of(rt.alloc(), Numbers(0, count))?;
+        let shared: Shared = of_items(&rt, &texts)?;
+        let shown = look_at(&rt, &shared);
+        is_so_at(&rt, shown.compares(&texts, true)?, count);
+        for position in [0, count / 2, count.saturating_sub(1), count] {
+            for other in OTHERS.iter() {
+                let items = with_other(rt.alloc(), &texts, position, *other)?;
+                is_so_at(&rt, shown.compares(&items, false)?, position);
+            }
+        }
     }
     Ok(())
 }
@@ -180,131 +158,96 @@ fn one_other_byte_makes_a_list_unequal(rt: HostRuntime) -> Result<(), Fail> {
     ];
     for length in LENGTHS.iter() {
         let origin = Origin::Items(Texts(&["a-"]));
-        shows_as::<Spur, FixedState, _>(&rt, origin, &LOOKS, sized(*length))?;
+        shows_as::<Spur, FixedState>(&rt, origin, &LOOKS, sized(*length))?;
     }
     Ok(())
 }
 
 // An interner that threads share, compared with each form of a list of texts.
 
-/// An interner for one thread, of these texts.
-pub(super) fn single_of<K: Key, S: BuildHasher + Default + Drop>(
-    alloc: Global,
-    texts: &[&'static str],
-) -> LassoResult<Rodeo<K, S, Global>> {
-    Rodeo::from_iter(alloc, texts.iter().copied())
-}
-
-// Whether the comparison of the interner with the reader, and with its resolver, gives this.
-fn compares_frozen<K: Key, S: BuildHasher + Drop, T: BuildHasher + Drop, R: Wait>(
-    rt: &R,
-    shared: &ThreadedRodeo<K, S>,
-    reader: RodeoReader<K, T, Global>,
-    wanted: bool,
-) -> bool {
-    let read = shared.eq_reader(rt, &reader) == wanted;
-    shared.eq_resolver(rt, &reader.into_resolver()) == wanted && read
-}
-
-/// Whether the comparison of the interner with one for one thread of these texts, with its reader and with its
-/// resolver gives this.
-pub(super) fn compares_single<K: Key, S: BuildHasher + Default + Drop, R: Wait>(
-    rt: &R,
-    alloc: Global,
-    shared: &ThreadedRodeo<K, S>,
-    texts: &[&'static str],
-    wanted: bool,
-) -> LassoResult<bool> {
-    let rodeo: Rodeo<K, S, Global> = single_of(alloc, texts)?;
-    let same = shared.eq_rodeo(rt, &rodeo) == wanted;
-    Ok(compares_frozen(rt, shared, rodeo.into_reader(), wanted) && same)
-}
-
-/// How many bytes the texts have.
-pub(super) fn bytes_of(texts: &[&str]) -> usize {
-    let mut bytes: usize = 0;
-    for text in texts.iter() {
-        bytes = bytes.saturating_add(text.len());
-    }
-    bytes
-}
-
-// Whether limit and usage are these bytes, and the interner takes exactly one more byte.
-fn has_room_for_one<K: Key, S: BuildHasher + Drop, R: Wait>(
-    rt: &R,
-    shared: &ThreadedRodeo<K, S>,
-    count: usize,
-    bytes: usize,
-) -> LassoResult<bool> {
-    let sums = limit(rt, shared) == bytes && usage(rt, shared) == bytes;
-    let fits = is_reply(interned(rt, shared, Way::TryCopied, "\u{1}"), Ok(count))?;
-    let full = is_reply(interned(rt, shared, Way::TryCopied, "\u{2}"), FULL)?;
-    Ok(sums && fits && full && limit(rt, shared) == bytes)
-}
-
-// Whether the comparisons of the two interners, each with the other, give this. The other has these texts and room
-// for one more byte, which no comparison may take.
-fn compares_both<K: Key, S: BuildHasher + Drop, T: BuildHasher + Drop, R: Wait>(
-    rt: &R,
-    shared: &ThreadedRodeo<K, S>,
-    other: &ThreadedRodeo<K, T>,
-    texts: &[&'static str],
-    wanted: bool,
-) -> LassoResult<bool> {
-    let here = shared.eq_threaded(rt, other) == wanted;
-    let there = other.eq_threaded(rt, shared) == wanted;
-    let bytes = bytes_of(texts).saturating_add(1);
-    Ok(has_room_for_one(rt, other, texts.len(), bytes)? && here && there)
-}
-
-// An interner of these texts, with another hasher. Its bucket has their bytes and one more, which are its limit.
-fn full_of<K: Key, T: BuildHasher + Default + Drop, R: AllocGlobal + Wait>(
-    rt: &R,
+// An interner of these texts, with a hasher of its own. Its bucket has their bytes and one more, which are its limit.
+fn full_of<K: Key, T: BuildHasher + Default + Drop>(
+    rt: &impl Host,
     texts: &[&'static str],
 ) -> LassoResult<ThreadedRodeo<K, T>> {
     let shared = make(rt, Maker::Full(bytes_of(texts).saturating_add(1)))?;
-    extends(rt, &shared, texts)?;
+    Caller::new(rt, &shared).extends(texts)?;
     Ok(shared)
 }
 
-// Whether the comparisons of the interner with another of these texts give this, and leave that as it is.
-fn compares_shared<
-    K: Key,
-    S: BuildHasher + Drop,
-    T: BuildHasher + Default + Drop,
-    R: AllocGlobal + Wait,
->(rt: &R, shared: &ThreadedRodeo<K, S>, texts: &[&'static str], wanted: bool) -> LassoResult<bool> {
-    let other: ThreadedRodeo<K, T> = full_of(rt, texts)?;
-    let both = compares_both(rt, shared, &other, texts, wanted)?;
-    let frozen: ThreadedRodeo<K, T> = full_of(rt, texts)?;
-    Ok(compares_frozen(rt, shared, frozen.into_reader(rt)?, wanted) && both)
+// Whether limit and usage are the bytes of the texts and one more, and the interner takes exactly this byte.
+fn has_room_for_one<K: Key, T: BuildHasher + Drop>(
+    rt: &impl Host,
+    shared: &ThreadedRodeo<K, T>,
+    texts: &[&'static str],
+) -> LassoResult<bool> {
+    let caller = Caller::new(rt, shared);
+    let bytes = bytes_of(texts).saturating_add(1);
+    let sums = caller.limit() == bytes && caller.usage() == bytes;
+    let fits = is_reply(caller.interned(Way::TryCopied, "\u{1}"), Ok(texts.len()))?;
+    let full = is_reply(caller.interned(Way::TryCopied, "\u{2}"), FULL)?;
+    Ok(sums && fits && full && caller.limit() == bytes)
 }
 
-/// Whether the comparison of the interner with each form of these texts gives this, and leaves the form as it is.
-pub(super) fn compares<K: Key, S: BuildHasher + Default + Drop, R: AllocGlobal + Wait>(
-    rt: &R,
-    shared: &ThreadedRodeo<K, S>,
-    texts: &[&'static str],
-    wanted: bool,
-) -> LassoResult<bool> {
-    let other: ThreadedRodeo<K, S> = full_of(rt, texts)?;
-    Ok(
-        compares_both(rt, shared, &other, texts, wanted)?
-            && compares_single(rt, rt.alloc(), shared, texts, wanted)?,
-    )
-}
+impl<'a, K: Key, S: BuildHasher + Default + Drop, R: Host> Shown<'a, K, S, R> {
+    // Whether the comparison of the interner with the reader, and with its resolver, gives this.
+    fn compares_frozen<T: BuildHasher + Drop>(
+        &self,
+        reader: RodeoReader<K, T, Global>,
+        wanted: bool,
+    ) -> bool {
+        let read = self.shared.eq_reader(self.rt, &reader) == wanted;
+        self.shared.eq_resolver(self.rt, &reader.into_resolver()) == wanted && read
+    }
 
-/// Whether the comparison with each form gives this, also with forms of two more hashers and with frozen forms
-/// of interners that threads share.
-pub(super) fn compares_all<K: Key, S: BuildHasher + Default + Drop, R: AllocGlobal + Wait>(
-    rt: &R,
-    shared: &ThreadedRodeo<K, S>,
-    texts: &[&'static str],
-    wanted: bool,
-) -> LassoResult<bool> {
-    Ok(
-        compares(rt, shared, texts, wanted)?
-            && compares_shared::<K, S, FixedState, R>(rt, shared, texts, wanted)?
-            && compares_shared::<K, S, FirstState, R>(rt, shared, texts, wanted)?,
-    )
+    /// Whether the comparison of the interner with one for one thread of these texts, with its reader and with its
+    /// resolver gives this.
+    pub(super) fn compares_single(
+        &self,
+        texts: &[&'static str],
+        wanted: bool,
+    ) -> LassoResult<bool> {
+        let rodeo: Rodeo<K, S, Global> = Rodeo::from_iter(self.rt.alloc(), texts.iter().copied())?;
+        let same = self.shared.eq_rodeo(self.rt, &rodeo) == wanted;
+        Ok(self.compares_frozen(rodeo.into_reader(), wanted) && same)
+    }
+
+    // Whether the comparisons of the interner and another one of these texts, each with the other, give this. The other
+    // has room for one more byte, which no comparison may take.
+    fn compares_both<T: BuildHasher + Default + Drop>(
+        &self,
+        texts: &[&'static str],
+        wanted: bool,
+    ) -> LassoResult<bool> {
+        let other: ThreadedRodeo<K, T> = full_of(self.rt, texts)?;
+        let here = self.shared.eq_threaded(self.rt, &other) == wanted;
+        let there = other.eq_threaded(self.rt, self.shared) == wanted;
+        Ok(has_room_for_one(self.rt, &other, texts)? && here && there)
+    }
+
+    // The same, and with the other's frozen forms.
+    fn compares_shared<T: BuildHasher + Default + Drop>(
+        &self,
+        texts: &[&'static str],
+        wanted: bool,
+    ) -> LassoResult<bool> {
+        let both = self.compares_both::<T>(texts, wanted)?;
+        let frozen: ThreadedRodeo<K, T> = full_of(self.rt, texts)?;
+        Ok(self.compares_frozen(frozen.into_reader(self.rt)?, wanted) && both)
+    }
+
+    /// Whether the comparison of the interner with each form of these texts gives this, and leaves the form as it is.
+    pub(super) fn compares(&self, texts: &[&'static str], wanted: bool) -> LassoResult<bool> {
+        Ok(self.compares_both::<S>(texts, wanted)? && self.compares_single(texts, wanted)?)
+    }
+
+    /// Whether the comparison with each form gives this, also with forms of two more hashers and with frozen forms
+    /// of interners that threads share.
+    pub(super) fn compares_all(&self, texts: &[&'static str], wanted: bool) -> LassoResult<bool> {
+        Ok(
+            self.compares(texts, wanted)?
+                && self.compares_shared::<FixedState>(texts, wanted)?
+                && self.compares_shared::<FirstState>(texts, wanted)?,
+        )
+    }
 }

@@ -4,14 +4,13 @@ use crate::checks::{is_so, runs_in, runs_in_two};
 use Step::{ByNew, ByOne, Counts, Fills, IsLimited, Shows, Uses, UsesAtMost};
 use lasso_parts::keys::Key;
 use lasso_parts::util::LassoResult;
-use std::process::Abort;
-use std::sync::Wait;
 use std::test::*;
-use std::thread::{Threads, join, map_indices};
-use test_steps::calls::{Caller, DefaultCaller, Shared, len, limited, made};
+use std::thread::{join, map_indices};
+use test_steps::Host;
+use test_steps::calls::{Caller, Shared, limited, made};
 use test_steps::cases::{HINTED, PLAIN};
 use test_steps::passes::are_right_beside;
-use test_steps::steps::{Call, Step, Way, resolves};
+use test_steps::steps::{Call, Step, Way};
 use test_steps::texts::List::Numbers;
 use test_steps::texts::counted;
 
@@ -44,26 +43,9 @@ static EACH: [[Step; 1]; 4] = [
     [Fills(Way::TryCopied, &["d", "e"], 4000)],
 ];
 
-// Four threads intern a list each, and the common one. Returns whether each key resolves to its text.
-fn all_intern<R: AllocGlobal + Threads + Wait + Sync>(
-    rt: &R,
-    shared: &Shared,
-) -> LassoResult<bool> {
-    let [a, b, c, d] = &EACH;
-    let (here, there) = join(
-        rt,
-        || are_right_beside(rt, shared, (a, b), PLAIN),
-        || are_right_beside(rt, shared, (c, d), PLAIN),
-    );
-    let (here, there) = (here?, there?);
-    Ok(here && there)
-}
-
-// Fills the interner in four threads. Fails unless it has each text once.
-fn share_half<R: AllocGlobal + Threads + Wait + Sync + Abort>(
-    rt: &R,
-    shared: &Shared,
-) -> Result<(), Fail> {
+// Four threads intern a list each, and the common one.
+#[test]
+fn four_threads_share_half_of_their_texts(rt: HostRuntime) -> Result<(), Fail> {
     // each list of 4000 texts has 14890 digits and 4000 letters: 94,450 bytes in all
     static LAST: [Step; 4] = [
         Counts(20_000),
@@ -71,14 +53,15 @@ fn share_half<R: AllocGlobal + Threads + Wait + Sync + Abort>(
         UsesAtMost(4096 + 4 * 94_450),
         Step::EqualsItself,
     ];
-    is_so(rt, all_intern(rt, shared)?, "the keys");
-    runs_in(rt, shared, &LAST, PLAIN)
-}
-
-#[test]
-fn four_threads_share_half_of_their_texts(rt: HostRuntime) -> Result<(), Fail> {
     let shared = made(rt.alloc())?;
-    share_half(&rt, &shared)
+    let [a, b, c, d] = &EACH;
+    let (here, there) = join(
+        &rt,
+        || are_right_beside(&rt, &shared, (a, b), PLAIN),
+        || are_right_beside(&rt, &shared, (c, d), PLAIN),
+    );
+    is_so(&rt, here? && there?, "the keys");
+    runs_in(&rt, &shared, &LAST, PLAIN)
 }
 
 // Threads that intern the same few texts, and threads that call two interners alternately.
@@ -88,22 +71,14 @@ static FEW: [&str; 16] = [
     "pppp",
 ];
 
-// Interns a copied text by the pass. Returns its number, if it was not refused.
-fn number_as<R: Wait>(rt: &R, caller: &mut DefaultCaller<'_>, text: &str) -> Option<usize> {
-    match caller.copied(rt, text) {
-        Ok(key) => Some(key.into_usize()),
-        Err(_) => None,
-    }
-}
-
 // Interns each of the few texts 1000 times, starting with the text at `first`, and returns their numbers.
 // `None` if a text was refused or had two numbers.
-fn numbers_of_few<R: Wait>(rt: &R, shared: &Shared, first: usize) -> Option<[usize; 16]> {
-    let mut caller = Caller::new(shared);
+fn numbers_of_few(rt: &impl Host, shared: &Shared, first: usize) -> Option<[usize; 16]> {
+    let mut caller = Caller::new(rt, shared);
     let mut numbers = [usize::MAX; 16];
     for call in 0..16_000usize {
         let at = first.wrapping_add(call) % 16;
-        let number = number_as(rt, &mut caller, FEW[at])?;
+        let number = caller.copied(FEW[at]).ok()?.into_usize();
         if numbers[at] != usize::MAX && numbers[at] != number {
             return None;
         }
@@ -112,124 +87,76 @@ fn numbers_of_few<R: Wait>(rt: &R, shared: &Shared, first: usize) -> Option<[usi
     Some(numbers)
 }
 
-// Whether these are `count` equal lists, each with all numbers below 16.
-fn are_alike(found: &[Option<[usize; 16]>], count: usize) -> bool {
-    let Some(Some(first)) = found.first() else {
-        return false;
-    };
-    let mut all = found.len() == count;
-    for numbers in found.iter() {
-        if *numbers != Some(*first) {
-            all = false;
-        }
-    }
-    for number in 0..16usize {
-        if !first.contains(&number) {
-            all = false;
-        }
-    }
-    all
-}
-
-// Eight threads intern the few texts. Returns whether they get the same numbers.
-fn eight_intern<R: AllocGlobal + Threads + Wait + Sync>(
-    rt: &R,
-    shared: &Shared,
-) -> Result<bool, Fail> {
-    let found = map_indices(
-        rt,
-        rt.alloc(),
-        8,
-        &|thread| numbers_of_few(rt, shared, thread.wrapping_mul(2)),
-    )?;
-    Ok(are_alike(&found, 8))
-}
-
+// Eight threads get the same numbers, which are all below 16.
 #[test]
 fn few_texts(rt: HostRuntime) -> Result<(), Fail> {
     let shared = made(rt.alloc())?;
-    is_so(&rt, eight_intern(&rt, &shared)?, "the numbers");
-    is_so(&rt, len(&shared) == 16, "the count");
+    let found = map_indices(
+        &rt,
+        rt.alloc(),
+        8,
+        &|thread| numbers_of_few(&rt, &shared, thread.wrapping_mul(2)),
+    )?;
+    let Some(Some(first)) = found.first() else {
+        return Err(Fail::from("no numbers"));
+    };
+    is_so(&rt, found.len() == 8, "eight threads");
+    for numbers in found.iter() {
+        is_so(&rt, *numbers == Some(*first), "the same numbers");
+    }
+    for number in 0..16usize {
+        is_so(&rt, first.contains(&number), "each number");
+    }
+    is_so(&rt, shared.len() == 16, "the count");
     Ok(())
 }
 
 // Interns the number of each of 1000 rows in the two interners, as a text of its own. Returns whether each key
 // resolves to its text.
-fn interns_in_turn<R: AllocGlobal + Wait>(
-    rt: &R,
-    one: &Shared,
-    other: &Shared,
-    letters: (&'static str, &'static str),
+fn interns_in_turn(
+    rt: &impl Host,
+    one: (&Shared, &str),
+    other: (&Shared, &str),
 ) -> LassoResult<bool> {
     let mut all = true;
     for number in 1000..2000usize {
-        all &= resolves(
-            rt,
-            one,
-            Way::CopiedByPass,
-            counted(rt.alloc(), letters.0, number)?,
-        )?;
-        all &= resolves(
-            rt,
-            other,
-            Way::CopiedByPass,
-            counted(rt.alloc(), letters.1, number)?,
-        )?;
+        for (shared, letter) in [one, other] {
+            let text = counted(rt.alloc(), letter, number)?;
+            all &= Caller::new(rt, shared).resolves_to(Way::CopiedByPass, text)?;
+        }
     }
     Ok(all)
 }
 
 // Interns the texts in two threads, which call the interners in opposite order. Returns whether each key
 // resolves to its text.
-fn both_intern<R: AllocGlobal + Threads + Wait + Sync>(
-    rt: &R,
-    one: &Shared,
-    other: &Shared,
-) -> LassoResult<bool> {
+fn both_intern(rt: &impl Host, one: &Shared, other: &Shared) -> LassoResult<bool> {
     let (a, b) = join(
         rt,
-        || interns_in_turn(rt, one, other, ("a", "b")),
-        || interns_in_turn(rt, other, one, ("b", "a")),
+        || interns_in_turn(rt, (one, "a"), (other, "b")),
+        || interns_in_turn(rt, (other, "b"), (one, "a")),
     );
     let (a, b) = (a?, b?);
     Ok(a && b)
 }
 
-// Two times two threads intern the texts. Returns whether each key resolves to its text.
-fn four_intern<R: AllocGlobal + Threads + Wait + Sync>(
-    rt: &R,
-    one: &Shared,
-    other: &Shared,
-) -> LassoResult<bool> {
-    let (first, second) = join(
-        rt,
-        || both_intern(rt, one, other),
-        || both_intern(rt, one, other),
-    );
-    let (first, second) = (first?, second?);
-    Ok(first && second)
-}
-
-// Fills the interners, of which one has room for exactly its 1000 texts of 5 bytes. Fails unless both have
-// their texts and limits: interning them again adds none.
-fn fill_both<R: AllocGlobal + Threads + Wait + Sync + Abort>(
-    rt: &R,
-    one: &Shared,
-    other: &Shared,
-) -> Result<(), Fail> {
-    static ONE: [Step; 3] = [Counts(1000), Uses(5000), IsLimited(5000)];
-    static OTHER: [Step; 2] = [Counts(1000), IsLimited(usize::MAX)];
-    is_so(rt, four_intern(rt, one, other)?, "the texts");
-    is_so(rt, interns_in_turn(rt, one, other, ("a", "b"))?, "again");
-    runs_in(rt, one, &ONE, PLAIN)?;
-    runs_in(rt, other, &OTHER, PLAIN)
-}
-
+// Two times two threads fill the interners, of which one has room for exactly its 1000 texts of 5 bytes. Interning the
+// texts again adds none.
 #[test]
 fn two_interners(rt: HostRuntime) -> Result<(), Fail> {
-    let one = limited(rt.alloc(), 5000, 5000)?;
-    let other = made(rt.alloc())?;
-    fill_both(&rt, &one, &other)
+    static ONE: [Step; 3] = [Counts(1000), Uses(5000), IsLimited(5000)];
+    static OTHER: [Step; 2] = [Counts(1000), IsLimited(usize::MAX)];
+    let (one, other): (Shared, Shared) = (limited(rt.alloc(), 5000, 5000)?, made(rt.alloc())?);
+    let (first, second) = join(
+        &rt,
+        || both_intern(&rt, &one, &other),
+        || both_intern(&rt, &one, &other),
+    );
+    is_so(&rt, first? && second?, "the texts");
+    let holds = interns_in_turn(&rt, (&one, "a"), (&other, "b"))?;
+    is_so(&rt, holds, "again");
+    runs_in(&rt, &one, &ONE, PLAIN)?;
+    runs_in(&rt, &other, &OTHER, PLAIN)
 }
 
 // Passes that keep hints.

@@ -10,13 +10,11 @@ use lasso_parts::keys::{Key, LargeSpur, MicroSpur, MiniSpur, Spur};
 use lasso_parts::util::FixedState;
 use lasso_shared::threaded::ThreadedRodeo;
 use std::hash::BuildHasher;
-use std::process::Abort;
-use std::sync::Wait;
 use std::test::*;
 use test_common::hashers::SameState;
 use test_common::keys::{WithoutTwo, WithoutZero};
-use test_steps::cases::paired;
-use test_steps::makers::{Maker, make};
+use test_steps::Host;
+use test_steps::cases::{Maker, make, paired};
 use test_steps::steps::{COPYING, Call, FULL, KEEPING, NO_KEY, Step, WAYS, Way};
 use test_steps::texts::List::Texts;
 
@@ -136,8 +134,8 @@ static READ: [Look; 3] = [
 ];
 
 // Each call that copies the text has to be refused, and then one that keeps it to take it.
-fn refuses<K: Key, S: BuildHasher + Default + Drop, R: AllocGlobal + Wait + Abort>(
-    rt: &R,
+fn refuses<K: Key, S: BuildHasher + Default + Drop>(
+    rt: &impl Host,
     keeping: Way,
     pair: (&'static str, &'static str),
 ) -> Result<(), Fail> {
@@ -150,60 +148,55 @@ fn refuses<K: Key, S: BuildHasher + Default + Drop, R: AllocGlobal + Wait + Abor
 
 // Each call has to take the text, copies have to be refused by the limit, and fillings and JSON to give interners of
 // the text alone.
-fn takes<K: Key, S: BuildHasher + Default + Drop, R: AllocGlobal + Wait + Abort>(
-    rt: &R,
+fn takes<K: Key, S: BuildHasher + Default + Drop>(
+    rt: &impl Host,
     pair: (&'static str, &'static str),
 ) -> Result<(), Fail> {
     let (roomy, list) = (Origin::Made(Maker::Sized(50, 300, 777)), Texts(&["@"]));
     for way in WAYS.iter() {
-        shows_as::<K, S, R>(rt, roomy, TAKEN.as_slice(), paired(*way, pair))?;
+        shows_as::<K, S>(rt, roomy, TAKEN.as_slice(), paired(*way, pair))?;
         let (made, frozen) = (MADE_BY.as_slice(), (list, "absent"));
-        freezes_as::<K, S, R>(rt, roomy, made, frozen, paired(*way, pair))?;
+        freezes_as::<K, S>(rt, roomy, made, frozen, paired(*way, pair))?;
     }
     for way in KEEPING.iter() {
-        refuses::<K, S, R>(rt, *way, pair)?;
+        refuses::<K, S>(rt, *way, pair)?;
     }
     let case = paired(Way::TryCopied, pair);
-    shows_as::<K, S, R>(rt, Origin::Items(Texts(&["@", "@"])), MADE.as_slice(), case)?;
-    shows_as::<K, S, R>(rt, Origin::Object(list), READ.as_slice(), case)?;
-    shows_as::<K, S, R>(rt, Origin::Array(list), READ.as_slice(), case)
+    shows_as::<K, S>(rt, Origin::Items(Texts(&["@", "@"])), MADE.as_slice(), case)?;
+    shows_as::<K, S>(rt, Origin::Object(list), READ.as_slice(), case)?;
+    shows_as::<K, S>(rt, Origin::Array(list), READ.as_slice(), case)
 }
 
 // Takes each pair of texts in each way, with two hashers.
-fn takes_each_text<K: Key, R: AllocGlobal + Wait + Abort>(rt: &R) -> Result<(), Fail> {
+fn takes_each_text<K: Key>(rt: &impl Host) -> Result<(), Fail> {
     for pair in TEXTS.iter() {
-        takes::<K, FixedState, R>(rt, *pair)?;
-        takes::<K, SameState, R>(rt, *pair)?;
+        takes::<K, FixedState>(rt, *pair)?;
+        takes::<K, SameState>(rt, *pair)?;
     }
     Ok(())
 }
 
 #[test]
 fn keys_of_32_bits_take_each_text(rt: HostRuntime) -> Result<(), Fail> {
-    takes_each_text::<Spur, HostRuntime>(&rt)
+    takes_each_text::<Spur>(&rt)
 }
 
 #[test]
 fn keys_of_64_bits_take_each_text(rt: HostRuntime) -> Result<(), Fail> {
-    takes_each_text::<LargeSpur, HostRuntime>(&rt)
+    takes_each_text::<LargeSpur>(&rt)
 }
 
 #[test]
 fn keys_of_16_bits_take_each_text(rt: HostRuntime) -> Result<(), Fail> {
-    takes_each_text::<MiniSpur, HostRuntime>(&rt)
+    takes_each_text::<MiniSpur>(&rt)
 }
 
 #[test]
 fn keys_of_8_bits_take_each_text(rt: HostRuntime) -> Result<(), Fail> {
-    takes_each_text::<MicroSpur, HostRuntime>(&rt)
+    takes_each_text::<MicroSpur>(&rt)
 }
 
 // Key types that lack one number but have the next.
-
-// Whether the key type has this number.
-fn has_key<K: Key>(number: usize) -> bool {
-    K::try_from_usize(number).is_some()
-}
 
 #[test]
 fn no_text_passes_over_a_number_without_a_key(rt: HostRuntime) -> Result<(), Fail> {
@@ -218,8 +211,9 @@ fn no_text_passes_over_a_number_without_a_key(rt: HostRuntime) -> Result<(), Fai
         Counts(2),
         Uses(4),
     ];
-    is_so(&rt, has_key::<WithoutTwo>(3), "the next number");
-    runs_each::<WithoutTwo, _>(&rt, Maker::Full(4), &STEPS, &[1], &COPYING)
+    let holds = WithoutTwo::try_from_usize(3).is_some();
+    is_so(&rt, holds, "the next number");
+    runs_each::<WithoutTwo>(&rt, Maker::Full(4), &STEPS, &[1], &COPYING)
 }
 
 // The key type lacks number 0. Each of the first two calls takes two of the four bytes, though the text has no key.
@@ -236,5 +230,5 @@ fn no_text_has_a_key(rt: HostRuntime) -> Result<(), Fail> {
         Uses(4),
         Counts(0),
     ];
-    runs_each::<WithoutZero, _>(&rt, Maker::Full(4), &STEPS, &[1], &COPYING)
+    runs_each::<WithoutZero>(&rt, Maker::Full(4), &STEPS, &[1], &COPYING)
 }

@@ -8,17 +8,14 @@ use lasso_parts::keys::{Key, MicroSpur, Spur};
 use lasso_parts::util::{Capacity, FixedState, LassoErrorKind, LassoResult, MemoryLimits};
 use lasso_shared::threaded::ThreadedRodeo;
 use std::alloc::Global;
-use std::process::Abort;
-use std::slice::Iter;
-use std::sync::Wait;
 use std::test::*;
 use test_common::keys::BelowTwo;
 use test_common::refusing::Refusing;
 use test_common::texts::{is_next, numbered};
-use test_steps::calls::{Shared, len, limit, made, usage};
-use test_steps::cases::PLAIN;
-use test_steps::makers::{Maker, of_items, refuses_items};
-use test_steps::steps::{Step, Way, extends, takes_in_turn};
+use test_steps::Host;
+use test_steps::calls::{Caller, Shared, answered, limited, made};
+use test_steps::cases::{Maker, PLAIN, of_items, refuses_items};
+use test_steps::steps::{Step, Way};
 use test_steps::texts::List::{Numbers, Texts};
 use test_steps::texts::numeral_of;
 
@@ -73,14 +70,14 @@ fn a_refused_item_ends_the_filling(rt: HostRuntime) -> Result<(), Fail> {
 fn items_fill_a_new_interner(rt: HostRuntime) -> Result<(), Fail> {
     static STEPS: [Step; 1] = [Counts(2)];
     let maker = Maker::Items(Texts(&["p", "q", "p"]));
-    runs_as::<BelowTwo, FixedState, _>(&rt, maker, &STEPS, PLAIN)
+    runs_as::<BelowTwo, FixedState>(&rt, maker, &STEPS, PLAIN)
 }
 
 #[test]
 fn a_refused_item_leaves_no_new_interner(rt: HostRuntime) -> Result<(), Fail> {
     static ITEMS: [&str; 4] = ["p", "q", "r", "p"];
     let no_key = LassoErrorKind::KeySpaceExhaustion;
-    let refused = refuses_items::<BelowTwo, FixedState, _>(&rt, rt.alloc(), &ITEMS, no_key)?;
+    let refused = refuses_items::<BelowTwo, FixedState>(&rt, &ITEMS, no_key)?;
     is_so(&rt, refused, "the refusal");
     Ok(())
 }
@@ -104,63 +101,36 @@ fn two_threads_fill_one_interner(rt: HostRuntime) -> Result<(), Fail> {
 // Numbers of texts, and of the bytes of each. Together they have 4096 bytes, as the first bucket has.
 static FULL: [(usize, usize); 5] = [(512, 8), (64, 64), (16, 256), (2, 2048), (1, 4096)];
 
-// The first `count` numbers of five digits, with `-` after them, of `length` bytes each.
-fn long_items(alloc: Global, count: usize, length: usize) -> Result<Vec<&'static str>, Fail> {
-    let mut items = Vec::new(alloc);
-    for number in 0..count {
-        items.push(numeral_of(alloc, number, length)?)?;
-    }
-    Ok(items)
-}
-
 // Whether the interner has this many texts, one bucket of 4096 bytes and no limit.
-fn has_one_bucket<R: Wait>(rt: &R, shared: &Shared, count: usize) -> bool {
-    len(shared) == count && usage(rt, shared) == 4096 && limit(rt, shared) == usize::MAX
+fn has_one_bucket(rt: &impl Host, shared: &Shared, count: usize) -> bool {
+    sums(rt, shared).0 == 4096 && sums(rt, shared).1 == usize::MAX && shared.len() == count
 }
 
-// Interns the first items again, and then all, one by one. Returns whether they are in one bucket, and whether
-// one more byte takes a bucket of 8192 bytes.
-fn fills_up<R: Wait>(
-    rt: &R,
-    shared: &Shared,
-    first: &[&'static str],
-    items: &[&'static str],
-) -> Result<bool, Fail> {
-    let again = extends(rt, shared, first)?.is_none();
-    let each = takes_in_turn(rt, shared, (Way::Item, Way::Item), items)?;
-    let full = has_one_bucket(rt, shared, items.len());
-    let more = extends(rt, shared, &["z"])?.is_none();
-    Ok(again && each && full && more && usage(rt, shared) == 12_288)
-}
-
-// Makes an interner of all texts but the last. Returns whether it has one bucket and no limit, whether the
-// last text then fits in that bucket, and whether one more byte takes a bucket of 8192 bytes.
-fn fill_the_first_bucket<R: AllocGlobal + Wait>(
-    rt: &R,
-    count: usize,
-    length: usize,
-) -> Result<bool, Fail> {
-    let items = long_items(rt.alloc(), count, length)?;
-    let first = items.get(..count.saturating_sub(1)).ok_or("no items")?;
-    let shared = of_items::<Spur, FixedState, R>(rt, rt.alloc(), first)?;
-    let made = has_one_bucket(rt, &shared, first.len());
-    Ok(fills_up(rt, &shared, first, &items)? && made)
-}
-
+// An interner is made of all texts but the last. It has one bucket and no limit, also after its texts are interned again
+// and then all, one by one: the last text fits in that bucket, and one more byte takes a bucket of 8192 bytes.
 #[test]
 fn a_new_interner_takes_the_bytes_of_its_items_alone(rt: HostRuntime) -> Result<(), Fail> {
     for (count, length) in FULL.iter() {
-        is_so_at(&rt, fill_the_first_bucket(&rt, *count, *length)?, *length);
+        let mut items = Vec::new(rt.alloc());
+        for number in 0..*count {
+            items.push(numeral_of(rt.alloc(), number, *length)?)?;
+        }
+        let first = items.get(..count.saturating_sub(1)).ok_or("no items")?;
+        let shared: Shared = of_items(&rt, first)?;
+        let caller = Caller::new(&rt, &shared);
+        is_so_at(&rt, has_one_bucket(&rt, &shared, first.len()), *length);
+        is_so_at(&rt, caller.extends(first)?.is_none(), *length);
+        let each = caller.takes_in_turn((Way::Item, Way::Item), &items)?;
+        is_so_at(&rt, each, *length);
+        is_so_at(&rt, has_one_bucket(&rt, &shared, *count), *length);
+        is_so_at(&rt, caller.extends(&["z"])?.is_none(), *length);
+        is_so_at(&rt, caller.usage() == 12_288, *length);
     }
     Ok(())
 }
 
 // Fills an interner from ten items that own memory, by the call of this number. Returns how many texts it has.
-fn of_owned<R: AllocGlobal + Wait>(
-    rt: &R,
-    memory: &Refusing<Global>,
-    call: usize,
-) -> Result<usize, Fail> {
+fn of_owned(rt: &impl Host, memory: &Refusing<Global>, call: usize) -> Result<usize, Fail> {
     let items = numbered(memory, 10)?;
     let shared: Shared = ThreadedRodeo::new(rt.alloc())?;
     if call == 0 {
@@ -195,87 +165,53 @@ const ITEMS: usize = 5_005;
 // Which item the limit refuses, counted from 1.
 const REFUSED: [usize; 3] = [1, 40, 5_000];
 
-// An interner whose only bucket has this number of bytes.
-fn with_bytes(alloc: Global, bytes: usize) -> LassoResult<Shared> {
-    let (room, limits) = (Capacity::for_bytes(bytes.max(1)), MemoryLimits::new(bytes));
-    ThreadedRodeo::with_capacity_memory_limits_and_hasher(alloc, room, limits, FixedState::new())
-}
-
-fn fills<R: Wait>(rt: &R, shared: &Shared, items: &mut Iter<'_, String>) -> LassoResult<()> {
-    shared.extend(rt, items)
-}
-
-fn fills_as<R: Wait>(rt: &R, shared: &Shared, items: &mut Iter<'_, String>) -> LassoResult<()> {
-    let mut pass = shared.pass();
-    shared.extend_as(rt, &mut pass, items)
-}
-
-fn is_refused_by_the_limit(outcome: LassoResult<()>) -> bool {
-    match outcome {
-        Ok(()) => false,
-        Err(refusal) => refusal.kind() == LassoErrorKind::MemoryLimitReached,
+// Extends an interner with room for the items before the refused one by the call, with or without a pass. It has just
+// these then, and the items go on after the refused one.
+fn stops_at_each(rt: &impl Host, has_pass: bool) -> Result<(), Fail> {
+    let texts = numbered(rt.alloc(), ITEMS)?;
+    for refused in REFUSED {
+        let before = refused.saturating_sub(1);
+        let bytes = before.saturating_mul(5);
+        let shared: Shared = limited(rt.alloc(), bytes.max(1), bytes)?;
+        let mut items = texts.iter();
+        let outcome = if has_pass {
+            shared.extend_as(rt, &mut shared.pass(), &mut items)
+        } else {
+            shared.extend(rt, items.by_ref())
+        };
+        let is_full = answered(outcome) == Err(LassoErrorKind::MemoryLimitReached);
+        is_so_at(rt, is_full && shared.len() == before, refused);
+        is_so_at(rt, is_next(&mut items, &texts, refused), refused);
     }
-}
-
-// Whether an interner with room for the items before the refused one has just these, and the items go on after it.
-fn stops_at<R: AllocGlobal + Wait>(
-    rt: &R,
-    texts: &[String],
-    refused: usize,
-    has_pass: bool,
-) -> LassoResult<bool> {
-    let before = refused.saturating_sub(1);
-    let shared = with_bytes(rt.alloc(), before.saturating_mul(5))?;
-    let mut items = texts.iter();
-    let outcome = if has_pass {
-        fills_as(rt, &shared, &mut items)
-    } else {
-        fills(rt, &shared, &mut items)
-    };
-    Ok(
-        is_refused_by_the_limit(outcome)
-            && shared.len() == before
-            && is_next(&mut items, texts, refused),
-    )
+    Ok(())
 }
 
 #[test]
 fn extend_leaves_lent_items_after_the_refused_one(rt: HostRuntime) -> Result<(), Fail> {
-    let texts = numbered(rt.alloc(), ITEMS)?;
-    for refused in REFUSED {
-        let stops = stops_at(&rt, &texts, refused, false)?;
-        is_so_at(&rt, stops, refused);
-    }
-    Ok(())
+    stops_at_each(&rt, false)
 }
 
 #[test]
 fn extend_as_leaves_its_items_after_the_refused_one(rt: HostRuntime) -> Result<(), Fail> {
-    let texts = numbered(rt.alloc(), ITEMS)?;
-    for refused in REFUSED {
-        let stops = stops_at(&rt, &texts, refused, true)?;
-        is_so_at(&rt, stops, refused);
-    }
-    Ok(())
+    stops_at_each(&rt, true)
 }
 
-// Whether an interner with two keys is not made of the items, for lack of a third.
-fn lacks_a_key<R: Wait>(rt: &R, alloc: Global, items: &mut Iter<'_, String>) -> bool {
-    let made: LassoResult<ThreadedRodeo<BelowTwo, FixedState>> = ThreadedRodeo::from_iter(
-        alloc, rt, items,
-    );
-    match made {
-        Ok(_made) => false,
-        Err(refusal) => refusal.kind() == LassoErrorKind::KeySpaceExhaustion,
-    }
-}
-
+// There are two keys, so the third item is refused.
 #[test]
 fn from_iter_leaves_lent_items_after_the_refused_one(rt: HostRuntime) -> Result<(), Fail> {
     let texts = numbered(rt.alloc(), ITEMS)?;
     let mut items = texts.iter();
-    let refused = lacks_a_key(&rt, rt.alloc(), &mut items);
-    is_so(&rt, refused, "the third item");
+    let made: LassoResult<ThreadedRodeo<BelowTwo, FixedState>> = ThreadedRodeo::from_iter(
+        rt.alloc(),
+        &rt,
+        items.by_ref(),
+    );
+    let refusal = match made {
+        Ok(_made) => None,
+        Err(refusal) => Some(refusal.kind()),
+    };
+    let no_key = Some(LassoErrorKind::KeySpaceExhaustion);
+    is_so(&rt, refusal == no_key, "the third item");
     is_so(&rt, is_next(&mut items, &texts, 3), "the fourth");
     Ok(())
 }
@@ -318,15 +254,19 @@ fn made_by<K: Key>(
 }
 
 // How many bytes all buckets take, the limit, and the number of cells, which is the capacity.
-fn sums<K: Key, R: Wait>(rt: &R, shared: &ThreadedRodeo<K, FixedState>) -> (usize, usize, usize) {
-    (usage(rt, shared), limit(rt, shared), shared.capacity())
+fn sums<K: Key>(rt: &impl Host, shared: &ThreadedRodeo<K, FixedState>) -> (usize, usize, usize) {
+    (
+        shared.current_memory_usage(rt),
+        shared.max_memory_usage(rt),
+        shared.capacity(),
+    )
 }
 
 // What a call makes of a capacity and a limit: usage, limit and number of cells.
 type Row = (By, Capacity, usize, (usize, usize, usize));
 
 // Fails unless the call makes that.
-fn makes<K: Key, R: AllocGlobal + Wait + Abort>(rt: &R, row: Row) -> LassoResult<()> {
+fn makes<K: Key>(rt: &impl Host, row: Row) -> LassoResult<()> {
     let (by, room, limit, wanted) = row;
     let shared: ThreadedRodeo<K, FixedState> = made_by(
         rt.alloc(),
@@ -344,7 +284,7 @@ fn makers_open_with_defaults(rt: HostRuntime) -> Result<(), Fail> {
     let wanted = (4096, usize::MAX, 64);
     let shared = made(rt.alloc())?;
     is_so(&rt, sums(&rt, &shared) == wanted, "default");
-    makes::<MicroSpur, _>(&rt, (By::New, Capacity::minimal(), 0, wanted))?;
+    makes::<MicroSpur>(&rt, (By::New, Capacity::minimal(), 0, wanted))?;
     Ok(())
 }
 
@@ -352,11 +292,11 @@ fn makers_open_with_defaults(rt: HostRuntime) -> Result<(), Fail> {
 fn makers_open_with_capacity_and_limit(rt: HostRuntime) -> Result<(), Fail> {
     let room = Capacity::new(1000, 65536);
     let sums = (65536, usize::MAX, 1024);
-    makes::<Spur, _>(&rt, (By::Capacity, room, 10000, sums))?;
-    makes::<Spur, _>(&rt, (By::Limits, room, 10000, (4096, 10000, 64)))?;
+    makes::<Spur>(&rt, (By::Capacity, room, 10000, sums))?;
+    makes::<Spur>(&rt, (By::Limits, room, 10000, (4096, 10000, 64)))?;
     // chunks of 32, 32 and 64 cells
     let room = Capacity::new(70, 4);
-    makes::<Spur, _>(&rt, (By::CapacityAndLimits, room, 12, (4, 12, 128)))?;
+    makes::<Spur>(&rt, (By::CapacityAndLimits, room, 12, (4, 12, 128)))?;
     Ok(())
 }
 
@@ -382,15 +322,11 @@ static ROOMS: [(usize, usize, usize); 16] = [
 ];
 
 // Fails unless interners with room for these texts and bytes have it, without a limit and with this one.
-fn have_room<R: AllocGlobal + Wait + Abort>(
-    rt: &R,
-    room: (usize, usize, usize),
-    limit: usize,
-) -> LassoResult<()> {
+fn have_room(rt: &impl Host, room: (usize, usize, usize), limit: usize) -> LassoResult<()> {
     let (texts, bytes, cells) = room;
     let room = Capacity::new(texts, bytes.max(1));
-    makes::<Spur, R>(rt, (By::Capacity, room, limit, (bytes, usize::MAX, cells)))?;
-    makes::<Spur, R>(
+    makes::<Spur>(rt, (By::Capacity, room, limit, (bytes, usize::MAX, cells)))?;
+    makes::<Spur>(
         rt,
         (By::CapacityAndLimits, room, limit, (bytes, limit, cells)),
     )
@@ -409,57 +345,42 @@ fn makers_open_with_each_size(rt: HostRuntime) -> Result<(), Fail> {
 #[test]
 fn makers_take_a_hasher(rt: HostRuntime) -> Result<(), Fail> {
     let (room, limits) = (Capacity::for_bytes(7), 5);
-    makes::<Spur, _>(&rt, (By::Hasher, room, limits, (4096, usize::MAX, 64)))?;
-    makes::<Spur, _>(
+    makes::<Spur>(&rt, (By::Hasher, room, limits, (4096, usize::MAX, 64)))?;
+    makes::<Spur>(
         &rt,
         (By::CapacityAndHasher, room, limits, (7, usize::MAX, 64)),
     )?;
     // the first bucket is larger than the limit, and is made anyway
     let room = Capacity::new(0, 10);
-    makes::<Spur, _>(&rt, (By::All, room, limits, (10, 5, 0)))?;
+    makes::<Spur>(&rt, (By::All, room, limits, (10, 5, 0)))?;
     Ok(())
-}
-
-// An interner with this capacity.
-fn with(alloc: Global, room: Capacity) -> LassoResult<Shared> {
-    ThreadedRodeo::with_capacity(alloc, room)
 }
 
 #[test]
 fn capacity_is_room_for_texts(rt: HostRuntime) -> Result<(), Fail> {
     static ROOM_FOR_70: [Step; 3] = [Keeps(Numbers(0, 100)), Uses(4096), Holds(128)];
     static LEAST_ROOM: [Step; 3] = [Keeps(Numbers(0, 1)), Uses(1), Holds(32)];
-    let shared = with(rt.alloc(), Capacity::for_strings(70))?;
+    let shared: Shared = ThreadedRodeo::with_capacity(rt.alloc(), Capacity::for_strings(70))?;
     runs_in(&rt, &shared, &ROOM_FOR_70, PLAIN)?;
-    let shared = with(rt.alloc(), Capacity::minimal())?;
+    let shared: Shared = ThreadedRodeo::with_capacity(rt.alloc(), Capacity::minimal())?;
     runs_in(&rt, &shared, &LEAST_ROOM, PLAIN)
-}
-
-fn is_refused(alloc: Global, capacity: Capacity) -> bool {
-    match with(alloc, capacity) {
-        Ok(_made) => false,
-        Err(error) => error.kind().is_failed_alloc(),
-    }
 }
 
 #[test]
 fn sizes_that_no_memory_has(rt: HostRuntime) {
-    let (bytes, texts) = (
+    for room in [
         Capacity::for_bytes(usize::MAX),
         Capacity::for_strings(usize::MAX),
-    );
-    is_so(&rt, is_refused(rt.alloc(), bytes), "bytes");
-    is_so(&rt, is_refused(rt.alloc(), texts), "texts");
+    ] {
+        let made: LassoResult<Shared> = ThreadedRodeo::with_capacity(rt.alloc(), room);
+        let holds = made.is_err_and(|error| error.kind().is_failed_alloc());
+        is_so(&rt, holds, "no memory");
+    }
 }
 
 // An interner that threads share, made from static keywords.
 
 const KEYWORDS: [&str; 3] = ["if", "else", "a keyword of more bytes than an entry has"];
-
-// An interner made from the keywords.
-fn opened(alloc: Global) -> LassoResult<Shared> {
-    ThreadedRodeo::from_static(alloc, &KEYWORDS)
-}
 
 #[test]
 fn keywords_have_the_lowest_keys(rt: HostRuntime) -> Result<(), Fail> {
@@ -475,6 +396,6 @@ fn keywords_have_the_lowest_keys(rt: HostRuntime) -> Result<(), Fail> {
         IsLimited(usize::MAX),
         Interns(Way::TryCopied, "width", Ok(3)),
     ];
-    let shared = opened(rt.alloc())?;
+    let shared: Shared = ThreadedRodeo::from_static(rt.alloc(), &KEYWORDS)?;
     runs_in(&rt, &shared, &STEPS, PLAIN)
 }

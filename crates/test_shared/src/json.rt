@@ -1,7 +1,7 @@
 //! Interners that threads share, read from JSON and written as JSON. The lines that are made for `tool_replay` have
 //! values of each kind in each role, also large ones, and those that are wrong.
 use crate::checks::{
-    Look, Origin, first_wrong_look, freezes_as, is_so, make_from, shows_as, shows_rows, value_of,
+    Look, Origin, freezes_as, is_so, look_at, make_from, shows_as, shows_rows, value_of,
 };
 use Look::{Compares, Does, Json, Shows};
 use Step::{ByOne, ByOther, Copies, Counts, Finds, Interns, IsLimited, Uses};
@@ -9,62 +9,37 @@ use lasso_parts::json::JsonError;
 use lasso_parts::keys::{Key, Spur};
 use lasso_parts::util::{FixedState, LassoResult};
 use lasso_shared::threaded::ThreadedRodeo;
-use serde_json::Value;
-use std::alloc::Global;
 use std::hash::BuildHasher;
-use std::process::Abort;
-use std::sync::Wait;
 use std::test::*;
-use std::thread::{Threads, join};
+use std::thread::join;
 use test_common::hashers::{FirstState, SameState};
 use test_common::keys::{WithoutTwo, WithoutZero};
+use test_steps::Host;
 use test_steps::cases::{HINTED, PLAIN};
 use test_steps::steps::{Call, Step, Way};
 use test_steps::texts::List::Texts;
 use test_steps::texts::{KeyNumbers, List};
 
-/// The error of reading a JSON value, if any.
-type Wrong = Option<JsonError>;
-
-// The error of reading the value, if any.
-fn fault<K: Key>(alloc: Global, value: &Value) -> Wrong {
-    match ThreadedRodeo::<K, FixedState>::deserialize(alloc, value) {
+// Reading the JSON text has to end by this error, if any.
+fn ends<K: Key>(rt: &impl Host, json: &str, wanted: Option<JsonError>) -> LassoResult<()> {
+    let value = value_of(rt.alloc(), json)?;
+    let fault = match ThreadedRodeo::<K, FixedState>::deserialize(rt.alloc(), &value) {
         Ok(_read) => None,
         Err(fault) => Some(fault),
-    }
-}
-
-// Whether the two are the same.
-fn is_wrong(found: Wrong, wanted: Wrong) -> bool {
-    found == wanted
-}
-
-// Whether reading the value ends so.
-fn is_fault<K: Key>(alloc: Global, value: &Value, wanted: Wrong) -> bool {
-    is_wrong(fault::<K>(alloc, value), wanted)
-}
-
-// Whether reading the JSON text ends so.
-fn is_wrong_with<K: Key>(alloc: Global, json: &str, wanted: Wrong) -> bool {
-    match value_of(alloc, json) {
-        Ok(value) => is_fault::<K>(alloc, &value, wanted),
-        Err(_) => false,
-    }
-}
-
-// Reading the JSON text has to end so.
-fn ends<K: Key, R: AllocGlobal + Abort>(rt: &R, json: &str, wanted: Wrong) {
-    is_so(rt, is_wrong_with::<K>(rt.alloc(), json, wanted), json);
+    };
+    is_so(rt, fault == wanted, json);
+    Ok(())
 }
 
 #[test]
-fn a_position_without_a_key(rt: HostRuntime) {
+fn a_position_without_a_key(rt: HostRuntime) -> Result<(), Fail> {
     let (none, one) = (Some(JsonError::TooMany(0)), Some(JsonError::TooMany(2)));
-    ends::<WithoutTwo, _>(&rt, r#"{"a":2,"b":1,"c":3}"#, one);
-    ends::<WithoutTwo, _>(&rt, r#"["a","b","c"]"#, one);
-    ends::<WithoutZero, _>(&rt, r#"{"pp":1}"#, none);
-    ends::<WithoutZero, _>(&rt, r#"["pp"]"#, none);
-    ends::<WithoutTwo, _>(&rt, r#"{"a":2,"b":1}"#, None);
+    ends::<WithoutTwo>(&rt, r#"{"a":2,"b":1,"c":3}"#, one)?;
+    ends::<WithoutTwo>(&rt, r#"["a","b","c"]"#, one)?;
+    ends::<WithoutZero>(&rt, r#"{"pp":1}"#, none)?;
+    ends::<WithoutZero>(&rt, r#"["pp"]"#, none)?;
+    ends::<WithoutTwo>(&rt, r#"{"a":2,"b":1}"#, None)?;
+    Ok(())
 }
 
 // The interner of two texts has a bucket of two bytes, which is full, so a new text takes one of four. It has to
@@ -109,7 +84,7 @@ fn what_one_thread_wrote(rt: HostRuntime) -> Result<(), Fail> {
         Origin::Written(Texts(&["x", "y"])),
         (Texts(&["x", "y"]), "z"),
     );
-    freezes_as::<Spur, FixedState, _>(&rt, origin, &LOOKS, frozen, PLAIN)
+    freezes_as::<Spur, FixedState>(&rt, origin, &LOOKS, frozen, PLAIN)
 }
 
 // Looks each text up and interns it, three times, by a pass with hints.
@@ -130,8 +105,8 @@ fn hints_of_an_interner_from_json(rt: HostRuntime) -> Result<(), Fail> {
         Origin::Json(r#"{"a":2,"b":1}"#),
         Origin::Json(r#"["b","a"]"#),
     );
-    shows_as::<Spur, FixedState, _>(&rt, object, &LOOKS, HINTED)?;
-    shows_as::<Spur, FixedState, _>(&rt, array, &LOOKS, HINTED)
+    shows_as::<Spur, FixedState>(&rt, object, &LOOKS, HINTED)?;
+    shows_as::<Spur, FixedState>(&rt, array, &LOOKS, HINTED)
 }
 
 // Makes the calls by passes without hints, and three times each by passes with hints.
@@ -151,11 +126,11 @@ fn batches_of_an_interner_from_json(rt: HostRuntime) -> Result<(), Fail> {
         Origin::Json(r#"{"a":2,"b":1}"#),
         Origin::Json(r#"["b","a"]"#),
     );
-    shows_as::<Spur, FixedState, _>(&rt, object, &LOOKS, PLAIN)?;
-    shows_as::<Spur, FixedState, _>(&rt, array, &LOOKS, HINTED)
+    shows_as::<Spur, FixedState>(&rt, object, &LOOKS, PLAIN)?;
+    shows_as::<Spur, FixedState>(&rt, array, &LOOKS, HINTED)
 }
 
-const TEXTS: List = Texts(&[
+const FORTY: [&str; 40] = [
     "a0",
     "p1",
     "Q2",
@@ -196,7 +171,9 @@ const TEXTS: List = Texts(&[
     "v37",
     "E38",
     "",
-]);
+];
+
+const TEXTS: List = Texts(&FORTY);
 
 // What each thread has to find: the texts at their positions, interned again there, and no other text.
 static FOUND: [Look; 3] = [
@@ -205,39 +182,33 @@ static FOUND: [Look; 3] = [
     Shows(TEXTS),
 ];
 
-// Whether two threads find exactly `TEXTS` in the interner.
-fn both_find<S: BuildHasher + Default + Send + Sync + Drop, R: AllocGlobal + Threads + Wait + Sync>(
-    rt: &R,
-    shared: &ThreadedRodeo<Spur, S>,
-) -> LassoResult<bool>
+// Two threads have to find exactly `TEXTS` in the interner.
+fn both_find<S: BuildHasher + Default + Send + Sync + Drop>(
+    rt: &impl Host,
+    origin: Origin,
+) -> Result<(), Fail>
 where
     S::Hasher: Send,
 {
+    let shared: ThreadedRodeo<Spur, S> = make_from(rt, origin, PLAIN)?;
     let (here, there) = join(
         rt,
-        || first_wrong_look(rt, shared, FOUND.as_slice(), PLAIN),
-        || first_wrong_look(rt, shared, FOUND.as_slice(), PLAIN),
+        || look_at(rt, &shared).first_wrong(FOUND.as_slice(), PLAIN),
+        || look_at(rt, &shared).first_wrong(FOUND.as_slice(), PLAIN),
     );
-    Ok((here?, there?) == (FOUND.len(), FOUND.len()))
+    let holds = here? == FOUND.len() && there? == FOUND.len();
+    is_so(rt, holds, "two threads");
+    Ok(())
 }
 
 // The texts of the value have to be found in several shards, in one, and where each text's first byte chooses its
 // shard.
-fn found_in_shards<R: Threads + Wait + Sync + AllocGlobal + Abort>(
-    rt: &R,
-    origin: Origin,
-) -> Result<(), Fail> {
-    let several: ThreadedRodeo<Spur, FixedState> = make_from(rt, origin, PLAIN)?;
-    is_so(rt, both_find(rt, &several)?, "several shards");
-    let one: ThreadedRodeo<Spur, SameState> = make_from(rt, origin, PLAIN)?;
-    is_so(rt, both_find(rt, &one)?, "one shard");
-    let first: ThreadedRodeo<Spur, FirstState> = make_from(rt, origin, PLAIN)?;
-    is_so(rt, both_find(rt, &first)?, "shards by first bytes");
-    Ok(())
-}
-
 #[test]
 fn each_text_is_found_by_each_thread(rt: HostRuntime) -> Result<(), Fail> {
-    found_in_shards(&rt, Origin::Written(TEXTS))?;
-    found_in_shards(&rt, Origin::WrittenAgain(TEXTS))
+    for origin in [Origin::Written(TEXTS), Origin::WrittenAgain(TEXTS)] {
+        both_find::<FixedState>(&rt, origin)?;
+        both_find::<SameState>(&rt, origin)?;
+        both_find::<FirstState>(&rt, origin)?;
+    }
+    Ok(())
 }

@@ -7,13 +7,11 @@ use Step::{
 };
 use lasso_parts::keys::{Key, MicroSpur, Spur};
 use lasso_shared::threaded::ThreadedRodeo;
-use std::process::Abort;
-use std::sync::Wait;
 use std::test::*;
 use test_common::hashers::{LowState, SameState};
 use test_common::keys::BelowTwo;
-use test_steps::cases::{PLAIN, SIZE};
-use test_steps::makers::{Maker, make};
+use test_steps::Host;
+use test_steps::cases::{Maker, PLAIN, SIZE, make};
 use test_steps::steps::{Call, FULL, KEEPING, NO_KEY, Step, WAYS, Way};
 use test_steps::texts::LENGTHS;
 use test_steps::texts::List::Numbers;
@@ -107,7 +105,7 @@ static OVER_ONE_BYTE: [Step; 38] = [
 
 #[test]
 fn the_empty_text_is_found(rt: HostRuntime) -> Result<(), Fail> {
-    runs_each::<Spur, _>(&rt, Maker::Full(1), &OVER_ONE_BYTE, &[1], &WAYS)
+    runs_each::<Spur>(&rt, Maker::Full(1), &OVER_ONE_BYTE, &[1], &WAYS)
 }
 
 // The only bucket has the bytes of the text, and they are the limit.
@@ -143,7 +141,7 @@ fn no_reading_takes_a_byte_of_a_text(rt: HostRuntime) -> Result<(), Fail> {
         Finds("z", None),
         Finds("a-", Some(0)),
     ];
-    runs_each::<Spur, _>(&rt, Maker::Full(SIZE), &STEPS, &LENGTHS, &COPY)
+    runs_each::<Spur>(&rt, Maker::Full(SIZE), &STEPS, &LENGTHS, &COPY)
 }
 
 // The only bucket has the bytes of the first text. The second is refused as a copy, and taken as a static text.
@@ -169,7 +167,7 @@ fn a_refused_text_leaves_nothing(rt: HostRuntime) -> Result<(), Fail> {
         Uses(SIZE),
         IsLimited(SIZE),
     ];
-    runs_each::<Spur, _>(&rt, Maker::Full(SIZE), &STEPS, &LENGTHS, &KEEPING)
+    runs_each::<Spur>(&rt, Maker::Full(SIZE), &STEPS, &LENGTHS, &KEEPING)
 }
 
 // The key type has two keys.
@@ -188,7 +186,7 @@ fn each_call_tells_that_no_key_is_left(rt: HostRuntime) -> Result<(), Fail> {
         Counts(2),
         IsLimited(usize::MAX),
     ];
-    runs_each::<BelowTwo, _>(&rt, Maker::Default, &STEPS, &LENGTHS, &WAYS)
+    runs_each::<BelowTwo>(&rt, Maker::Default, &STEPS, &LENGTHS, &WAYS)
 }
 
 // `allocated_bytes` of an interner that threads share, after each of many texts. It always uses the global
@@ -243,8 +241,8 @@ fn bytes_of(growth: Growth, slot: usize, bucket: usize) -> usize {
 }
 
 // Interns up to each number of texts, as copies or as static texts. Fails unless `allocated_bytes` is as the row says.
-fn grows<K: Key, R: AllocGlobal + Wait + Abort>(
-    rt: &R,
+fn grows<K: Key>(
+    rt: &impl Host,
     shared: &ThreadedRodeo<K, SameState>,
     is_copied: bool,
     rows: &[Growth],
@@ -330,5 +328,5 @@ fn bytes_of_buckets(rt: HostRuntime) -> Result<(), Fail> {
         Uses(30),
         Reads(1, Some("two")),
     ];
-    runs_as::<Spur, SameState, _>(&rt, ROOMLESS, &STEPS, PLAIN)
+    runs_as::<Spur, SameState>(&rt, ROOMLESS, &STEPS, PLAIN)
 }

@@ -1,21 +1,18 @@
 //! Setting and reading limits. Changes that a call may not hide under a pass of its own: a call that reads takes no bytes,
 //! one that interns takes only the bytes of its text, and one that raises the limit never lowers it on the way.
-use crate::checks::{is_so, runs, runs_each, runs_in_one};
+use crate::checks::{is_so, is_so_at, runs, runs_each, runs_in_one};
 use Step::{
     AllocatesOver, ByNew, ByOne, ByOther, Counts, EachCopies, Finds, Interns, IsLimited, Limits,
     Reads, Takes, Uses,
 };
 use lasso_parts::keys::Spur;
-use lasso_parts::util::{LassoErrorKind, MemoryLimits};
+use lasso_parts::util::LassoResult;
 use std::alloc::{AllocError, Global};
-use std::sync::Wait;
 use std::test::*;
-use std::thread::{Threads, join, yield_now};
-use test_steps::calls::{
-    Caller, DefaultCaller, Shared, len, limit, limited, made, set_limit, usage,
-};
-use test_steps::cases::SIZE;
-use test_steps::makers::Maker;
+use std::thread::join;
+use test_steps::Host;
+use test_steps::calls::{Caller, Shared, limited, made, refusal_of, until_free};
+use test_steps::cases::{Maker, SIZE};
 use test_steps::steps::{Call, FULL, Step, Way};
 use test_steps::texts::LENGTHS;
 
@@ -28,8 +25,8 @@ fn a_limit_is_what_was_set_last(rt: HostRuntime) -> Result<(), Fail> {
         ByOne(Call::Sums(0, 4)),
         // no limit refuses a static text
         ByOne(Call::Keeps("0123456789", Ok(0))),
-        ByOther(Call::Lifts),
-        ByOther(Call::Lifts),
+        ByOther(Call::Limits(usize::MAX)),
+        ByOther(Call::Limits(usize::MAX)),
         ByOther(Call::Reads(0, Some("0123456789"))),
         IsLimited(usize::MAX),
         Uses(4),
@@ -93,7 +90,7 @@ fn a_static_text_takes_no_bytes(rt: HostRuntime) -> Result<(), Fail> {
         Interns(Way::TryCopied, "z", FULL),
         ByOne(Call::Sums(2 * SIZE, 2 * SIZE)),
     ];
-    runs_each::<Spur, _>(&rt, Maker::Full(2 * SIZE), &STEPS, &LENGTHS, &COPY)
+    runs_each::<Spur>(&rt, Maker::Full(2 * SIZE), &STEPS, &LENGTHS, &COPY)
 }
 
 // The first bucket has one byte, and the limit leaves the bytes of one text for another. The copied text takes
@@ -124,47 +121,37 @@ fn no_static_text_sets_a_limit(rt: HostRuntime) -> Result<(), Fail> {
         ByOne(Call::Sums(SIZE + 1, SIZE + 1)),
     ];
     let maker = Maker::Sized(50, 1, SIZE + 1);
-    runs_each::<Spur, _>(&rt, maker, &STEPS, &LENGTHS, &COPY)?;
-    runs_each::<Spur, _>(&rt, maker, &ONE_BYTE, &[1], &COPY)?;
+    runs_each::<Spur>(&rt, maker, &STEPS, &LENGTHS, &COPY)?;
+    runs_each::<Spur>(&rt, maker, &ONE_BYTE, &[1], &COPY)?;
     let (_, longer) = LENGTHS.split_at(1);
-    runs_each::<Spur, _>(&rt, maker, &MORE, longer, &COPY)
+    runs_each::<Spur>(&rt, maker, &MORE, longer, &COPY)
 }
 
 // Sets the limits from 0 to 99 and then `last`. Returns the limit that it reads then.
-fn set_often<R: Wait>(rt: &R, shared: &Shared, last: usize) -> usize {
-    let mut caller = Caller::new(shared);
+fn set_often(rt: &impl Host, shared: &Shared, last: usize) -> usize {
+    let mut caller = Caller::new(rt, shared);
     for limit in 0..100usize {
-        caller.set_limits(rt, MemoryLimits::new(limit));
+        caller.set_limit(limit);
     }
-    caller.set_limits(rt, MemoryLimits::new(last));
-    caller.sums(rt).0
+    caller.set_limit(last);
+    caller.sums().0
 }
 
-// Whether a thread that set `own` last read its own limit, or one that the other thread set later, the last of
-// them being `other`.
-fn is_own_or_later(read: usize, own: usize, other: usize) -> bool {
-    read == own || read == other || read < 100
-}
-
-// Two threads set limits. Returns whether each reads a limit that was set, and one of them the last.
-fn both_set<R: Threads + Wait + Sync>(rt: &R, shared: &Shared) -> bool {
-    let (a, b) = join(
-        rt,
-        || set_often(rt, shared, 1000),
-        || set_often(rt, shared, 2000),
-    );
-    let last = limit(rt, shared);
-    is_own_or_later(a, 1000, 2000)
-        && is_own_or_later(b, 2000, 1000)
-        && (last == 1000 || last == 2000)
-        && (a == last || b == last)
-}
-
+// Each thread reads its own last limit, or one that the other thread set later, and one of them the last.
 #[test]
 fn two_threads_set_limits(rt: HostRuntime) -> Result<(), Fail> {
     let shared = made(rt.alloc())?;
-    is_so(&rt, both_set(&rt, &shared), "the limits");
-    is_so(&rt, usage(&rt, &shared) == 4096, "the usage");
+    let (a, b) = join(
+        &rt,
+        || set_often(&rt, &shared, 1000),
+        || set_often(&rt, &shared, 2000),
+    );
+    let last = shared.max_memory_usage(&rt);
+    is_so(&rt, a == 1000 || a == 2000 || a < 100, "one thread");
+    is_so(&rt, b == 1000 || b == 2000 || b < 100, "the other thread");
+    is_so(&rt, last == 1000 || last == 2000, "the last limit");
+    is_so(&rt, a == last || b == last, "who set it");
+    is_so(&rt, shared.current_memory_usage(&rt) == 4096, "the usage");
     Ok(())
 }
 
@@ -229,7 +216,7 @@ fn an_intern_takes_the_bytes_of_its_text_alone(rt: HostRuntime) -> Result<(), Fa
         ByOne(Call::Sums(4 * SIZE, 4 * SIZE)),
     ];
     static COPY: [Way; 1] = [Way::TryCopied];
-    runs_each::<Spur, _>(&rt, Maker::Full(4 * SIZE), &STEPS, &LENGTHS, &COPY)
+    runs_each::<Spur>(&rt, Maker::Full(4 * SIZE), &STEPS, &LENGTHS, &COPY)
 }
 
 // How many texts one thread interns while another raises the limit.
@@ -242,45 +229,23 @@ const NEEDED: usize = 321;
 // How many times the limit is raised at most, and how many times a thread looks whether the other has begun.
 const TURNS: usize = 1000;
 
-// Different texts of 8 bytes.
-fn eights(alloc: Global) -> Result<Vec<String>, AllocError> {
-    let mut texts = Vec::new(alloc);
-    for number in 0..EACH {
-        texts.push(format!(in alloc; "{number:08}")?)?;
-    }
-    Ok(texts)
-}
-
-// Waits until the limit is raised, but not for ever.
-fn await_raise<R: Wait>(rt: &R, caller: &mut DefaultCaller<'_>) {
+// Waits until the limit is raised, but not for ever, interns different texts of 8 bytes by a pass, and returns how many
+// the limit refused.
+fn refused_of(rt: &impl Host, shared: &Shared) -> LassoResult<usize> {
+    let mut caller = Caller::new(rt, shared);
     for _ in 0..TURNS {
-        if caller.sums(rt).0 > NEEDED {
+        if caller.sums().0 > NEEDED {
             break;
         }
     }
-}
-
-// Interns the text by the pass. Returns whether the limit refuses it. `None` if it is refused otherwise.
-fn is_refused<R: Wait>(rt: &R, caller: &mut DefaultCaller<'_>, text: &str) -> Option<bool> {
-    match caller.copied(rt, text) {
-        Ok(_key) => Some(false),
-        Err(error) if error.kind() == LassoErrorKind::MemoryLimitReached => Some(true),
-        Err(_) => None,
-    }
-}
-
-// Waits until the limit is raised, interns the texts, and returns how many the limit refused. `None` if one
-// failed otherwise.
-fn refused_of<R: Wait>(rt: &R, shared: &Shared, texts: &[String]) -> Option<usize> {
-    let mut caller = Caller::new(shared);
-    await_raise(rt, &mut caller);
     let mut refused: usize = 0;
-    for text in texts.iter() {
-        if is_refused(rt, &mut caller, text.as_str())? {
+    for number in 0..EACH {
+        let text = format!(in rt.alloc(); "{number:08}")?;
+        if refusal_of(caller.copied(text.as_str()))?.is_some() {
             refused = refused.saturating_add(1);
         }
     }
-    Some(refused)
+    Ok(refused)
 }
 
 // How a limit is set: without a pass, with one, or with one and without waiting.
@@ -291,85 +256,46 @@ enum Setting {
     Now,
 }
 
-// Sets the limit by the call.
-fn raise<R: Wait>(rt: &R, caller: &mut DefaultCaller<'_>, bytes: usize, setting: Setting) {
-    match setting {
-        Setting::Plain => set_limit(rt, caller.shared, bytes),
-        Setting::ByPass => caller.set_limits(rt, MemoryLimits::new(bytes)),
-        Setting::Now => raise_now(rt, caller, bytes),
-    }
-}
-
-// Sets the limit without waiting, again until nobody is in the way.
-fn raise_now<R: Wait>(rt: &R, caller: &mut DefaultCaller<'_>, bytes: usize) {
-    for _ in rt.forever() {
-        if caller.set_limits_now(MemoryLimits::new(bytes)) {
-            break;
-        }
-        yield_now();
-    }
-}
-
 // Raises the limit byte by byte until all texts are seen, but not for ever. Returns how many times.
-fn raised<R: Wait>(rt: &R, shared: &Shared, setting: Setting) -> usize {
-    let mut caller = Caller::new(shared);
+fn raised(rt: &impl Host, shared: &Shared, setting: Setting) -> usize {
+    let mut caller = Caller::new(rt, shared);
     for raised in 0..TURNS {
         if caller.seen() >= EACH as usize {
             return raised;
         }
         let bytes = NEEDED.saturating_add(raised);
-        raise(rt, &mut caller, bytes, setting);
+        match setting {
+            Setting::Plain => caller.set_limit_plainly(bytes),
+            Setting::ByPass => caller.set_limit(bytes),
+            Setting::Now => until_free(rt, || {
+                if caller.set_limit_now(bytes) {
+                    Some(())
+                } else {
+                    None
+                }
+            }),
+        }
     }
     TURNS
 }
 
-// Interns the texts in one thread, and raises the limit in another. Returns whether none is refused, and the
+// One thread interns texts, and another raises the limit, which begins at what all texts need. None is refused, and the
 // limit is what was set last.
-fn rises_beside<R: Threads + Wait + Sync>(
-    rt: &R,
-    shared: &Shared,
-    texts: &[String],
-    setting: Setting,
-) -> bool {
-    let (refused, raised) = join(
-        rt,
-        || refused_of(rt, shared, texts),
-        || raised(rt, shared, setting),
-    );
-    let last = NEEDED.saturating_add(raised.saturating_sub(1));
-    refused == Some(0) && limit(rt, shared) == last
-}
-
-// Whether no text is refused while the limit rises. It begins at what all texts need.
-fn refuses_nothing<R: AllocGlobal + Threads + Wait + Sync>(
-    rt: &R,
-    texts: &[String],
-    setting: Setting,
-) -> Result<bool, Fail> {
-    let shared: Shared = limited(rt.alloc(), 1, NEEDED)?;
-    let none = rises_beside(rt, &shared, texts, setting);
-    Ok(none && len(&shared) == EACH as usize && usage(rt, &shared) == NEEDED)
-}
-
 #[test]
 fn a_limit_that_rises_refuses_nothing(rt: HostRuntime) -> Result<(), Fail> {
-    let texts = eights(rt.alloc())?;
-    for _ in 0..10u32 {
-        is_so(
+    for turn in 0..30usize {
+        let setting = [Setting::Plain, Setting::ByPass, Setting::Now][turn % 3];
+        let shared: Shared = limited(rt.alloc(), 1, NEEDED)?;
+        let (refused, raised) = join(
             &rt,
-            refuses_nothing(&rt, &texts, Setting::Plain)?,
-            "without a pass",
+            || refused_of(&rt, &shared),
+            || raised(&rt, &shared, setting),
         );
-        is_so(
-            &rt,
-            refuses_nothing(&rt, &texts, Setting::ByPass)?,
-            "with a pass",
-        );
-        is_so(
-            &rt,
-            refuses_nothing(&rt, &texts, Setting::Now)?,
-            "without waiting",
-        );
+        is_so_at(&rt, refused? == 0, turn);
+        let last = NEEDED.saturating_add(raised.saturating_sub(1));
+        is_so_at(&rt, shared.max_memory_usage(&rt) == last, turn);
+        is_so_at(&rt, shared.len() == EACH as usize, turn);
+        is_so_at(&rt, shared.current_memory_usage(&rt) == NEEDED, turn);
     }
     Ok(())
 }

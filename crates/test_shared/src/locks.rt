@@ -1,13 +1,11 @@
 //! Locks and latches that one thread and two threads take.
-ghost use Rattle.std.specs.Prelude.{◌≡◌, ◌≤◌};
-
 use crate::checks::is_so;
 use lasso_lock::latch::{Fits, Latch};
 use lasso_lock::locks::{TaggedMutex, TaggedRwLock};
-use std::process::Abort;
 use std::sync::Wait;
 use std::test::*;
-use std::thread::{Threads, join, yield_now};
+use std::thread::{join, yield_now};
+use test_steps::Host;
 
 // A number up to the lock's tag.
 #[derive(Drop)]
@@ -24,9 +22,7 @@ impl Fits for Count {
 }
 
 // Counts up by one, that many times, and no further than 5000.
-fn count_up<R: Wait>(rt: &R, lock: &TaggedMutex<Count>, times: u32)
-    requires { lock.now ≡ 5000 }
-{
+fn count_up(rt: &impl Host, lock: &TaggedMutex<Count>, times: u32) {
     for _ in 0..times {
         let (guard, mut count) = lock.lock(rt);
         if count.number < 5000 {
@@ -37,9 +33,7 @@ fn count_up<R: Wait>(rt: &R, lock: &TaggedMutex<Count>, times: u32)
 }
 
 // The number in the lock.
-fn count_in<R: Wait>(rt: &R, lock: &TaggedMutex<Count>) -> u64
-    requires { lock.now ≡ 5000 }
-{
+fn count_in(rt: &impl Host, lock: &TaggedMutex<Count>) -> u64 {
     let (guard, count) = lock.lock(rt);
     let number = count.number;
     guard.unlock(rt, count);
@@ -53,17 +47,14 @@ fn a_taken_value_is_given_back(rt: HostRuntime) {
     is_so(&rt, count_in(&rt, &lock) == 10, "7 and 3 more");
 }
 
-// Has two threads count up by 2000 each.
-fn count_together<R: Threads + Wait + Sync>(rt: &R, lock: &TaggedMutex<Count>)
-    requires { lock.now ≡ 5000 }
-{
-    join(rt, || count_up(rt, lock, 2000), || count_up(rt, lock, 2000));
-}
-
 #[test]
 fn two_threads_take_turns(rt: HostRuntime) {
     let lock = TaggedMutex::new(Count { number: 0 }, &5000);
-    count_together(&rt, &lock);
+    join(
+        &rt,
+        || count_up(&rt, &lock, 2000),
+        || count_up(&rt, &lock, 2000),
+    );
     is_so(&rt, count_in(&rt, &lock) == 4000, "2000 by each");
 }
 
@@ -82,9 +73,13 @@ impl Fits for Pair {
     ghost fits = { λ apart pair. pair.second ≡ pair.first + apart };
 }
 
-fn change<R: Wait>(rt: &R, lock: &TaggedRwLock<Pair>, times: u32)
-    requires { lock.now ≡ 9 }
-{
+// A lock of this number and the one that is greater by 9.
+fn pair_of(first: u64) -> TaggedRwLock<Pair> {
+    let second = first + 9;
+    TaggedRwLock::new(Pair { first, second }, &9)
+}
+
+fn change(rt: &impl Host, lock: &TaggedRwLock<Pair>, times: u32) {
     for i in 0..times {
         let (guard, mut pair) = lock.write(rt);
         pair.first = u64::from(i) + 1;
@@ -94,7 +89,7 @@ fn change<R: Wait>(rt: &R, lock: &TaggedRwLock<Pair>, times: u32)
 }
 
 // Whether each reading found numbers that belong together, and never an earlier pair than the one before.
-fn reads_whole<R: Wait>(rt: &R, lock: &TaggedRwLock<Pair>, times: u32) -> bool {
+fn reads_whole(rt: &impl Host, lock: &TaggedRwLock<Pair>, times: u32) -> bool {
     let mut whole = true;
     let mut last = 0;
     for _ in 0..times {
@@ -109,78 +104,39 @@ fn reads_whole<R: Wait>(rt: &R, lock: &TaggedRwLock<Pair>, times: u32) -> bool {
     whole
 }
 
-// Whether two readers at once find these numbers.
-fn two_read<R: Wait>(rt: &R, lock: &TaggedRwLock<Pair>, first: u64, second: u64) -> bool {
-    let one = lock.read(rt);
-    let other = lock.read(rt);
-    let are_found = one.get().first == first && other.get().second == second;
-    one.unlock();
-    other.unlock();
-    are_found
-}
-
-// Whether a reader finds these numbers.
-fn holds<R: Wait>(rt: &R, lock: &TaggedRwLock<Pair>, first: u64, second: u64) -> bool {
-    let reading = lock.read(rt);
-    let pair = reading.get();
-    let are_found = pair.first == first && pair.second == second;
-    reading.unlock();
-    are_found
-}
-
 #[test]
 fn readers_share_a_value(rt: HostRuntime) {
-    let lock = TaggedRwLock::new(
-        Pair {
-            first: 1,
-            second: 10,
-        },
-        &9,
-    );
-    is_so(&rt, two_read(&rt, &lock, 1, 10), "two readers at once");
+    let lock = pair_of(1);
+    let (one, other) = (lock.read(&rt), lock.read(&rt));
+    let are_found = one.get().first == 1 && other.get().second == 10;
+    one.unlock();
+    other.unlock();
+    is_so(&rt, are_found, "two readers at once");
     change(&rt, &lock, 3);
-    is_so(
-        &rt,
-        reads_whole(&rt, &lock, 2),
-        "numbers that belong together",
-    );
-    is_so(&rt, holds(&rt, &lock, 3, 12), "the last change");
+    let holds = reads_whole(&rt, &lock, 2);
+    is_so(&rt, holds, "numbers that belong together");
+    let reading = lock.read(&rt);
+    let are_found = reading.get().first == 3 && reading.get().second == 12;
+    reading.unlock();
+    is_so(&rt, are_found, "the last change");
 }
 
-// Has a thread change the numbers while another reads them. Returns whether each reading was whole.
-fn read_beside_changes<R: Threads + Wait + Sync>(rt: &R, lock: &TaggedRwLock<Pair>) -> bool
-    requires { lock.now ≡ 9 }
-{
-    let (_, is_whole) = join(
-        rt,
-        || change(rt, lock, 2000),
-        || reads_whole(rt, lock, 2000),
-    );
-    is_whole
-}
-
+// A thread changes the numbers while another reads them.
 #[test]
 fn a_thread_reads_while_another_changes(rt: HostRuntime) {
-    let lock = TaggedRwLock::new(
-        Pair {
-            first: 0,
-            second: 9,
-        },
-        &9,
-    );
-    is_so(
+    let lock = pair_of(0);
+    let (_, is_whole) = join(
         &rt,
-        read_beside_changes(&rt, &lock),
-        "each reading is whole",
+        || change(&rt, &lock, 2000),
+        || reads_whole(&rt, &lock, 2000),
     );
+    is_so(&rt, is_whole, "each reading is whole");
 }
 
 // Calls that do not wait, beside a holder.
 
 // The number in the lock.
-fn count_now(lock: &TaggedMutex<Count>) -> Option<u64>
-    requires { lock.now ≡ 5000 }
-{
+fn count_now(lock: &TaggedMutex<Count>) -> Option<u64> {
     let (guard, count) = lock.lock_now()?;
     let number = count.number;
     guard.put_back(count);
@@ -196,9 +152,7 @@ fn read_now(lock: &TaggedRwLock<Pair>) -> Option<u64> {
 }
 
 // Puts 3 and 12 into the lock. Returns the first number that was there before.
-fn change_now(lock: &TaggedRwLock<Pair>) -> Option<u64>
-    requires { lock.now ≡ 9 }
-{
+fn change_now(lock: &TaggedRwLock<Pair>) -> Option<u64> {
     let (guard, mut pair) = lock.write_now()?;
     let number = pair.first;
     pair.first = 3;
@@ -219,13 +173,7 @@ fn a_taken_value_is_not_there_now(rt: HostRuntime) {
 
 #[test]
 fn a_refused_writer_keeps_no_reader_out(rt: HostRuntime) {
-    let lock = TaggedRwLock::new(
-        Pair {
-            first: 1,
-            second: 10,
-        },
-        &9,
-    );
+    let lock = pair_of(1);
     let reading = lock.read(&rt);
     assert!(rt; change_now(&lock) == None);
     assert!(rt; read_now(&lock) == Some(1));
@@ -237,13 +185,7 @@ fn a_refused_writer_keeps_no_reader_out(rt: HostRuntime) {
 
 #[test]
 fn a_writer_keeps_calls_out_that_do_not_wait(rt: HostRuntime) {
-    let lock = TaggedRwLock::new(
-        Pair {
-            first: 1,
-            second: 10,
-        },
-        &9,
-    );
+    let lock = pair_of(1);
     let (guard, pair) = lock.write(&rt);
     assert!(rt; read_now(&lock) == None);
     assert!(rt; change_now(&lock) == None);
@@ -262,9 +204,7 @@ fn read(latch: &Latch<Count>) -> Option<u64> {
 }
 
 // The number that was there before.
-fn write(latch: &Latch<Count>, number: u64) -> Option<u64>
-    requires { number ≤ latch.now }
-{
+fn write(latch: &Latch<Count>, number: u64) -> Option<u64> {
     let claim = latch.try_lock()?;
     let (claim, old) = claim.swap(Count { number });
     claim.unlock();
@@ -319,9 +259,7 @@ fn a_marked_latch_takes_no_more_readers(rt: HostRuntime) {
     assert!(rt; read(&latch) == Some(8));
 }
 
-fn add<R: Wait>(rt: &R, latch: &Latch<Count>, times: u32)
-    requires { latch.now ≡ 4000 }
-{
+fn add(rt: &impl Host, latch: &Latch<Count>, times: u32) {
     for _ in 0..times {
         for _ in rt.forever() {
             if let Some(claim) = latch.try_lock() {
@@ -339,14 +277,6 @@ fn add<R: Wait>(rt: &R, latch: &Latch<Count>, times: u32)
 #[test]
 fn two_threads_add_up(rt: HostRuntime) {
     let latch = Latch::new(Count { number: 0 }, &4000);
-    join(
-        &rt,
-        || -> ()
-            requires { latch ≡ 4000 }
-        { add(&rt, &latch, 2000) },
-        || -> ()
-            requires { latch ≡ 4000 }
-        { add(&rt, &latch, 2000) },
-    );
+    join(&rt, || add(&rt, &latch, 2000), || add(&rt, &latch, 2000));
     assert!(rt; read(&latch) == Some(4000));
 }

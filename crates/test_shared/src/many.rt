@@ -1,24 +1,28 @@
 //! Calls on few and on many texts: what each plain call returns, the numbers of new texts, look-ups of absent ones,
 //! limits, fillings, frozen forms and comparisons.
-use crate::checks::{Look, Origin, freezes_as, is_so, make_from, shows_as, shows_in};
-use crate::comparing::compares;
+use crate::checks::{
+    Look, Origin, freezes_as, is_so, make_from, runs_in, shows_as, shows_in, shows_rows,
+};
 use crate::freezing::{FROZEN, is_frozen};
-use Look::{Does, Shows, Walks, Writes};
-use Step::{ByNew, Copies, Counts, Finds, Grows, Holds, Interns, NonePast, Reads, Uses};
+use Look::{Compares, Does, Shows, Walks, Writes};
+use Step::{
+    ByNew, Copies, Counts, Extends, Finds, Grows, Holds, Interns, IsLimited, Limits, Lists,
+    NonePast, Reads, Uses,
+};
 use lasso_parts::keys::Spur;
-use lasso_parts::util::{FixedState, LassoResult};
-use std::process::Abort;
-use std::sync::Wait;
+use lasso_parts::util::FixedState;
 use std::test::*;
-use test_steps::calls::{Shared, len, limit, set_limit, usage};
-use test_steps::cases::{PLAIN, SIZE, sized};
-use test_steps::makers::{Maker, make, of_items};
-use test_steps::passes::first_wrong_of;
-use test_steps::steps::{Call, FULL, Step, Way, extends, has_len, interned, is_reply, lists};
+use test_steps::Host;
+use test_steps::calls::Shared;
+use test_steps::cases::{Maker, PLAIN, SIZE, make, of_items, sized};
+use test_steps::steps::{Call, FULL, Step, Way};
 use test_steps::texts::List::{But, Numbers};
 use test_steps::texts::items_of;
 
-// Absent texts are found by no call. The last has 60 bytes.
+// 60 bytes.
+const LONG: &str = "000000000000000000000000000000000000000000000000000000000000";
+
+// Absent texts are found by no call.
 static ABSENT: [Step; 12] = [
     Finds("000000", None),
     ByNew(Call::Finds("000000", None)),
@@ -30,163 +34,75 @@ static ABSENT: [Step; 12] = [
     ByNew(Call::Finds(".", None)),
     Finds("", None),
     ByNew(Call::Finds("", None)),
-    Finds(
-        "000000000000000000000000000000000000000000000000000000000000",
-        None,
-    ),
-    ByNew(Call::Finds(
-        "000000000000000000000000000000000000000000000000000000000000",
-        None,
-    )),
+    Finds(LONG, None),
+    ByNew(Call::Finds(LONG, None)),
 ];
 
-// Makes the calls. Fails unless each returns what it has to.
-fn does<R: AllocGlobal + Wait + Abort>(
-    rt: &R,
-    shared: &Shared,
-    steps: &[Step],
-) -> Result<(), Fail> {
-    is_so(
-        rt,
-        first_wrong_of(rt, shared, steps, PLAIN)? == steps.len(),
-        "a call",
-    );
-    Ok(())
-}
-
-// Whether both calls refuse a copy of a text of this many bytes, which no bucket has room for.
-fn refuses<R: AllocGlobal + Wait>(rt: &R, shared: &Shared, bytes: usize) -> LassoResult<bool> {
+// Fails unless limits that leave no byte, some, and one too few are read as they were set, and met: both calls refuse a
+// copy of a text of as many bytes as are used, which no bucket has room for and which adds none, and limit and usage stay.
+// No limit is set before and after.
+fn keeps_limits(rt: &impl Host, shared: &Shared, used: usize) -> Result<(), Fail> {
     static REFUSED: [Step; 3] = [
         Interns(Way::TryCopied, "x-", FULL),
         Interns(Way::Copied, "x-", FULL),
         Finds("x-", None),
     ];
-    Ok(first_wrong_of(rt, shared, &REFUSED, sized(bytes))? == REFUSED.len())
-}
-
-// Whether this limit is read as it was set, and met: a text of as many bytes as are used is refused, which adds none,
-// and limit and usage stay.
-fn keeps_limit<R: AllocGlobal + Wait>(
-    rt: &R,
-    shared: &Shared,
-    bytes: usize,
-    used: usize,
-) -> LassoResult<bool> {
-    let count = len(shared);
-    set_limit(rt, shared, bytes);
-    let met = limit(rt, shared) == bytes && refuses(rt, shared, used)?;
-    Ok(met && limit(rt, shared) == bytes && usage(rt, shared) == used && len(shared) == count)
-}
-
-// Keeps limits that leave no byte, some, and one too few. No limit is set before and after.
-fn keeps_limits<R: AllocGlobal + Wait>(rt: &R, shared: &Shared, used: usize) -> LassoResult<bool> {
-    let mut all = limit(rt, shared) == usize::MAX;
+    static UNLIMITED: [Step; 1] = [IsLimited(usize::MAX)];
+    runs_in(rt, shared, &UNLIMITED, PLAIN)?;
+    let count = shared.len();
     for more in [0, 3000, used.saturating_sub(1)] {
-        all &= keeps_limit(rt, shared, used.saturating_add(more), used)?;
+        let bytes = used.saturating_add(more);
+        runs_in(rt, shared, &[Limits(bytes), IsLimited(bytes)], PLAIN)?;
+        runs_in(rt, shared, &REFUSED, sized(used))?;
+        runs_in(
+            rt,
+            shared,
+            &[IsLimited(bytes), Uses(used), Counts(count)],
+            PLAIN,
+        )?;
     }
-    set_limit(rt, shared, usize::MAX);
-    Ok(all && limit(rt, shared) == usize::MAX)
+    runs_in(
+        rt,
+        shared,
+        &[Limits(usize::MAX), IsLimited(usize::MAX)],
+        PLAIN,
+    )
 }
 
 // Fails unless absent texts are found by no call, which leaves `count` texts, and limits are kept next to this usage.
-fn lacks_others<R: AllocGlobal + Wait + Abort>(
-    rt: &R,
-    shared: &Shared,
-    count: usize,
-    used: usize,
-) -> Result<(), Fail> {
-    does(rt, shared, &ABSENT)?;
-    is_so(rt, len(shared) == count, "count");
-    is_so(rt, keeps_limits(rt, shared, used)?, "limits");
-    Ok(())
+fn lacks_others(rt: &impl Host, shared: &Shared, count: usize, used: usize) -> Result<(), Fail> {
+    runs_in(rt, shared, &ABSENT, PLAIN)?;
+    is_so(rt, shared.len() == count, "count");
+    keeps_limits(rt, shared, used)
 }
 
-// A number of texts, the calls that intern up to it, and the usage then. Every other text is copied: 506, 1500, 10,001,
-// 32,769 and 35,001. Copies of five bytes fill buckets of 4096 bytes, and of twice those of the last one: 819, 1638,
-// 3276, 6553, 13,107 and 26,214 texts.
-static MARKS: [(usize, &[Step], usize); 5] = [
-    (
-        1011,
-        &[Grows(0, 1011), Counts(1011), NonePast(1011), Uses(4096)],
-        4096,
-    ),
-    (
-        3000,
-        &[
-            Grows(1011, 3000),
-            Counts(3000),
-            NonePast(3000),
-            Uses(12_288),
-        ],
-        12_288,
-    ),
-    (
-        20_001,
-        &[
-            Grows(3000, 20_001),
-            Counts(20_001),
-            NonePast(20_001),
-            Uses(61_440),
-        ],
-        61_440,
-    ),
-    (
-        65_537,
-        &[
-            Grows(20_001, 65_537),
-            Counts(65_537),
-            NonePast(65_537),
-            Uses(258_048),
-        ],
-        258_048,
-    ),
-    (
-        70_001,
-        &[
-            Grows(65_537, 70_001),
-            Counts(70_001),
-            NonePast(70_001),
-            Uses(258_048),
-        ],
-        258_048,
-    ),
+// Numbers of texts, and the usage then. Every other text is copied: 506, 1500, 10,001, 32,769 and 35,001. Copies of
+// five bytes fill buckets of 4096 bytes, and of twice those of the last one: 819, 1638, 3276, 6553, 13,107 and 26,214
+// texts.
+static MARKS: [(usize, usize); 5] = [
+    (1011, 4096),
+    (3000, 12_288),
+    (20_001, 61_440),
+    (65_537, 258_048),
+    (70_001, 258_048),
 ];
 
 #[test]
 fn new_texts_have_the_next_numbers_after_many(rt: HostRuntime) -> Result<(), Fail> {
-    let shared = make(&rt, Maker::Sized(50, 4096, usize::MAX))?;
-    for (count, steps, used) in MARKS.iter() {
-        does(&rt, &shared, *steps)?;
+    let shared: Shared = make(&rt, Maker::Sized(50, 4096, usize::MAX))?;
+    let mut first = 0;
+    for (count, used) in MARKS.iter() {
+        let steps = [
+            Grows(first, *count),
+            Counts(*count),
+            NonePast(*count),
+            Uses(*used),
+        ];
+        runs_in(&rt, &shared, &steps, PLAIN)?;
         lacks_others(&rt, &shared, *count, *used)?;
+        first = *count;
     }
     Ok(())
-}
-
-// Whether the interner has exactly the texts, of which none is new. Interns `new` then, which is the last one.
-fn takes_a_new_one<R: Wait>(rt: &R, shared: &Shared, texts: &[&'static str]) -> LassoResult<bool> {
-    let count = texts.len();
-    let shown = has_len(shared, count) && lists(shared, texts);
-    let is_old = extends(rt, shared, texts)?.is_none() && has_len(shared, count);
-    let is_next = is_reply(interned(rt, shared, Way::TryCopied, "new"), Ok(count))?;
-    Ok(shown && is_old && is_next)
-}
-
-// Makes an interner of the first `from` texts, which then has the first usage, and fills it with the rest. It has the
-// second usage then, and all texts, of which none is new.
-fn goes_on<R: AllocGlobal + Wait + Abort>(
-    rt: &R,
-    texts: &[&'static str],
-    from: usize,
-    used: (usize, usize),
-) -> Result<(), Fail> {
-    let first = texts.get(..from).ok_or("too few texts")?;
-    let rest = texts.get(from..).ok_or("too few texts")?;
-    let shared: Shared = of_items(rt, rt.alloc(), first)?;
-    is_so(rt, len(&shared) == from, "count before");
-    is_so(rt, keeps_limits(rt, &shared, used.0)?, "limits before");
-    is_so(rt, extends(rt, &shared, rest)?.is_none(), "the rest");
-    is_so(rt, takes_a_new_one(rt, &shared, texts)?, "all texts");
-    lacks_others(rt, &shared, texts.len().saturating_add(1), used.1)
 }
 
 // How many texts there are at first, and then, and the usages. Each text is copied, into the same buckets.
@@ -196,47 +112,48 @@ static FILLINGS: [(usize, usize, (usize, usize)); 3] = [
     (67_001, 70_001, (520_192, 520_192)),
 ];
 
+// An interner is made of the first texts, and filled with the rest. None of all is new then, and a new one is the last.
 #[test]
 fn a_filling_goes_on_after_many(rt: HostRuntime) -> Result<(), Fail> {
     for (from, count, used) in FILLINGS.iter() {
-        let texts = items_of(rt.alloc(), Numbers(0, *count))?;
-        goes_on(&rt, &texts, *from, *used)?;
+        let shared: Shared = make(&rt, Maker::Items(Numbers(0, *from)))?;
+        is_so(&rt, shared.len() == *from, "count before");
+        keeps_limits(&rt, &shared, used.0)?;
+        let steps = [
+            Extends(Numbers(*from, *count), None),
+            Counts(*count),
+            Lists(Numbers(0, *count)),
+            Extends(Numbers(0, *count), None),
+            Counts(*count),
+            Interns(Way::TryCopied, "new", Ok(*count)),
+        ];
+        runs_in(&rt, &shared, &steps, PLAIN)?;
+        lacks_others(&rt, &shared, count.saturating_add(1), used.1)?;
     }
     Ok(())
 }
 
-// Whether each frozen form of an interner of the texts has exactly these.
-fn are_frozen<R: AllocGlobal + Wait>(rt: &R, texts: &[&'static str]) -> LassoResult<bool> {
-    let mut all = true;
-    for form in FROZEN.iter() {
-        let shared: Shared = of_items(rt, rt.alloc(), texts)?;
-        all &= is_frozen(rt, shared, *form, texts, "000000")?;
-    }
-    Ok(all)
-}
-
 #[test]
 fn frozen_forms_of_many_have_just_these(rt: HostRuntime) -> Result<(), Fail> {
-    for count in [3000, 70_001] {
+    for count in [3000, 70_001usize] {
         let texts = items_of(rt.alloc(), Numbers(0, count))?;
-        is_so(&rt, are_frozen(&rt, &texts)?, "frozen forms");
+        for form in FROZEN.iter() {
+            let shared: Shared = of_items(&rt, &texts)?;
+            let is_right = is_frozen(&rt, shared, *form, &texts, "000000")?;
+            is_so(&rt, is_right, "frozen forms");
+        }
     }
     Ok(())
 }
 
 #[test]
 fn many_texts_are_equal_to_these_alone(rt: HostRuntime) -> Result<(), Fail> {
-    let texts = items_of(rt.alloc(), Numbers(0, 70_001))?;
-    let shared: Shared = of_items(&rt, rt.alloc(), &texts)?;
-    is_so(&rt, len(&shared) == 70_001, "count");
-    is_so(&rt, compares(&rt, &shared, &texts, true)?, "the same texts");
-    let other = items_of(rt.alloc(), But(70_001, 70_000, "7000."))?;
-    is_so(
-        &rt,
-        compares(&rt, &shared, &other, false)?,
-        "another last text",
-    );
-    Ok(())
+    static LOOKS: [Look; 3] = [
+        Does(&[Counts(70_001)]),
+        Compares(Numbers(0, 70_001), true),
+        Compares(But(70_001, 70_000, "7000."), false),
+    ];
+    shows_rows(&rt, Origin::Items(Numbers(0, 70_001)), &LOOKS)
 }
 
 // What each plain call returns for few texts and for many.
@@ -271,7 +188,7 @@ fn each_call_tells_of_each_count(rt: HostRuntime) -> Result<(), Fail> {
     for (count, cells) in COUNTS.iter() {
         let list = Numbers(0, *count);
         let steps = [Copies(list), Holds(*cells), Finds("000000", None)];
-        does(&rt, &shared, &steps)?;
+        runs_in(&rt, &shared, &steps, PLAIN)?;
         shows_in(&rt, &shared, &[Shows(list)], PLAIN)?;
     }
     Ok(())
@@ -284,7 +201,7 @@ fn a_frozen_form_has_each_count_of_texts(rt: HostRuntime) -> Result<(), Fail> {
             Origin::Items(Numbers(0, *count)),
             (Numbers(0, *count), "000000"),
         );
-        freezes_as::<Spur, FixedState, _>(&rt, origin, &[], frozen, PLAIN)?;
+        freezes_as::<Spur, FixedState>(&rt, origin, &[], frozen, PLAIN)?;
     }
     Ok(())
 }
@@ -299,7 +216,7 @@ fn each_count_of_texts_is_written(rt: HostRuntime) -> Result<(), Fail> {
     static LOOKS: [Look; 1] = [Writes(Numbers(0, SIZE))];
     for count in WRITTEN.iter() {
         let origin = Origin::Items(Numbers(0, SIZE));
-        shows_as::<Spur, FixedState, _>(&rt, origin, &LOOKS, sized(*count))?;
+        shows_as::<Spur, FixedState>(&rt, origin, &LOOKS, sized(*count))?;
     }
     Ok(())
 }

@@ -1,6 +1,6 @@
 //! Walks, JSON, debug output and frozen forms of texts of many lengths, ASCII and not, with two key types and two
 //! hashers.
-use crate::checks::{Look, Origin, freezes_as, is_so, make_from, shows_as, shows_in};
+use crate::checks::{Look, Origin, Shown, freezes_as, is_so, make_from, shows_as, shows_in};
 use Look::{Does, Prints, Shows, UsesBytesOf, Writes};
 use Step::{Interns, IsLimited, Uses};
 use lasso_parts::json::JsonError;
@@ -11,13 +11,11 @@ use serde_json::Value;
 use std::alloc::{AllocError, Global};
 use std::fmt::Debug;
 use std::hash::BuildHasher;
-use std::process::Abort;
-use std::sync::Wait;
 use std::test::*;
 use test_common::hashers::SameState;
-use test_steps::calls::{Shared, pass_of};
-use test_steps::cases::{Case, PLAIN, SIZE};
-use test_steps::makers::Maker;
+use test_steps::Host;
+use test_steps::calls::Shared;
+use test_steps::cases::{Case, Maker, PLAIN, SIZE, paired};
 use test_steps::steps::{Step, Way};
 use test_steps::texts::List::Texts;
 use test_steps::texts::{LENGTHS, lasting};
@@ -44,24 +42,14 @@ static READ: [Look; 3] = [
 
 // Two texts, in the order of their bytes. The size is that of the first.
 fn case_of(alloc: Global, letters: (&str, &str), length: usize) -> LassoResult<Case> {
-    let pair = (
-        lasting(alloc, letters.0, length)?,
-        lasting(alloc, letters.1, length)?,
-    );
-    Ok(Case {
-        size: Some(pair.0.len()),
-        way: Way::Given,
-        pair,
-        times: 1,
-        is_hinted: false,
-    })
+    let first = lasting(alloc, letters.0, length)?;
+    let mut case = paired(Way::Given, (first, lasting(alloc, letters.1, length)?));
+    case.size = Some(first.len());
+    Ok(case)
 }
 
 // The rows have to be right for the two texts, and the frozen forms and JSON to have just these.
-fn shows<K: Key, S: BuildHasher + Default + Drop, R: AllocGlobal + Wait + Abort>(
-    rt: &R,
-    case: Case,
-) -> Result<(), Fail> {
+fn shows<K: Key, S: BuildHasher + Default + Drop>(rt: &impl Host, case: Case) -> Result<(), Fail> {
     let (origin, list) = (
         Origin::Made(Maker::Sized(50, SIZE, SIZE + 1)),
         Texts(&["@", "%"]),
@@ -69,9 +57,9 @@ fn shows<K: Key, S: BuildHasher + Default + Drop, R: AllocGlobal + Wait + Abort>
     let shared: ThreadedRodeo<K, S> = make_from(rt, origin, case)?;
     shows_in(rt, &shared, &MADE, case)?;
     shows_in(rt, &shared, &SHOWN, case)?;
-    freezes_as::<K, S, R>(rt, origin, &MADE, (list, "absent"), case)?;
-    shows_as::<K, S, R>(rt, Origin::Object(list), &READ, case)?;
-    shows_as::<K, S, R>(rt, Origin::Array(list), &READ, case)
+    freezes_as::<K, S>(rt, origin, &MADE, (list, "absent"), case)?;
+    shows_as::<K, S>(rt, Origin::Object(list), &READ, case)?;
+    shows_as::<K, S>(rt, Origin::Array(list), &READ, case)
 }
 
 // The first characters of the texts have 1 byte each, or 2 and 4.
@@ -79,9 +67,9 @@ fn shows<K: Key, S: BuildHasher + Default + Drop, R: AllocGlobal + Wait + Abort>
 fn texts_of_each_length_are_shown(rt: HostRuntime) -> Result<(), Fail> {
     for length in LENGTHS.iter() {
         let ascii = case_of(rt.alloc(), ("a", "b"), *length)?;
-        shows::<Spur, FixedState, _>(&rt, ascii)?;
+        shows::<Spur, FixedState>(&rt, ascii)?;
         let other = case_of(rt.alloc(), ("é", "😀"), *length)?;
-        shows::<LargeSpur, SameState, _>(&rt, other)?;
+        shows::<LargeSpur, SameState>(&rt, other)?;
     }
     Ok(())
 }
@@ -109,92 +97,82 @@ fn yields_texts<K: Key>(mut strings: Strings<'_, K>, texts: &[&str]) -> bool {
     all && strings.len() == 0 && strings.next().is_none()
 }
 
-// Whether walks of a pass yield exactly these texts.
-fn are_walked_by_pass<K: Key, S: BuildHasher + Drop>(
-    shared: &ThreadedRodeo<K, S>,
-    texts: &[&str],
-) -> bool {
-    let mut pass = pass_of(shared);
-    let walked = yields(shared.iter_as(&mut pass), texts);
-    yields_texts(shared.strings_as(&mut pass), texts) && walked
-}
+impl<'a, K: Key, S: BuildHasher + Default + Drop, R: Host> Shown<'a, K, S, R> {
+    /// Whether walks yield exactly these texts, without a pass and with one.
+    pub(super) fn are_walked(&self, texts: &[&str]) -> bool {
+        let mut pass = self.shared.pass();
+        yields(self.shared.iter(), texts)
+            && yields_texts(self.shared.strings(), texts)
+            && yields(self.shared.iter_as(&mut pass), texts)
+            && yields_texts(self.shared.strings_as(&mut pass), texts)
+    }
 
-/// Whether walks yield exactly these texts, without a pass and with one.
-pub(super) fn are_walked<K: Key, S: BuildHasher + Drop>(
-    shared: &ThreadedRodeo<K, S>,
-    texts: &[&str],
-) -> bool {
-    yields(shared.iter(), texts)
-        && yields_texts(shared.strings(), texts)
-        && are_walked_by_pass(shared, texts)
-}
+    /// Whether the interner is written as this JSON text, without a pass and with one.
+    pub(super) fn is_written_as(&self, json: &str) -> bool {
+        let alloc = self.rt.alloc();
+        let mut pass = self.shared.pass();
+        is_value(alloc, self.shared.serialize_as(alloc, &mut pass), json)
+            && is_value(alloc, self.shared.serialize(alloc), json)
+    }
 
-/// Whether the text at this place of a walk is this one.
-pub(super) fn comes_at<K: Key, S: BuildHasher + Drop>(
-    shared: &ThreadedRodeo<K, S>,
-    place: usize,
-    text: &str,
-) -> bool {
-    shared.strings().nth(place) == Some(text)
+    /// Whether this is the debug text of the interner.
+    pub(super) fn prints(&self, wanted: &str) -> bool {
+        prints(self.rt.alloc(), self.shared, wanted)
+    }
+
+    /// Whether the interner is written and printed as these texts.
+    pub(super) fn writes(&self, texts: &[&str]) -> LassoResult<bool> {
+        let alloc = self.rt.alloc();
+        let is_written = self.is_written_as(object_of(alloc, texts)?.as_str());
+        Ok(self.prints(debug_of(alloc, texts)?.as_str()) && is_written)
+    }
 }
 
 // Whether an interner that threads share is written as a list of texts: as JSON, and as debug text.
 
-// The text in quotation marks, and after it the number, if it is to be written. The text may need no escape.
-fn member(
-    alloc: Global,
-    text: &str,
-    number: usize,
-    has_number: bool,
-) -> Result<String, AllocError> {
-    if has_number {
-        format!(in alloc; "\"{text}\":{number}")
-    } else {
-        format!(in alloc; "\"{text}\"")
-    }
-}
-
-// The texts in quotation marks, with the separator between them, and each with its position plus one after it, if
-// that is to be written.
+// The texts in quotation marks, with the separator between them, each with its position plus one after it, if that is
+// to be written, and others before and after all. The texts may need no escape.
 fn joined(
     alloc: Global,
     texts: &[&str],
-    separator: &str,
+    around: (&str, &str, &str),
     has_numbers: bool,
 ) -> Result<String, AllocError> {
-    let mut list = String::new(alloc);
-    let mut number: usize = 0;
-    for text in texts.iter() {
-        if number > 0 {
-            list.push_str(separator)?;
-        }
-        number = number.saturating_add(1);
-        list.push_str(member(alloc, text, number, has_numbers)?.as_str())?;
+    let (before, separator, after) = around;
+    let mut list = String::from_str(alloc, before)?;
+    for (position, text) in texts.iter().enumerate() {
+        let number = position.saturating_add(1);
+        let separator = if position > 0 { separator } else { "" };
+        let member = if has_numbers {
+            format!(in alloc; "{separator}\"{text}\":{number}")?
+        } else {
+            format!(in alloc; "{separator}\"{text}\"")?
+        };
+        list.push_str(member.as_str())?;
     }
+    list.push_str(after)?;
     Ok(list)
-}
-
-// The text with others before and after it.
-fn between(alloc: Global, before: &str, text: String, after: &str) -> Result<String, AllocError> {
-    let text = text.as_str();
-    format!(in alloc; "{before}{text}{after}")
 }
 
 /// The JSON object of the texts, each with its position plus one. The texts must be in the order of their
 /// bytes, and none may need an escape.
 pub(super) fn object_of(alloc: Global, texts: &[&str]) -> Result<String, AllocError> {
-    between(alloc, "{", joined(alloc, texts, ",", true)?, "}")
+    joined(alloc, texts, ("{", ",", "}"), true)
 }
 
 /// The JSON array of the texts. None may need an escape.
 pub(super) fn array_of(alloc: Global, texts: &[&str]) -> Result<String, AllocError> {
-    between(alloc, "[", joined(alloc, texts, ",", false)?, "]")
+    joined(alloc, texts, ("[", ",", "]"), false)
 }
 
-/// The debug text of an interner of these texts. None may need an escape.
-pub(super) fn debug_of(alloc: Global, texts: &[&str]) -> Result<String, AllocError> {
-    let list = joined(alloc, texts, ", ", false)?;
-    between(alloc, "ThreadedRodeo { strings: [", list, "], .. }")
+// The debug text of an interner of these texts. None may need an escape.
+fn debug_of(alloc: Global, texts: &[&str]) -> Result<String, AllocError> {
+    joined(
+        alloc,
+        texts,
+        ("ThreadedRodeo { strings: [", ", ", "], .. }"),
+        false,
+    )
 }
 
 // Whether the value was written, and is this JSON text.
@@ -208,19 +186,8 @@ fn is_value(alloc: Global, written: Result<Value, JsonError>, json: &str) -> boo
     }
 }
 
-/// Whether the interner is written as this JSON text, without a pass and with one.
-pub(super) fn is_written_as<K: Key, S: BuildHasher + Drop>(
-    alloc: Global,
-    shared: &ThreadedRodeo<K, S>,
-    json: &str,
-) -> bool {
-    let mut pass = pass_of(shared);
-    let by_pass = is_value(alloc, shared.serialize_as(alloc, &mut pass), json);
-    is_value(alloc, shared.serialize(alloc), json) && by_pass
-}
-
-/// Whether this is the debug text of the value.
-pub(super) fn prints<T: Debug>(alloc: Global, value: &T, wanted: &str) -> bool {
+// Whether this is the debug text of the value.
+fn prints<T: Debug>(alloc: Global, value: &T, wanted: &str) -> bool {
     match format!(in alloc; "{value:?}") {
         Ok(printed) => printed.as_str() == wanted,
         Err(_) => false,
@@ -229,41 +196,19 @@ pub(super) fn prints<T: Debug>(alloc: Global, value: &T, wanted: &str) -> bool {
 
 // Debug output of an interner that threads share, and of its iterators.
 
-// Takes the next text of both walks. Returns whether each has one.
-fn has_next(strings: &mut Strings<'_, Spur>, walk: &mut Iter<'_, Spur>) -> bool {
-    let text = strings.next().is_some();
-    let entry = walk.next().is_some();
-    text && entry
-}
-
-// The debug text of both walks over the two texts has to be right after one text, and after both.
-fn print_each<R: AllocGlobal + Abort>(
-    rt: &R,
-    strings: &mut Strings<'_, Spur>,
-    walk: &mut Iter<'_, Spur>,
-) {
-    is_so(rt, has_next(strings, walk), "the first text");
-    is_so(
-        rt,
-        prints(rt.alloc(), strings, r#"["a\"b"]"#),
-        "strings, one left",
-    );
-    let wanted = r#"Iter { strings: ["a\"b"], .. }"#;
-    is_so(rt, prints(rt.alloc(), walk, wanted), "iter, one left");
-    is_so(rt, has_next(strings, walk), "the second text");
-    is_so(rt, prints(rt.alloc(), strings, "[]"), "strings, none left");
-    is_so(
-        rt,
-        prints(rt.alloc(), walk, "Iter { strings: [], .. }"),
-        "iter, none left",
-    );
-}
-
-// The debug text of both walks of the interner has to be right after one text, and after both.
-fn print_walks<R: AllocGlobal + Abort>(rt: &R, shared: &Shared) {
-    let mut strings = shared.strings();
-    let mut walk = shared.iter();
-    print_each(rt, &mut strings, &mut walk);
+// The debug text of both walks of the interner of two texts has to be right after one text, and after both.
+fn print_walks(rt: &impl Host, shared: &Shared) {
+    static ROWS: [(&str, &str); 2] = [
+        (r#"["a\"b"]"#, r#"Iter { strings: ["a\"b"], .. }"#),
+        ("[]", "Iter { strings: [], .. }"),
+    ];
+    let (mut strings, mut walk) = (shared.strings(), shared.iter());
+    for (of_strings, of_walk) in ROWS.iter() {
+        let has_both = strings.next().is_some() && walk.next().is_some();
+        is_so(rt, has_both, "a next text");
+        is_so(rt, prints(rt.alloc(), &strings, *of_strings), *of_strings);
+        is_so(rt, prints(rt.alloc(), &walk, *of_walk), *of_walk);
+    }
 }
 
 #[test]

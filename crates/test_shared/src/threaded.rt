@@ -1,44 +1,25 @@
 //! Threads that intern texts in one interner, and calls that read, with a pass and without one. Texts that are interned
 //! while memory is out: `trials/refused-tests` refuses the requests for memory.
-use crate::checks::{is_so, runs, runs_as, runs_beside, runs_in, runs_in_two};
+use crate::checks::{is_so, is_so_at, runs, runs_as, runs_in, runs_in_two};
 use Step::{
     ByNew, ByOne, Copies, Counts, Finds, Interns, IsLimited, Limits, Reads, Resolves, Takes, Uses,
 };
 use lasso_parts::keys::{Key, MicroSpur};
 use lasso_parts::util::{FixedState, LassoErrorKind};
-use std::process::Abort;
-use std::sync::Wait;
 use std::test::*;
-use std::thread::Threads;
 use test_common::hashers::SameState;
 use test_common::keys::BelowTwo;
-use test_steps::calls::{
-    Shared, answered, contains, copied, found, len, limited, made, text_at, usage,
-};
-use test_steps::cases::PLAIN;
-use test_steps::makers::Maker;
-use test_steps::steps::{Call, FULL, NO_KEY, Step, Way, interned};
+use test_steps::Host;
+use test_steps::calls::{Caller, Shared, answered, limited, made};
+use test_steps::cases::{Maker, PLAIN};
+use test_steps::passes::are_right_beside;
+use test_steps::steps::{Call, FULL, NO_KEY, Step, Way};
 use test_steps::texts::List::{Numbers, Texts};
 use test_steps::texts::items_of;
 
-// Whether the texts were interned in this order, with or without other texts in between.
-fn in_order<R: Wait>(rt: &R, shared: &Shared, items: &[&'static str]) -> Result<bool, Fail> {
-    let mut next: usize = 0;
-    for position in 0..items.len() {
-        let number = found(rt, shared, items[position]).unwrap_or(0);
-        if number < next || text_at(shared, number)? != Some(items[position]) {
-            return Ok(false);
-        }
-        next = number.saturating_add(1);
-    }
-    Ok(true)
-}
-
-// Interns 100 texts of each thread. Fails unless each is present once, in its thread's order, at 200 positions.
-fn append_both<R: AllocGlobal + Threads + Wait + Sync + Abort>(
-    rt: &R,
-    shared: &Shared,
-) -> Result<(), Fail> {
+// Two threads intern 100 texts each. Each is present once, in its thread's order, at 200 positions.
+#[test]
+fn two_threads_append(rt: HostRuntime) -> Result<(), Fail> {
     static FIRST: [Step; 1] = [ByOne(Call::Resolves(Numbers(0, 100)))];
     static SECOND: [Step; 1] = [ByOne(Call::Resolves(Numbers(100, 200)))];
     static LAST: [Step; 3] = [
@@ -46,20 +27,21 @@ fn append_both<R: AllocGlobal + Threads + Wait + Sync + Abort>(
         ByNew(Call::Reads(200, None)),
         Reads(200, None),
     ];
-    runs_beside(rt, shared, (&FIRST, &SECOND), PLAIN)?;
-    runs_in(rt, shared, &LAST, PLAIN)?;
-    let (first, second) = (Numbers(0, 100), Numbers(100, 200));
-    let is_first = in_order(rt, shared, &items_of(rt.alloc(), first)?)?;
-    is_so(rt, is_first, "the first list");
-    let is_second = in_order(rt, shared, &items_of(rt.alloc(), second)?)?;
-    is_so(rt, is_second, "the second list");
-    Ok(())
-}
-
-#[test]
-fn two_threads_append(rt: HostRuntime) -> Result<(), Fail> {
     let shared = made(rt.alloc())?;
-    append_both(&rt, &shared)
+    let are_right = are_right_beside(&rt, &shared, (&FIRST, &SECOND), PLAIN)?;
+    is_so(&rt, are_right, "two threads");
+    runs_in(&rt, &shared, &LAST, PLAIN)?;
+    let caller = Caller::new(&rt, &shared);
+    for list in [Numbers(0, 100), Numbers(100, 200)] {
+        let mut next: usize = 0;
+        for text in items_of(rt.alloc(), list)?.iter() {
+            let number = caller.found_plainly(*text).ok_or("absent")?;
+            let holds = number >= next && caller.reads(number, Some(*text));
+            is_so(&rt, holds, *text);
+            next = number.saturating_add(1);
+        }
+    }
+    Ok(())
 }
 
 #[test]
@@ -70,7 +52,7 @@ fn keys_used_up_refuse_new_texts_alone(rt: HostRuntime) -> Result<(), Fail> {
         ByOne(Call::Keeps("r", NO_KEY)),
         ByOne(Call::Keeps("p", Ok(0))),
     ];
-    runs_as::<BelowTwo, FixedState, _>(&rt, Maker::Default, &STEPS, PLAIN)
+    runs_as::<BelowTwo, FixedState>(&rt, Maker::Default, &STEPS, PLAIN)
 }
 
 // There are three texts at the end, and each thread has resolved the keys of its two: so `x` has one key.
@@ -144,75 +126,55 @@ static TEXTS: [&str; 40] = [
     "aa", "bbb", "cccc", "ddddd", "e", "ff", "ggg", "hhhh", "iiiii", "j", "kk", "lll", "mmmm",
 ];
 
-// Whether the text is absent, and the length and the usage are these.
-fn is_unchanged<R: Wait>(rt: &R, shared: &Shared, text: &str, length: usize, bytes: usize) -> bool {
-    !contains(rt, shared, text) && len(shared) == length && usage(rt, shared) == bytes
-}
-
 // Interns an absent text, again and again while memory is out, and returns its number. `None` if a call
 // failed otherwise, or if one that ran out of memory left the text, another length or another usage.
-fn interned_at_last<R: Wait>(
-    rt: &R,
+fn interned_at_last(
+    rt: &impl Host,
     shared: &Shared,
     way: Way,
     text: &'static str,
 ) -> Option<usize> {
-    let (length, bytes) = (len(shared), usage(rt, shared));
+    let caller = Caller::new(rt, shared);
+    let (length, bytes) = (shared.len(), caller.usage());
     for _ in 0..TRIES {
-        match answered(interned(rt, shared, way, text)) {
+        match answered(caller.interned(way, text)) {
             Ok(number) => return Some(number),
             Err(LassoErrorKind::FailedAllocation) => {}
             Err(_) => return None,
         }
-        if !is_unchanged(rt, shared, text, length, bytes) {
+        if shared.contains(rt, text) || shared.len() != length || caller.usage() != bytes {
             return None;
         }
     }
     None
 }
 
-// Whether the key with this number stands for the text.
-fn is_at(shared: &Shared, number: usize, text: &str) -> Result<bool, Fail> {
-    Ok(text_at(shared, number)? == Some(text))
+// Interns the texts in an interner whose first bucket has four bytes. Each gets the next number, and has it at the end.
+fn all_are_interned(rt: &impl Host, way: Way) -> Result<Shared, Fail> {
+    let shared: Shared = limited(rt.alloc(), 4, usize::MAX)?;
+    for (position, text) in TEXTS.iter().enumerate() {
+        let number = interned_at_last(rt, &shared, way, *text);
+        is_so_at(rt, number == Some(position), position);
+    }
+    for (position, text) in TEXTS.iter().enumerate() {
+        let is_there = Caller::new(rt, &shared).reads(position, Some(*text));
+        is_so_at(rt, is_there, position);
+    }
+    Ok(shared)
 }
 
-// Whether each text gets the next number, and has it at the end.
-fn all_are_interned<R: Wait>(rt: &R, shared: &Shared, way: Way) -> Result<bool, Fail> {
-    for position in 0..TEXTS.len() {
-        if interned_at_last(rt, shared, way, TEXTS[position]) != Some(position) {
-            return Ok(false);
-        }
-    }
-    for position in 0..TEXTS.len() {
-        if !is_at(shared, position, TEXTS[position])? {
-            return Ok(false);
-        }
-    }
-    Ok(true)
-}
-
+// The texts need more buckets than the first.
 #[test]
 fn a_copied_text_out_of_memory_leaves_nothing(rt: HostRuntime) -> Result<(), Fail> {
-    // the texts need more buckets than this one
-    let shared: Shared = limited(rt.alloc(), 4, usize::MAX)?;
-    is_so(
-        &rt,
-        all_are_interned(&rt, &shared, Way::TryCopied)?,
-        "the texts",
-    );
-    is_so(&rt, len(&shared) == 40, "the count");
+    let shared = all_are_interned(&rt, Way::TryCopied)?;
+    is_so(&rt, shared.len() == 40, "the count");
     Ok(())
 }
 
 #[test]
 fn a_static_text_out_of_memory_leaves_nothing(rt: HostRuntime) -> Result<(), Fail> {
-    let shared: Shared = limited(rt.alloc(), 4, usize::MAX)?;
-    is_so(
-        &rt,
-        all_are_interned(&rt, &shared, Way::TryStatic)?,
-        "the texts",
-    );
-    is_so(&rt, usage(&rt, &shared) == 4, "the usage");
+    let shared = all_are_interned(&rt, Way::TryStatic)?;
+    is_so(&rt, shared.current_memory_usage(&rt) == 4, "the usage");
     Ok(())
 }
 
@@ -266,8 +228,8 @@ fn the_limit_answers_before_the_key_type(rt: HostRuntime) -> Result<(), Fail> {
         Counts(255),
         Uses(1275),
     ];
-    runs_as::<MicroSpur, FixedState, _>(&rt, Maker::Full(1275), &STEPS, PLAIN)?;
-    runs_as::<MicroSpur, SameState, _>(&rt, Maker::Full(1275), &STEPS, PLAIN)
+    runs_as::<MicroSpur, FixedState>(&rt, Maker::Full(1275), &STEPS, PLAIN)?;
+    runs_as::<MicroSpur, SameState>(&rt, Maker::Full(1275), &STEPS, PLAIN)
 }
 
 #[test]
@@ -286,35 +248,19 @@ fn a_copied_and_a_static_text_have_one_key(rt: HostRuntime) -> Result<(), Fail> 
     runs(&rt, Maker::Default, &STEPS)
 }
 
-// The bytes as a text.
-fn text_of(bytes: &[u8]) -> Result<&str, Fail> {
-    Ok(str::from_utf8(bytes).ok().ok_or("no text")?)
-}
-
-// Interns the bytes as a copied text, and returns its number.
-fn copies_bytes<R: Wait>(rt: &R, shared: &Shared, bytes: &[u8]) -> Result<usize, Fail> {
-    Ok(copied(rt, shared, text_of(bytes)?)?)
-}
-
-// Whether the bytes are no text of the interner.
-fn lacks_bytes<R: Wait>(rt: &R, shared: &Shared, bytes: &[u8]) -> Result<bool, Fail> {
-    Ok(found(rt, shared, text_of(bytes)?).is_none())
-}
-
-// Interns bytes as a copied text, and changes them. Fails unless the text stays.
-fn stays<R: AllocGlobal + Wait + Abort>(rt: &R, shared: &Shared) -> Result<(), Fail> {
-    let mut bytes = [97u8, 98u8];
-    is_so(rt, copies_bytes(rt, shared, &bytes)? == 0, "the number");
-    bytes[0] = 122;
-    is_so(rt, lacks_bytes(rt, shared, &bytes)?, "the changed text");
-    static LAST: [Step; 2] = [Reads(0, Some("ab")), Finds("ab", Some(0))];
-    runs_in(rt, shared, &LAST, PLAIN)
-}
-
+// Bytes that are interned as a copied text, and then changed.
 #[test]
 fn a_copy_stays_where_its_source_changes(rt: HostRuntime) -> Result<(), Fail> {
+    static LAST: [Step; 2] = [Reads(0, Some("ab")), Finds("ab", Some(0))];
     let shared = made(rt.alloc())?;
-    stays(&rt, &shared)
+    let mut bytes = [97u8, 98u8];
+    let text = str::from_utf8(&bytes).ok().ok_or("no text")?;
+    let key = shared.try_get_or_intern(&rt, text)?;
+    is_so(&rt, key.into_usize() == 0, "the number");
+    bytes[0] = 122;
+    let text = str::from_utf8(&bytes).ok().ok_or("no text")?;
+    is_so(&rt, shared.get(&rt, text).is_none(), "the changed text");
+    runs_in(&rt, &shared, &LAST, PLAIN)
 }
 
 // There are three texts at the end, and each thread has resolved the keys of its two: so `x` has one key.

@@ -1,15 +1,11 @@
 //! What an arena stores, what it refuses, and the bytes that its regions then take.
-ghost use Rattle.std.specs.Prelude.{◌<◌};
-
-use crate::interners::{crosses, is_so};
+use crate::interners::{Host, LIMIT, MEMORY, crosses, is_so, is_so_at, refusal_of};
 use lasso_parts::arena::Arena;
 use lasso_parts::bucket::Bucket;
 use lasso_parts::bucket::region::{Region, RegionRight};
 use lasso_parts::entries::Entry;
-use lasso_parts::util::LassoErrorKind;
 use std::alloc::{Allocator, Global};
 use std::mem::size_of;
-use std::process::Abort;
 use std::test::Fail;
 
 #[derive(Clone, Copy, Debug)]
@@ -34,19 +30,14 @@ fn is_stored(arena: &mut Arena<Global>, text: &str) -> bool {
     }
 }
 
-// Whether the limit refuses the text.
-fn is_refused(arena: &mut Arena<Global>, text: &str) -> bool {
-    match arena.store_str(text) {
-        Ok(_) => false,
-        Err(error) => error.kind() == LassoErrorKind::MemoryLimitReached,
-    }
-}
-
 // Makes the call. Returns whether it went as it has to.
 fn is_made(arena: &mut Arena<Global>, call: Call) -> bool {
     match call {
         Stores(text) => arena.admits(text.len()) && is_stored(arena, text),
-        Refuses(text) => !arena.admits(text.len()) && is_refused(arena, text),
+        Refuses(text) => {
+            let is_admitted = arena.admits(text.len());
+            !is_admitted && refusal_of(arena.store_str(text)) == Some(LIMIT)
+        }
         SetsLimit(limit) => {
             arena.set_limit(limit);
             true
@@ -61,14 +52,7 @@ fn is_made(arena: &mut Arena<Global>, call: Call) -> bool {
 
 // Makes each call with an arena whose first region has `bytes` bytes, under the limit, and checks the usage
 // after it.
-fn run_row<R: Abort + AllocGlobal>(
-    rt: &R,
-    bytes: usize,
-    limit: usize,
-    row: &[(Call, usize)],
-) -> Result<(), Fail>
-    requires { 0 < bytes }
-{
+fn run_row(rt: &impl Host, bytes: usize, limit: usize, row: &[(Call, usize)]) -> Result<(), Fail> {
     let mut arena = Arena::new(rt.alloc(), bytes, limit)?;
     for (call, usage) in row {
         assert!(rt; is_made(&mut arena, *call), "at {call:?}");
@@ -169,17 +153,6 @@ fn a_spare_is_filled_at_the_limit(rt: HostRuntime) -> Result<(), Fail> {
     run_row(&rt, 4, 12, &row)
 }
 
-// Stores a text of `len` bytes. Returns whether it can be read, and all regions have `usage` bytes then.
-fn is_long_stored(
-    alloc: Global,
-    arena: &mut Arena<Global>,
-    len: usize,
-    usage: usize,
-) -> Result<bool, Fail> {
-    let text = "a".repeat(alloc, len)?;
-    Ok(is_stored(arena, text.as_str()) && arena.memory_usage() == usage)
-}
-
 #[test]
 fn ten_texts_that_double(rt: HostRuntime) -> Result<(), Fail> {
     let mut arena = Arena::default(rt.alloc())?;
@@ -196,30 +169,18 @@ fn ten_texts_that_double(rt: HostRuntime) -> Result<(), Fail> {
         (2097152, 4190208),
     ];
     for (len, usage) in row {
-        assert!(rt;
-            is_long_stored(rt.alloc(), &mut arena, len, usage)?,
-            "at {len}"
-        );
+        let text = "a".repeat(rt.alloc(), len)?;
+        assert!(rt; is_stored(&mut arena, text.as_str()), "at {len}");
+        assert!(rt; arena.memory_usage() == usage, "the usage at {len}");
     }
     Ok(())
 }
 
-// Whether there is no memory for a region of `bytes` bytes.
-fn is_too_large(alloc: Global, bytes: usize) -> bool
-    requires { 0 < bytes }
-{
-    match Arena::new(alloc, bytes, usize::MAX) {
-        Ok(_arena) => false,
-        Err(error) => error.kind() == LassoErrorKind::FailedAllocation,
-    }
-}
-
 #[test]
 fn no_memory_has_the_greatest_number_of_bytes(rt: HostRuntime) {
-    is_so(&rt, is_too_large(rt.alloc(), usize::MAX), "no such region");
+    let made = Arena::new(rt.alloc(), usize::MAX, usize::MAX);
+    is_so(&rt, refusal_of(made) == Some(MEMORY), "no such region");
 }
-
-// Sizes that no region can have.
 
 // Whether `bytes` bytes are left, and the bucket says that it is full if none is.
 fn has_free(bucket: &Bucket<Global>, bytes: usize) -> bool {
@@ -239,23 +200,11 @@ fn fills_and_is_cleared(rt: HostRuntime) -> Result<(), Fail> {
     Ok(())
 }
 
-// Whether there is no memory for a bucket of `capacity` bytes.
-fn is_no_bucket(alloc: Global, capacity: usize) -> bool
-    requires { 0 < capacity }
-{
-    match Bucket::with_capacity(alloc, capacity) {
-        Ok(bucket) => {
-            drop(bucket);
-            false
-        }
-        Err(error) => error.kind() == LassoErrorKind::FailedAllocation,
-    }
-}
-
 #[test]
 fn no_region_is_so_large(rt: HostRuntime) {
     for capacity in [usize::MAX, isize::MAX as usize + 1] {
-        assert!(rt; is_no_bucket(rt.alloc(), capacity), "{capacity}");
+        let made = Bucket::with_capacity(rt.alloc(), capacity);
+        is_so_at(&rt, refusal_of(made) == Some(MEMORY), capacity);
     }
 }
 

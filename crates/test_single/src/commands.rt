@@ -1,15 +1,13 @@
 //! Runs of commands, with replies worked out by hand.
 use crate::interners::{
-    LIMIT, MEMORY, Small, has_limit, holds, interner, is_so, is_so_at, key_at, of_texts,
+    Host, LIMIT, MEMORY, Small, holds, interner, is_so, is_so_at, key_at, number_of, of_texts,
 };
-use lasso_parts::iter::{Iter, Strings};
 use lasso_parts::json::{JsonError, JsonKey, read_map, write_array, write_map};
 use lasso_parts::keys::{Key, LargeSpur, MicroSpur, MiniSpur, Spur};
 use lasso_parts::util::{FixedState, LassoErrorKind, MemoryLimits};
 use lasso_single::commands::{Command, Reply, run_commands};
 use serde_json::Value;
-use std::alloc::Global;
-use std::process::Abort;
+use std::alloc::{Allocator, Global};
 use std::test::Fail;
 
 type Call<'a> = Command<'a, Spur, FixedState, Global>;
@@ -28,87 +26,33 @@ pub enum Wanted {
     Done,
 }
 
-fn is_key(reply: &Reply<Spur>, number: usize) -> bool {
-    match reply {
-        Reply::Key(key) => key.into_usize() == number,
-        _ => false,
-    }
-}
-
-// Whether the command was refused for this.
-fn is_refused(reply: &Reply<Spur>, kind: LassoErrorKind) -> bool {
-    match reply {
-        Reply::Refused(error) => error.kind() == kind,
-        _ => false,
-    }
-}
-
-fn is_copy(reply: &Reply<Spur>, wanted: &str) -> bool {
-    match reply {
-        Reply::Text(Some(text)) => text.as_str() == wanted,
-        _ => false,
-    }
-}
-
-fn is_found(reply: &Reply<Spur>, number: usize) -> bool {
-    match reply {
-        Reply::Found(Some(key)) => key.into_usize() == number,
-        _ => false,
-    }
-}
-
-fn is_flag(reply: &Reply<Spur>, wanted: bool) -> bool {
-    match reply {
-        Reply::Flag(flag) => *flag == wanted,
-        _ => false,
-    }
-}
-
-fn is_count(reply: &Reply<Spur>, wanted: usize) -> bool {
-    match reply {
-        Reply::Number(number) => *number == wanted,
-        _ => false,
-    }
-}
-
 fn is_wanted(reply: &Reply<Spur>, wanted: Wanted) -> bool {
-    match wanted {
-        Wanted::Key(number) => is_key(reply, number),
-        Wanted::Limit => is_refused(reply, LIMIT),
-        Wanted::Memory => is_refused(reply, MEMORY),
-        Wanted::Found(number) => is_found(reply, number),
-        Wanted::Absent => matches!(reply, Reply::Found(None)),
-        Wanted::Flag(flag) => is_flag(reply, flag),
-        Wanted::Text(text) => is_copy(reply, text),
-        Wanted::Number(number) => is_count(reply, number),
-        Wanted::Done => matches!(reply, Reply::Done),
+    match (reply, wanted) {
+        (Reply::Key(key), Wanted::Key(number)) => key.into_usize() == number,
+        (Reply::Refused(error), Wanted::Limit) => error.kind() == LIMIT,
+        (Reply::Refused(error), Wanted::Memory) => error.kind() == MEMORY,
+        (Reply::Found(key), Wanted::Found(number)) => number_of(*key) == Some(number),
+        (Reply::Found(key), Wanted::Absent) => key.is_none(),
+        (Reply::Flag(flag), Wanted::Flag(wanted)) => *flag == wanted,
+        (Reply::Text(Some(text)), Wanted::Text(wanted)) => text.as_str() == wanted,
+        (Reply::Number(number), Wanted::Number(wanted)) => *number == wanted,
+        (Reply::Done, Wanted::Done) => true,
+        _ => false,
     }
 }
 
-// Whether there is one reply for each wanted one, and it is as wanted.
-pub fn all_wanted(replies: &[Reply<Spur>], wanted: &[Wanted]) -> bool {
-    for (reply, wanted) in replies.iter().zip(wanted) {
-        if !is_wanted(reply, *wanted) {
-            return false;
-        }
-    }
-    replies.len() == wanted.len()
-}
-
-fn are_wanted(rt: &impl Abort, replies: &[Reply<Spur>], wanted: &[Wanted]) {
-    is_so(
-        rt,
-        replies.len() == wanted.len(),
-        "one reply for each command",
-    );
+// Checks that there is one reply for each wanted one, and it is as wanted.
+pub fn are_wanted(rt: &impl Host, replies: &[Reply<Spur>], wanted: &[Wanted]) {
+    let holds = replies.len() == wanted.len();
+    is_so(rt, holds, "one reply for each command");
     for (row, (reply, wanted)) in replies.iter().zip(wanted).enumerate() {
         is_so_at(rt, is_wanted(reply, *wanted), row);
     }
 }
 
 // Runs the commands, and checks the replies.
-fn runs<R: AllocGlobal + Abort>(
-    rt: &R,
+fn runs(
+    rt: &impl Host,
     rodeo: &mut Small,
     commands: &[Call<'_>],
     wanted: &[Wanted],
@@ -118,17 +62,8 @@ fn runs<R: AllocGlobal + Abort>(
     Ok(())
 }
 
-// Runs the commands on an interner with a first bucket of 4 bytes, under a limit of 4 bytes.
-fn runs_on_four_bytes<R: AllocGlobal + Abort>(
-    rt: &R,
-    commands: &[Call<'_>],
-    wanted: &[Wanted],
-) -> Result<(), Fail> {
-    let mut rodeo = interner(rt.alloc(), 4, 4)?;
-    runs(rt, &mut rodeo, commands, wanted)
-}
-
-fn past_the_limit(first: Spur) -> [Call<'static>; 7] {
+// Under a limit of 4 bytes the second text does not fit after the first. After the clear it does.
+pub fn past_the_limit<'a, A: Allocator + 'a>(first: Spur) -> [Command<'a, Spur, FixedState, A>; 7] {
     [
         Command::Intern("abcd"),
         Command::Intern("e"),
@@ -140,7 +75,7 @@ fn past_the_limit(first: Spur) -> [Call<'static>; 7] {
     ]
 }
 
-static PAST_THE_LIMIT: [Wanted; 7] = [
+pub static PAST_THE_LIMIT: [Wanted; 7] = [
     Wanted::Key(0),
     Wanted::Limit,
     Wanted::Done,
@@ -152,8 +87,9 @@ static PAST_THE_LIMIT: [Wanted; 7] = [
 
 #[test]
 fn a_refusal_does_not_end_the_run(rt: HostRuntime) -> Result<(), Fail> {
+    let mut rodeo = interner(rt.alloc(), 4, 4)?;
     let commands = past_the_limit(key_at(0)?);
-    runs_on_four_bytes(&rt, commands.as_slice(), &PAST_THE_LIMIT)
+    runs(&rt, &mut rodeo, commands.as_slice(), &PAST_THE_LIMIT)
 }
 
 fn each_command<'a>(source: &'a Small, second: Spur) -> [Call<'a>; 15] {
@@ -194,20 +130,6 @@ static OF_EACH_COMMAND: [Wanted; 15] = [
     Wanted::Key(3),
 ];
 
-fn runs_each<R: AllocGlobal + Abort>(
-    rt: &R,
-    rodeo: &mut Small,
-    source: &Small,
-) -> Result<(), Fail> {
-    let commands = each_command(source, key_at(1)?);
-    runs(rt, rodeo, commands.as_slice(), &OF_EACH_COMMAND)
-}
-
-fn holds_as_worked(rt: &impl Abort, rodeo: &Small) {
-    holds(rt, rodeo, &["one", "two", "three", "four"], 12);
-    is_so(rt, has_limit(rodeo, 20), "the limit");
-}
-
 // The first bucket has 4 bytes, and the limit is 20. "abc" leaves room for 1 byte, so "defgh" takes a second
 // bucket, of 8 bytes, and the usage is 12. The clear keeps both buckets. The copy puts "one" into the first
 // and "two" into the second, where "three" then fits exactly.
@@ -215,21 +137,11 @@ fn holds_as_worked(rt: &impl Abort, rodeo: &Small) {
 fn each_command_in_one_run(rt: HostRuntime) -> Result<(), Fail> {
     let source = of_texts(rt.alloc(), &["one", "two"])?;
     let mut rodeo = interner(rt.alloc(), 4, usize::MAX)?;
-    runs_each(&rt, &mut rodeo, &source)?;
-    holds_as_worked(&rt, &rodeo);
+    let commands = each_command(&source, key_at(1)?);
+    runs(&rt, &mut rodeo, commands.as_slice(), &OF_EACH_COMMAND)?;
+    holds(&rt, &rodeo, &["one", "two", "three", "four"], 12);
+    is_so(&rt, rodeo.max_memory_usage() == 20, "the limit");
     Ok(())
-}
-
-fn copies_past_the_limit<'a>(source: &'a Small) -> [Call<'a>; 7] {
-    [
-        Command::Intern("abc"),
-        Command::CloneFrom(source),
-        Command::Len,
-        Command::Extend(&["two", "three", "a"]),
-        Command::Len,
-        Command::InternStatic("three"),
-        Command::Get("a"),
-    ]
 }
 
 static OF_COPIES_PAST_THE_LIMIT: [Wanted; 7] = [
@@ -247,64 +159,59 @@ static OF_COPIES_PAST_THE_LIMIT: [Wanted; 7] = [
 #[test]
 fn each_command_past_the_limit(rt: HostRuntime) -> Result<(), Fail> {
     let source = of_texts(rt.alloc(), &["one", "two"])?;
-    let commands = copies_past_the_limit(&source);
-    runs_on_four_bytes(&rt, commands.as_slice(), &OF_COPIES_PAST_THE_LIMIT)
+    let mut rodeo = interner(rt.alloc(), 4, 4)?;
+    let commands = [
+        Command::Intern("abc"),
+        Command::CloneFrom(&source),
+        Command::Len,
+        Command::Extend(&["two", "three", "a"]),
+        Command::Len,
+        Command::InternStatic("three"),
+        Command::Get("a"),
+    ];
+    runs(&rt, &mut rodeo, &commands, &OF_COPIES_PAST_THE_LIMIT)
 }
 
 // Lists and keys as JSON, the printed errors of values that can't be read, and debug output of iterators. Values are
 // read in scripts of `tool_replay`.
 
-// Whether the value is written as this JSON text.
-fn is_written(alloc: Global, value: &Value, wanted: &str) -> Result<bool, Fail> {
-    Ok(value.to_string(alloc)?.as_str() == wanted)
-}
-
 #[test]
 fn written_texts(rt: HostRuntime) -> Result<(), Fail> {
-    let texts = ["b", "a"].as_slice();
-    let value = write_array(rt.alloc(), &texts, 2)?;
-    let is_so_written = is_written(rt.alloc(), &value, r#"["b","a"]"#)?;
-    is_so(&rt, is_so_written, "an array of two texts");
+    let value = write_array(rt.alloc(), &["b", "a"].as_slice(), 2)?;
+    let text = value.to_string(rt.alloc())?;
+    let holds = text.as_str() == r#"["b","a"]"#;
+    is_so(&rt, holds, "an array of two texts");
     Ok(())
-}
-
-// Whether the texts are written as this object.
-fn is_object_written(alloc: Global, texts: &[&str], wanted: &str) -> Result<bool, Fail> {
-    let value = write_map(alloc, &texts, texts.len())?;
-    is_written(alloc, &value, wanted)
 }
 
 #[test]
 fn written_objects(rt: HostRuntime) -> Result<(), Fail> {
-    let none: [&str; 0] = [];
-    let rows = [
-        (none.as_slice(), "{}"),
-        ([""].as_slice(), r#"{"":1}"#),
-        (["b", "a"].as_slice(), r#"{"a":2,"b":1}"#),
-        (["b", "a", "c"].as_slice(), r#"{"a":2,"b":1,"c":3}"#),
+    static ROWS: [(&[&str], &str); 5] = [
+        (&[], "{}"),
+        (&[""], r#"{"":1}"#),
+        (&["b", "a"], r#"{"a":2,"b":1}"#),
+        (&["b", "a", "c"], r#"{"a":2,"b":1,"c":3}"#),
         (
-            ["abc", "defghijk", "x", "yz"].as_slice(),
+            &["abc", "defghijk", "x", "yz"],
             r#"{"abc":1,"defghijk":2,"x":3,"yz":4}"#,
         ),
     ];
-    for (texts, wanted) in rows {
-        assert!(rt; is_object_written(rt.alloc(), texts, wanted)?, "{wanted}");
+    for (texts, wanted) in ROWS.iter() {
+        let value = write_map(rt.alloc(), texts, texts.len())?;
+        let holds = value.to_string(rt.alloc())?.as_str() == *wanted;
+        is_so(&rt, holds, *wanted);
     }
     Ok(())
-}
-
-// Whether the array is no object.
-fn is_no_object(alloc: Global, text: &str) -> Result<bool, Fail> {
-    let value = Value::from_str(alloc, text)?;
-    Ok(read_map::<Spur, Global>(alloc, &value).err() == Some(JsonError::NotAnObject))
 }
 
 // An interner that threads share reads an array as a list, so no script can show this.
 #[test]
 fn arrays_are_no_objects(rt: HostRuntime) -> Result<(), Fail> {
-    is_so(&rt, is_no_object(rt.alloc(), "[]")?, "no text");
-    let two = is_no_object(rt.alloc(), r#"["b", "a"]"#)?;
-    is_so(&rt, two, "two texts");
+    for text in ["[]", r#"["b", "a"]"#] {
+        let value = Value::from_str(rt.alloc(), text)?;
+        let fault = read_map::<Spur, Global>(rt.alloc(), &value).err();
+        is_so(&rt, fault == Some(JsonError::NotAnObject), text);
+    }
     Ok(())
 }
 
@@ -322,11 +229,6 @@ fn number_0_is_written_1(rt: HostRuntime) -> Result<(), Fail> {
     is_so(&rt, first_written::<MicroSpur>(rt.alloc())? == 1, "8 bits");
     is_so(&rt, first_written::<LargeSpur>(rt.alloc())? == 1, "64 bits");
     Ok(())
-}
-
-// Whether the fault prints as the text.
-fn is_printed(alloc: Global, fault: JsonError, wanted: &str) -> Result<bool, Fail> {
-    Ok(format!(in alloc; "{fault}")?.as_str() == wanted)
 }
 
 static FAULTS: [(JsonError, &str); 9] = [
@@ -356,7 +258,8 @@ static FAULTS: [(JsonError, &str); 9] = [
 #[test]
 fn faults_print(rt: HostRuntime) -> Result<(), Fail> {
     for (fault, wanted) in &FAULTS {
-        assert!(rt; is_printed(rt.alloc(), *fault, wanted)?, "{wanted}");
+        let printed = format!(in rt.alloc(); "{fault}")?;
+        is_so(&rt, printed.as_str() == *wanted, *wanted);
     }
     let shown = format!(in rt.alloc(); "{:?}", JsonError::Doubled(2))?;
     is_so(&rt, shown.as_str() == "Doubled(2)", "a fault's debug text");
@@ -365,41 +268,21 @@ fn faults_print(rt: HostRuntime) -> Result<(), Fail> {
 
 // Debug output of the iterators of an interner.
 
-fn walks_print(
-    alloc: Global,
-    strings: &Strings<'_, Spur>,
-    walk: &Iter<'_, Spur>,
-    wanted: &str,
-) -> bool {
-    match format!(in alloc; "{strings:?} {walk:?}") {
-        Ok(printed) => printed.as_str() == wanted,
-        Err(_refusal) => false,
-    }
-}
-
 static OF_WALKS: [&str; 3] = [
     r#"["red", "a\"b"] {Spur(1): "red", Spur(2): "a\"b"}"#,
     r#"["a\"b"] {Spur(2): "a\"b"}"#,
     "[] {}",
 ];
 
-// Checks the debug output of both iterators before the first text, after it and after the second.
-fn walks_over_two<R: AllocGlobal + Abort>(rt: &R, rodeo: &Small) {
-    let mut strings = rodeo.strings();
-    let mut walk = rodeo.iter();
-    for wanted in OF_WALKS.iter() {
-        is_so(
-            rt,
-            walks_print(rt.alloc(), &strings, &walk, *wanted),
-            *wanted,
-        );
-        let _items = (strings.next(), walk.next());
-    }
-}
-
+// The debug output of both iterators before the first text, after it and after the second.
 #[test]
 fn debug_text_of_walks(rt: HostRuntime) -> Result<(), Fail> {
     let rodeo = of_texts(rt.alloc(), &["red", "a\"b"])?;
-    walks_over_two(&rt, &rodeo);
+    let (mut strings, mut walk) = (rodeo.strings(), rodeo.iter());
+    for wanted in OF_WALKS.iter() {
+        let printed = format!(in rt.alloc(); "{strings:?} {walk:?}")?;
+        is_so(&rt, printed.as_str() == *wanted, *wanted);
+        let _items = (strings.next(), walk.next());
+    }
     Ok(())
 }

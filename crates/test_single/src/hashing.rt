@@ -1,6 +1,6 @@
 //! The hash of texts under a seed, against vectors that another program computed, and how many times an interner hashes
 //! a text.
-use crate::interners::{has_count, interns, interns_numbers, interns_static, is_so};
+use crate::interners::{has_count, interns, interns_numbers, is_so, told};
 use lasso_parts::hasher::{TextState, hash_with_seed};
 use lasso_parts::index::hash_text;
 use lasso_parts::keys::Spur;
@@ -10,7 +10,6 @@ use std::alloc::Global;
 use std::cell::Cell;
 use std::hash::{BuildHasher, Hasher};
 use std::io;
-use std::process::Abort;
 use std::random::RandomSource;
 use std::test::Fail;
 use test_common::hashers::CountingState;
@@ -94,16 +93,12 @@ fn hash_at(text: &str, column: usize) -> u64 {
     hash_with_seed(first, second, text)
 }
 
-// Whether the text has these hashes.
-fn has_hashes(alloc: Global, text: &str, wanted: &str) -> Result<bool, Fail> {
-    let (one, two, three) = (hash_at(text, 0), hash_at(text, 1), hash_at(text, 2));
-    Ok(format!(in alloc; "{one:016x} {two:016x} {three:016x}")?.as_str() == wanted)
-}
-
 #[test]
 fn hashes_are_those_of_the_table(rt: HostRuntime) -> Result<(), Fail> {
     for (text, hashes) in &VECTORS {
-        assert!(rt; has_hashes(rt.alloc(), text, hashes)?, "{text}");
+        let (one, two, three) = (hash_at(text, 0), hash_at(text, 1), hash_at(text, 2));
+        let printed = format!(in rt.alloc(); "{one:016x} {two:016x} {three:016x}")?;
+        assert!(rt; printed.as_str() == *hashes, "{text}");
     }
     Ok(())
 }
@@ -175,81 +170,37 @@ fn counted<'a>(alloc: Global, made: &'a Cell<u64>) -> Result<Counted<'a>, Fail> 
     Ok(Rodeo::with_hasher(alloc, CountingState::new(made))?)
 }
 
-fn is_made(made: &Cell<u64>, count: u64) -> bool {
-    made.get() == count
-}
-
-// Whether interning the text returns the key of this number, and the texts that were hashed are then `count`.
-fn interns_once(
-    rodeo: &mut Counted<'_>,
-    text: &str,
-    number: usize,
-    made: &Cell<u64>,
-    count: u64,
-) -> bool {
-    interns(rodeo, text, Ok(number)) && is_made(made, count)
-}
-
-// Whether interning the static text returns the key of this number, and `count` texts were hashed by then.
-fn keeps_once(
-    rodeo: &mut Counted<'_>,
-    text: &'static str,
-    number: usize,
-    made: &Cell<u64>,
-    count: u64,
-) -> bool {
-    interns_static(rodeo, text, Ok(number)) && is_made(made, count)
-}
-
-// Whether the text is not found, and the texts that were hashed are then `count`.
-fn lacks_once(rodeo: &Counted<'_>, text: &str, made: &Cell<u64>, count: u64) -> bool {
-    rodeo.get(text).is_none() && is_made(made, count)
-}
-
-fn hashes_once(rt: &impl Abort, rodeo: &mut Counted<'_>, made: &Cell<u64>) {
-    is_so(rt, is_made(made, 0), "a new interner");
-    is_so(rt, interns_once(rodeo, "a", 0, made, 1), "a new text");
-    is_so(rt, interns_once(rodeo, "a", 0, made, 2), "a present text");
-    is_so(rt, keeps_once(rodeo, "b", 1, made, 3), "a new static text");
-    is_so(
-        rt,
-        keeps_once(rodeo, "b", 1, made, 4),
-        "a present static text",
-    );
-    is_so(rt, lacks_once(rodeo, "c", made, 5), "an absent text");
-}
-
 #[test]
 fn each_call_hashes_its_text_once(rt: HostRuntime) -> Result<(), Fail> {
     let made = Cell::new(0);
     let mut rodeo = counted(rt.alloc(), &made)?;
-    hashes_once(&rt, &mut rodeo, &made);
+    is_so(&rt, made.get() == 0, "a new interner");
+    let holds = interns(&mut rodeo, "a", 0) && made.get() == 1;
+    is_so(&rt, holds, "a new text");
+    let holds = interns(&mut rodeo, "a", 0) && made.get() == 2;
+    is_so(&rt, holds, "a present text");
+    let kept = told(rodeo.try_get_or_intern_static("b"));
+    is_so(&rt, kept == Ok(1) && made.get() == 3, "a new static text");
+    let kept = told(rodeo.try_get_or_intern_static("b"));
+    let holds = kept == Ok(1) && made.get() == 4;
+    is_so(&rt, holds, "a present static text");
+    let is_absent = rodeo.get("c").is_none();
+    is_so(&rt, is_absent && made.get() == 5, "an absent text");
     Ok(())
-}
-
-fn of_a_thousand<'a>(alloc: Global, made: &'a Cell<u64>) -> Result<Counted<'a>, Fail> {
-    let capacity = Capacity::for_strings(1000);
-    Ok(Rodeo::with_capacity_and_hasher(alloc, capacity, CountingState::new(made))?)
-}
-
-fn grows_not<R: AllocGlobal + Abort>(rt: &R, rodeo: &mut Counted<'_>, made: &Cell<u64>) {
-    let room = rodeo.capacity();
-    is_so(rt, room >= 1000, "the room");
-    is_so(
-        rt,
-        interns_numbers(rt.alloc(), rodeo, 1000, 4096),
-        "the texts",
-    );
-    is_so(rt, is_made(made, 1000), "the texts that were hashed");
-    is_so(rt, rodeo.capacity() == room, "the room after them");
 }
 
 // A growing index would hash its texts again, and a growing list would change `capacity()`.
 #[test]
 fn texts_given_room_first_go_in_without_a_growth(rt: HostRuntime) -> Result<(), Fail> {
-    let made = Cell::new(0);
-    let mut rodeo = of_a_thousand(rt.alloc(), &made)?;
-    grows_not(&rt, &mut rodeo, &made);
+    let (made, capacity) = (Cell::new(0), Capacity::for_strings(1000));
+    let state = CountingState::new(&made);
+    let mut rodeo = Counted::with_capacity_and_hasher(rt.alloc(), capacity, state)?;
+    let room = rodeo.capacity();
+    is_so(&rt, room >= 1000, "the room");
+    let are_in = interns_numbers(rt.alloc(), &mut rodeo, 1000, 4096)?;
+    is_so(&rt, are_in, "the texts");
+    is_so(&rt, made.get() == 1000, "the texts that were hashed");
+    is_so(&rt, rodeo.capacity() == room, "the room after them");
     Ok(())
 }
 
@@ -260,73 +211,36 @@ const CLONED: usize = 1030;
 // are as many, 2048, the 3010 of the numbers below 1030 in decimal, and less than 1000 for the list of one bucket.
 const MOST_OF_A_CLONE: usize = 16_480 + 10_240 + 3010 + 1000;
 
-// Whether a clone has these texts, each was hashed once for it, and it took no more room than they need.
-fn is_cloned(rodeo: &Counted<'_>, made: &Cell<u64>) -> Result<bool, Fail> {
-    let before = made.get();
-    let copy = rodeo.try_clone()?;
-    let hashed_once = made.get().saturating_sub(before) == CLONED as u64;
-    Ok(hashed_once && has_count(&copy, CLONED) && copy.allocated_bytes() < MOST_OF_A_CLONE)
-}
-
-fn clones<R: AllocGlobal + Abort>(
-    rt: &R,
-    rodeo: &mut Counted<'_>,
-    made: &Cell<u64>,
-) -> Result<(), Fail> {
-    is_so(
-        rt,
-        interns_numbers(rt.alloc(), rodeo, CLONED, 4096),
-        "the texts",
-    );
-    is_so(rt, is_cloned(rodeo, made)?, "the clone");
-    Ok(())
-}
-
-// A growing index in the clone would hash its texts again, and a growing list would take more room.
+// Each text is hashed once for the clone. A growing index in it would hash its texts again, and a growing list would
+// take more room.
 #[test]
 fn a_clone_has_room_for_its_texts(rt: HostRuntime) -> Result<(), Fail> {
     let made = Cell::new(0);
     let mut rodeo = counted(rt.alloc(), &made)?;
-    clones(&rt, &mut rodeo, &made)
-}
-
-fn of_a_and_b<'a>(alloc: Global, made: &'a Cell<u64>) -> Result<Counted<'a>, Fail> {
-    let mut source = counted(alloc, made)?;
-    source.extend(["a", "b"])?;
-    Ok(source)
+    let are_in = interns_numbers(rt.alloc(), &mut rodeo, CLONED, 4096)?;
+    is_so(&rt, are_in, "the texts");
+    let before = made.get();
+    let copy = rodeo.try_clone()?;
+    let hashed = made.get().saturating_sub(before);
+    is_so(&rt, hashed == CLONED as u64, "the texts that were hashed");
+    is_so(&rt, has_count(&copy, CLONED), "the texts of the clone");
+    is_so(&rt, copy.allocated_bytes() < MOST_OF_A_CLONE, "the room");
+    Ok(())
 }
 
 // Copies an interner of two texts over another. The copy hashes each text once, with the source's hasher, and
 // the target uses that hasher from then on.
-fn copies<'a>(
-    rt: &impl Abort,
-    target: &mut Counted<'a>,
-    source: &Counted<'a>,
-    of_source: &Cell<u64>,
-) -> Result<(), Fail> {
-    is_so(rt, is_made(of_source, 2), "the texts of the source");
-    target.try_clone_from(source)?;
-    is_so(rt, is_made(of_source, 4), "the texts of the copy");
-    is_so(rt, target.contains("b"), "a text of the copy");
-    is_so(rt, is_made(of_source, 5), "a text that is looked up");
-    Ok(())
-}
-
-fn copies_with<'a, R: AllocGlobal + Abort>(
-    rt: &R,
-    of_source: &'a Cell<u64>,
-    of_target: &'a Cell<u64>,
-) -> Result<(), Fail> {
-    let source = of_a_and_b(rt.alloc(), of_source)?;
-    let mut target = counted(rt.alloc(), of_target)?;
-    copies(rt, &mut target, &source, of_source)?;
-    is_so(rt, is_made(of_target, 0), "the hasher that was there");
-    Ok(())
-}
-
 #[test]
 fn a_copy_asks_the_hasher_of_its_source(rt: HostRuntime) -> Result<(), Fail> {
-    let of_source = Cell::new(0);
-    let of_target = Cell::new(0);
-    copies_with(&rt, &of_source, &of_target)
+    let (of_source, of_target) = (Cell::new(0), Cell::new(0));
+    let mut source = counted(rt.alloc(), &of_source)?;
+    source.extend(["a", "b"])?;
+    let mut target = counted(rt.alloc(), &of_target)?;
+    is_so(&rt, of_source.get() == 2, "the texts of the source");
+    target.try_clone_from(&source)?;
+    is_so(&rt, of_source.get() == 4, "the texts of the copy");
+    is_so(&rt, target.contains("b"), "a text of the copy");
+    is_so(&rt, of_source.get() == 5, "a text that is looked up");
+    is_so(&rt, of_target.get() == 0, "the hasher that was there");
+    Ok(())
 }

@@ -3,8 +3,8 @@
 mod batches;
 
 use crate::interners::{
-    KEYS, LIMIT, MEMORY, Small, SpurReader, SpurResolver, both, frozen, has_count, has_key,
-    interner, interns, is_refused, is_so, is_so_at, is_text, key_at, of_texts, resolving, takes,
+    Host, KEYS, LIMIT, MEMORY, Small, SpurReader, SpurResolver, has_count, interner, interns,
+    is_so, is_so_at, key_at, number_of, of_texts, refusal_of,
 };
 use lasso_parts::keys::{Key, Spur};
 use lasso_parts::util::{Capacity, FixedState, LassoResult, MemoryLimits};
@@ -14,48 +14,42 @@ use lasso_single::rodeo::Rodeo;
 use std::alloc::{Allocator, Global};
 use std::hash::BuildHasher;
 use std::iter::repeat_n;
-use std::process::Abort;
 use std::slice::Iter;
 use std::test::Fail;
 use std::thread;
-use std::thread::Threads;
 use test_common::keys::{BelowTwo, Gap};
 use test_common::texts::{is_next, numbered};
 
-// Whether an interner of this capacity is out of memory.
-fn is_too_large(alloc: Global, capacity: Capacity) -> bool {
-    let made: LassoResult<Small> = Rodeo::with_capacity(alloc, capacity);
-    is_refused(made, MEMORY)
-}
-
 #[test]
 fn sizes_that_no_memory_has(rt: HostRuntime) {
-    let bytes = Capacity::for_bytes(usize::MAX);
-    is_so(&rt, is_too_large(rt.alloc(), bytes), "bytes");
-    let strings = Capacity::for_strings(usize::MAX);
-    is_so(&rt, is_too_large(rt.alloc(), strings), "strings");
+    let (bytes, strings) = (
+        Capacity::for_bytes(usize::MAX),
+        Capacity::for_strings(usize::MAX),
+    );
+    let made = refusal_of(Small::with_capacity(rt.alloc(), bytes));
+    is_so(&rt, made == Some(MEMORY), "bytes");
+    let made = refusal_of(Small::with_capacity(rt.alloc(), strings));
+    is_so(&rt, made == Some(MEMORY), "strings");
 }
 
-// Whether the buckets of the new interner take this number of bytes, and still do after two texts of a byte.
-fn has_first_bucket(made: LassoResult<Small>, bytes: usize) -> Result<bool, Fail> {
+// Checks that the buckets of the new interner take this number of bytes, and still do after two texts of a byte.
+fn has_first_bucket(rt: &impl Host, made: LassoResult<Small>, bytes: usize) -> Result<(), Fail> {
     let mut rodeo = made?;
-    Ok(
-        takes(&rodeo, bytes)
-            && interns(&mut rodeo, "a", Ok(0))
-            && takes(&rodeo, bytes)
-            && interns(&mut rodeo, "b", Ok(1))
-            && takes(&rodeo, bytes),
-    )
+    is_so_at(rt, rodeo.current_memory_usage() == bytes, bytes);
+    for (number, text) in ["a", "b"].iter().enumerate() {
+        is_so_at(rt, interns(&mut rodeo, *text, number), bytes);
+        is_so_at(rt, rodeo.current_memory_usage() == bytes, bytes);
+    }
+    Ok(())
 }
 
 #[test]
 fn makers_of_default_size(rt: HostRuntime) -> Result<(), Fail> {
-    let limited = Small::with_memory_limits(rt.alloc(), MemoryLimits::new(4096));
-    is_so(&rt, has_first_bucket(limited, 4096)?, "with limits");
-    let capacity = Capacity::for_bytes(7);
-    let sized = Small::with_capacity_and_hasher(rt.alloc(), capacity, FixedState::new());
-    is_so(&rt, has_first_bucket(sized, 7)?, "with a capacity");
-    Ok(())
+    let limits = MemoryLimits::new(4096);
+    has_first_bucket(&rt, Rodeo::with_memory_limits(rt.alloc(), limits), 4096)?;
+    let (capacity, hasher) = (Capacity::for_bytes(7), FixedState::new());
+    let sized = Rodeo::with_capacity_and_hasher(rt.alloc(), capacity, hasher);
+    has_first_bucket(&rt, sized, 7)
 }
 
 // Makes an interner by the maker of this number. The first four have room for 1000 texts, the others for fifty, which
@@ -82,17 +76,14 @@ const THOUSAND: (usize, usize) = (1000, 16_000 + 10_240 + 4096 + 1000);
 
 const FIFTY: (usize, usize) = (50, 800 + 640 + 4096 + 1000);
 
-// Whether this number of texts fits in the new interner before its list grows, and it takes fewer bytes than these.
-fn has_room(made: LassoResult<Small>, room: (usize, usize)) -> Result<bool, Fail> {
-    let rodeo = made?;
-    Ok(rodeo.capacity() >= room.0 && rodeo.allocated_bytes() < room.1)
-}
-
+// The texts fit in the new interner before its list grows, and it takes fewer bytes than these.
 #[test]
 fn makers_have_room_for_a_number_of_texts(rt: HostRuntime) -> Result<(), Fail> {
     for maker in 0..8usize {
-        let room = if maker < 4 { THOUSAND } else { FIFTY };
-        is_so_at(&rt, has_room(made_by(rt.alloc(), maker), room)?, maker);
+        let (texts, bytes) = if maker < 4 { THOUSAND } else { FIFTY };
+        let rodeo = made_by(rt.alloc(), maker)?;
+        is_so_at(&rt, rodeo.capacity() >= texts, maker);
+        is_so_at(&rt, rodeo.allocated_bytes() < bytes, maker);
     }
     Ok(())
 }
@@ -101,27 +92,16 @@ fn makers_have_room_for_a_number_of_texts(rt: HostRuntime) -> Result<(), Fail> {
 
 type Keyless = Rodeo<Gap<0>, FixedState, Global>;
 
-fn fill_without_end(rodeo: &mut Small) -> LassoResult<()> {
-    rodeo.extend(repeat_n("abcde", usize::MAX))
-}
-
-fn keyless_of_no_end(alloc: Global) -> LassoResult<Keyless> {
-    Keyless::from_iter(alloc, repeat_n("pp", usize::MAX))
-}
-
 // The size hint is more than memory can hold. That is no error: the error is that of the first item, which
 // the limit or the key type refuses.
 #[test]
 fn a_hint_past_all_memory(rt: HostRuntime) -> Result<(), Fail> {
     let mut rodeo = interner::<Spur>(rt.alloc(), 4, 4)?;
-    is_so(
-        &rt,
-        is_refused(fill_without_end(&mut rodeo), LIMIT),
-        "the limit",
-    );
+    let refusal = refusal_of(rodeo.extend(repeat_n("abcde", usize::MAX)));
+    is_so(&rt, refusal == Some(LIMIT), "the limit");
     is_so(&rt, has_count(&rodeo, 0), "no text");
-    let made = keyless_of_no_end(rt.alloc());
-    is_so(&rt, is_refused(made, KEYS), "the key type");
+    let refusal = refusal_of(Keyless::from_iter(rt.alloc(), repeat_n("pp", usize::MAX)));
+    is_so(&rt, refusal == Some(KEYS), "the key type");
     Ok(())
 }
 
@@ -133,57 +113,33 @@ const ITEMS: usize = 5_005;
 // Which item the limit refuses, counted from 1.
 const REFUSED: [usize; 3] = [1, 40, 5_000];
 
-fn extends(rodeo: &mut Small, items: &mut Iter<'_, String>) -> LassoResult<()> {
-    rodeo.extend(items)
-}
-
-fn extends_from(rodeo: &mut Small, items: &mut Iter<'_, String>) -> LassoResult<()> {
-    rodeo.extend_from(items)
-}
-
-// Whether an interner with room for the items before the refused one has just these, and the items go on after it.
-fn stops_at(
-    alloc: Global,
-    texts: &[String],
-    refused: usize,
-    is_lent_at_once: bool,
-) -> LassoResult<bool> {
-    let before = refused.saturating_sub(1);
-    let bytes = before.saturating_mul(5).max(1);
-    let mut rodeo = interner::<Spur>(alloc, bytes, bytes)?;
-    let mut items = texts.iter();
-    let outcome = if is_lent_at_once {
-        extends_from(&mut rodeo, &mut items)
-    } else {
-        extends(&mut rodeo, &mut items)
-    };
-    Ok(is_refused(outcome, LIMIT) && rodeo.len() == before && is_next(&mut items, texts, refused))
+// An interner with room for the items before the refused one gets just these by the call, and the items go on after
+// it.
+fn stops_at_each<F: Fn(&mut Small, &mut Iter<'_, String>) -> LassoResult<()> + Drop>(
+    rt: &impl Host,
+    extends: F,
+) -> Result<(), Fail> {
+    let texts = numbered(rt.alloc(), ITEMS)?;
+    for refused in REFUSED {
+        let before = refused.saturating_sub(1);
+        let bytes = before.saturating_mul(5).max(1);
+        let mut rodeo = interner::<Spur>(rt.alloc(), bytes, bytes)?;
+        let mut items = texts.iter();
+        let refusal = refusal_of(extends(&mut rodeo, &mut items));
+        is_so_at(rt, refusal == Some(LIMIT) && rodeo.len() == before, refused);
+        is_so_at(rt, is_next(&mut items, &texts, refused), refused);
+    }
+    Ok(())
 }
 
 #[test]
 fn extend_leaves_lent_items_after_the_refused_one(rt: HostRuntime) -> Result<(), Fail> {
-    let texts = numbered(rt.alloc(), ITEMS)?;
-    for refused in REFUSED {
-        let stops = stops_at(rt.alloc(), &texts, refused, false)?;
-        is_so_at(&rt, stops, refused);
-    }
-    Ok(())
+    stops_at_each(&rt, |rodeo, items| rodeo.extend(items))
 }
 
 #[test]
 fn extend_from_leaves_its_items_after_the_refused_one(rt: HostRuntime) -> Result<(), Fail> {
-    let texts = numbered(rt.alloc(), ITEMS)?;
-    for refused in REFUSED {
-        let stops = stops_at(rt.alloc(), &texts, refused, true)?;
-        is_so_at(&rt, stops, refused);
-    }
-    Ok(())
-}
-
-type Two = Rodeo<BelowTwo, FixedState, Global>;
-
-fn two_of(alloc: Global, items: &mut Iter<'_, String>) -> LassoResult<Two> {
-    Two::from_iter(alloc, items)
+    stops_at_each(&rt, |rodeo, items| rodeo.extend_from(items))
 }
 
 // There are two keys, so the third item is refused.
@@ -191,26 +147,19 @@ fn two_of(alloc: Global, items: &mut Iter<'_, String>) -> LassoResult<Two> {
 fn from_iter_leaves_lent_items_after_the_refused_one(rt: HostRuntime) -> Result<(), Fail> {
     let texts = numbered(rt.alloc(), ITEMS)?;
     let mut items = texts.iter();
-    let refused = is_refused(two_of(rt.alloc(), &mut items), KEYS);
-    is_so(&rt, refused, "the third item");
+    let two = Rodeo::<BelowTwo, FixedState, Global>::from_iter(rt.alloc(), items.by_ref());
+    is_so(&rt, refusal_of(two) == Some(KEYS), "the third item");
     is_so(&rt, is_next(&mut items, &texts, 3), "the fourth");
     Ok(())
 }
 
-// Readers in two threads.
-
-fn has_at(reader: &SpurReader, position: usize, text: &str) -> bool {
-    match reader.get(text) {
-        Some(key) => key.into_usize() == position,
-        None => false,
-    }
-}
+// Readers and resolvers in two threads.
 
 // Whether "A" is there with key 0, and no other key stands for a text.
 fn has_a_alone(reader: &SpurReader, near: Spur, far: Spur) -> bool {
-    has_at(reader, 0, "A")
+    number_of(reader.get("A")) == Some(0)
         && reader.get("F").is_none()
-        && is_text(reader.try_resolve(near), "A")
+        && reader.try_resolve(near) == Some("A")
         && reader.try_resolve(far).is_none()
 }
 
@@ -225,37 +174,25 @@ fn crosses<K: Key + Send + Sync, S: BuildHasher + Send + Sync, A: Allocator + Se
     is_shared(&reader.strings());
 }
 
-fn in_two_threads(rt: &impl Threads, reader: &SpurReader, near: Spur, far: Spur) -> (bool, bool) {
-    thread::join(
-        rt,
-        || has_a_alone(reader, near, far),
-        || has_a_alone(reader, near, far),
-    )
-}
-
-fn share<R: Threads + Abort>(rt: &R, reader: &SpurReader) -> Result<(), Fail> {
-    let (near, far) = (key_at(0)?, key_at(10)?);
-    is_so(
-        rt,
-        both(in_two_threads(rt, reader, near, far)),
-        "two threads",
-    );
-    is_so(rt, has_a_alone(reader, near, far), "one thread");
-    Ok(())
+// Fails unless this holds in two threads, and then in one.
+fn in_two_threads<F: Fn() -> bool + Sync + Drop>(rt: &impl Host, holds: F) {
+    let (here, there) = thread::join(rt, || holds(), || holds());
+    is_so(rt, here && there, "two threads");
+    is_so(rt, holds(), "one thread");
 }
 
 #[test]
 fn two_threads_share_a_reader(rt: HostRuntime) -> Result<(), Fail> {
-    let reader = frozen(of_texts(rt.alloc(), &["A"])?);
+    let reader = of_texts(rt.alloc(), &["A"])?.into_reader();
     crosses(&reader);
-    share(&rt, &reader)
+    let (near, far) = (key_at(0)?, key_at(10)?);
+    in_two_threads(&rt, || has_a_alone(&reader, near, far));
+    Ok(())
 }
-
-// Resolvers in two threads.
 
 // Whether the key `near` stands for "A", and the key `far` for no text.
 fn resolves_a_alone(resolver: &SpurResolver, near: Spur, far: Spur) -> bool {
-    is_text(resolver.try_resolve(near), "A") && resolver.try_resolve(far).is_none()
+    resolver.try_resolve(near) == Some("A") && resolver.try_resolve(far).is_none()
 }
 
 // A resolver is `Send` and `Sync` if the keys and the allocator are.
@@ -265,35 +202,14 @@ fn resolver_crosses<K: Key + Send + Sync, A: Allocator + Send + Sync>(
     is_shared(resolver);
 }
 
-fn resolver_in_two_threads(
-    rt: &impl Threads,
-    resolver: &SpurResolver,
-    near: Spur,
-    far: Spur,
-) -> (bool, bool) {
-    thread::join(
-        rt,
-        || resolves_a_alone(resolver, near, far),
-        || resolves_a_alone(resolver, near, far),
-    )
-}
-
-fn share_resolver<R: Threads + Abort>(rt: &R, resolver: &SpurResolver) -> Result<(), Fail> {
-    let (near, far) = (key_at(0)?, key_at(10)?);
-    is_so(
-        rt,
-        both(resolver_in_two_threads(rt, resolver, near, far)),
-        "two threads",
-    );
-    is_so(rt, resolves_a_alone(resolver, near, far), "one thread");
-    Ok(())
-}
-
 #[test]
 fn two_threads_share_a_resolver(rt: HostRuntime) -> Result<(), Fail> {
     let rodeo = of_texts(rt.alloc(), &["A"])?;
-    is_so(&rt, has_key(&rodeo, "A", 0), "the key of the text");
-    let resolver = resolving(rodeo);
+    let holds = number_of(rodeo.get("A")) == Some(0);
+    is_so(&rt, holds, "the key of the text");
+    let resolver = rodeo.into_resolver();
     resolver_crosses(&resolver);
-    share_resolver(&rt, &resolver)
+    let (near, far) = (key_at(0)?, key_at(10)?);
+    in_two_threads(&rt, || resolves_a_alone(&resolver, near, far));
+    Ok(())
 }

@@ -1,12 +1,11 @@
 //! Key types, capacities, limits and errors: ranges, order, hash, printed forms, and a user's own key type.
-use crate::interners::is_so;
+use crate::interners::{Host, is_so};
 use lasso_parts::arena::Arena;
 use lasso_parts::keys::{Key, LargeSpur, MicroSpur, MiniSpur, Spur};
 use lasso_parts::util::{Capacity, LassoError, LassoErrorKind, MemoryLimits};
 use std::alloc::Global;
 use std::cmp::{Ord, Ordering};
 use std::hash::{DefaultHasher, Hash, Hasher};
-use std::process::Abort;
 use std::test::Fail;
 use test_common::keys::Below;
 
@@ -23,78 +22,41 @@ fn ends_at<K: Key>(last: usize, next: usize) -> bool {
     number_of::<K>(last) == Some(last) && number_of::<K>(next) == None
 }
 
-// Whether the number 0 has a key, which gives it back.
-fn has_zero<K: Key>() -> bool {
-    number_of::<K>(0) == Some(0)
-}
-
 #[test]
 fn ranges_of_the_key_types(rt: HostRuntime) {
-    is_so(&rt, has_zero::<Spur>(), "0");
+    let large = ends_at::<LargeSpur>(usize::MAX - 1, usize::MAX);
+    is_so(&rt, number_of::<Spur>(0) == Some(0), "0");
     is_so(&rt, ends_at::<Spur>(4294967294, 4294967295), "32 bits");
     is_so(&rt, ends_at::<MiniSpur>(65534, 65535), "16 bits");
     is_so(&rt, ends_at::<MicroSpur>(254, 255), "8 bits");
-    is_so(
-        &rt,
-        ends_at::<LargeSpur>(usize::MAX - 1, usize::MAX),
-        "64 bits",
-    );
-    own_range(&rt);
-}
-
-// Looks at the range of a user's own key type.
-fn own_range(rt: &impl Abort) {
-    is_so(rt, has_zero::<NicheKey>(), "0 of a user's own");
-    is_so(
-        rt,
-        ends_at::<NicheKey>(4278190079, 4278190080),
-        "a user's own",
-    );
-    is_so(
-        rt,
-        number_of::<NicheKey>(4294967295).is_none(),
-        "past a user's own",
-    );
+    is_so(&rt, large, "64 bits");
+    let own = ends_at::<NicheKey>(4278190079, 4278190080);
+    let holds = number_of::<NicheKey>(0) == Some(0);
+    is_so(&rt, holds, "0 of a user's own");
+    is_so(&rt, own, "a user's own");
+    let past = number_of::<NicheKey>(4294967295);
+    is_so(&rt, past.is_none(), "past a user's own");
 }
 
 #[test]
 fn defaults_are_number_0(rt: HostRuntime) {
     let (spur, mini) = (Spur::default(), MiniSpur::default());
     let (micro, large) = (MicroSpur::default(), LargeSpur::default());
-    is_so(
-        &rt,
-        spur.into_usize() == 0 && spur.into_inner() == 1,
-        "32 bits",
-    );
-    is_so(
-        &rt,
-        mini.into_usize() == 0 && mini.into_inner() == 1,
-        "16 bits",
-    );
-    is_so(
-        &rt,
-        micro.into_usize() == 0 && micro.into_inner() == 1,
-        "8 bits",
-    );
-    is_so(
-        &rt,
-        large.into_usize() == 0 && large.into_inner() == 1,
-        "64 bits",
-    );
-}
-
-// Prints a key of each type.
-fn printed(alloc: Global) -> Result<String, Fail> {
-    let last = MicroSpur::try_from_usize(254).ok_or("no key")?;
-    let spur = Spur::default();
-    let mini = MiniSpur::default();
-    let large = LargeSpur::default();
-    Ok(format!(in alloc; "{spur:?} {mini:?} {last:?} {large:?}")?)
+    let holds = spur.into_usize() == 0 && spur.into_inner() == 1;
+    is_so(&rt, holds, "32 bits");
+    let holds = mini.into_usize() == 0 && mini.into_inner() == 1;
+    is_so(&rt, holds, "16 bits");
+    let holds = micro.into_usize() == 0 && micro.into_inner() == 1;
+    is_so(&rt, holds, "8 bits");
+    let holds = large.into_usize() == 0 && large.into_inner() == 1;
+    is_so(&rt, holds, "64 bits");
 }
 
 #[test]
 fn debug_shows_the_kept_number(rt: HostRuntime) -> Result<(), Fail> {
-    let printed = printed(rt.alloc())?;
+    let last = MicroSpur::try_from_usize(254).ok_or("no key")?;
+    let (spur, mini, large) = (Spur::default(), MiniSpur::default(), LargeSpur::default());
+    let printed = format!(in rt.alloc(); "{spur:?} {mini:?} {last:?} {large:?}")?;
     assert!(rt; printed.as_str() == "Spur(1) MiniSpur(1) MicroSpur(255) LargeSpur(1)");
     Ok(())
 }
@@ -123,14 +85,14 @@ fn has_own_hash<T: Hash>(value: &T, other: &T) -> bool {
 }
 
 // Checks that the lesser comes first, that its hash is always the same, and that the other hash differs.
-fn are_apart<T: Ord + Hash + Copy>(rt: &impl Abort, lesser: T, greater: T, what: &str) {
+fn are_apart<T: Ord + Hash + Copy>(rt: &impl Host, lesser: T, greater: T, what: &str) {
     is_so(rt, is_less(lesser, greater), what);
     is_so(rt, has_own_hash(&lesser, &greater), what);
 }
 
 // The keys of 7 and of the last number are apart.
 fn keys_are_apart<K: Key + Ord + Hash + Copy>(
-    rt: &impl Abort,
+    rt: &impl Host,
     last: usize,
     what: &str,
 ) -> Result<(), Fail> {
@@ -247,26 +209,9 @@ fn capacities_and_limits(rt: HostRuntime) {
     for (capacity, strings, bytes) in rows {
         assert!(rt; has_room(capacity, strings, bytes), "{capacity:?}");
     }
-    limit(&rt);
-}
-
-// Whether the limit is `bytes` bytes.
-fn has_limit(limits: MemoryLimits, bytes: usize) -> bool {
-    limits.max_memory_usage() == bytes
-}
-
-// Looks at limits.
-fn limit(rt: &impl Abort) {
-    let low = MemoryLimits::new(12);
-    is_so(
-        rt,
-        has_limit(MemoryLimits::default(), usize::MAX),
-        "default",
-    );
-    is_so(rt, has_limit(low, 12), "new");
-    is_so(
-        rt,
-        has_limit(MemoryLimits::for_memory_usage(13), 13),
-        "for_memory_usage",
-    );
+    let holds = MemoryLimits::default().max_memory_usage() == usize::MAX;
+    is_so(&rt, holds, "default");
+    is_so(&rt, MemoryLimits::new(12).max_memory_usage() == 12, "new");
+    let limits = MemoryLimits::for_memory_usage(13);
+    is_so(&rt, limits.max_memory_usage() == 13, "for_memory_usage");
 }

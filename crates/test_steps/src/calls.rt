@@ -1,7 +1,7 @@
-//! Calls of an interner that threads share, each in a function of its own. These functions do not repeat the
-//! contracts of the calls, so a test of many calls is proved as fast as one of few.
-ghost use Rattle.std.specs.Prelude.{◌≡◌, ◌<◌};
+//! Calls of an interner that threads share, without a pass and by two passes of it.
+ghost use Rattle.std.specs.Prelude.{◌≡◌};
 
+use crate::Host;
 use lasso_log::log::Pass;
 use lasso_parts::keys::{Key, Spur};
 use lasso_parts::util::{Capacity, FixedState, LassoErrorKind, LassoResult, MemoryLimits};
@@ -12,6 +12,7 @@ use std::hash::BuildHasher;
 use std::mem::swap;
 use std::sync::Wait;
 use std::test::*;
+use std::thread::yield_now;
 
 /// An interner with the default keys and hasher.
 pub type Shared = ThreadedRodeo<Spur, FixedState>;
@@ -29,148 +30,22 @@ pub fn limited<K: Key>(
     alloc: Global,
     bytes: usize,
     limit: usize,
-) -> Result<ThreadedRodeo<K, FixedState>, Fail>
-    requires { 0 < bytes }
-{
-    let room = Capacity::for_bytes(bytes);
-    let limits = MemoryLimits::new(limit);
-    Ok(ThreadedRodeo::with_capacity_and_memory_limits(alloc, room, limits)?)
+) -> LassoResult<ThreadedRodeo<K, FixedState>> {
+    let (room, limits) = (Capacity::for_bytes(bytes), MemoryLimits::new(limit));
+    ThreadedRodeo::with_capacity_and_memory_limits(alloc, room, limits)
 }
 
-/// An interner with a first bucket of `bytes` bytes, without a limit.
-pub fn with_bytes<K: Key>(alloc: Global, bytes: usize) -> Result<ThreadedRodeo<K, FixedState>, Fail>
-    requires { 0 < bytes }
-{
-    Ok(ThreadedRodeo::with_capacity(alloc, Capacity::for_bytes(bytes))?)
-}
-
-/// An interner of default capacity and limit, with a hasher of `S`.
-pub fn hashed<K: Key, S: BuildHasher + Default + Drop>(
-    alloc: Global,
-) -> Result<ThreadedRodeo<K, S>, Fail> {
-    Ok(ThreadedRodeo::with_hasher(alloc, S::default())?)
-}
-
-/// How many texts the interner has.
-pub fn len<K: Key, S: BuildHasher + Drop>(shared: &ThreadedRodeo<K, S>) -> usize {
-    shared.len()
-}
-
-/// How many bytes all buckets take.
-pub fn usage<K: Key, S: BuildHasher + Drop, R: Wait>(
-    rt: &R,
-    shared: &ThreadedRodeo<K, S>,
-) -> usize {
-    shared.current_memory_usage(rt)
-}
-
-/// How many bytes the list, the indexes and the buckets take.
-pub fn allocated<K: Key, S: BuildHasher + Drop, R: Wait>(
-    rt: &R,
-    shared: &ThreadedRodeo<K, S>,
-) -> usize {
-    shared.allocated_bytes(rt)
-}
-
-/// The limit: how many bytes all buckets may take.
-pub fn limit<K: Key, S: BuildHasher + Drop, R: Wait>(
-    rt: &R,
-    shared: &ThreadedRodeo<K, S>,
-) -> usize {
-    shared.max_memory_usage(rt)
-}
-
-/// Sets the limit.
-pub fn set_limit<K: Key, S: BuildHasher + Drop, R: Wait>(
-    rt: &R,
-    shared: &ThreadedRodeo<K, S>,
-    bytes: usize,
-) {
-    shared.set_memory_limits(rt, MemoryLimits::new(bytes));
-}
-
-/// Whether the text is present.
-pub fn contains<K: Key, S: BuildHasher + Drop, R: Wait>(
-    rt: &R,
-    shared: &ThreadedRodeo<K, S>,
-    text: &str,
-) -> bool {
-    shared.contains(rt, text)
-}
-
-/// The number of the text, if it is present.
-pub fn found<K: Key, S: BuildHasher + Drop, R: Wait>(
-    rt: &R,
-    shared: &ThreadedRodeo<K, S>,
-    text: &str,
-) -> Option<usize> {
-    match shared.get(rt, text) {
+/// The number of the key, if there is one.
+pub fn number_of<K: Key>(key: Option<K>) -> Option<usize> {
+    match key {
         Some(key) => Some(key.into_usize()),
         None => None,
     }
 }
 
-/// The key with this number.
-pub fn key<K: Key>(number: usize) -> Result<K, Fail> {
-    Ok(K::try_from_usize(number).ok_or("no key")?)
-}
-
-/// The text that the key with this number stands for.
-pub fn text_at<K: Key, S: BuildHasher + Drop>(
-    shared: &ThreadedRodeo<K, S>,
-    number: usize,
-) -> Result<Option<&str>, Fail> {
-    Ok(shared.try_resolve(key(number)?))
-}
-
-/// Interns a copied text, and returns its number.
-pub fn copied<K: Key, S: BuildHasher + Drop, R: Wait>(
-    rt: &R,
-    shared: &ThreadedRodeo<K, S>,
-    text: &str,
-) -> LassoResult<usize> {
-    Ok(shared.try_get_or_intern(rt, text)?.into_usize())
-}
-
-/// Interns a static text, and returns its number.
-pub fn kept<K: Key, S: BuildHasher + Drop, R: Wait>(
-    rt: &R,
-    shared: &ThreadedRodeo<K, S>,
-    text: &'static str,
-) -> LassoResult<usize> {
-    Ok(shared.try_get_or_intern_static(rt, text)?.into_usize())
-}
-
-/// Interns a copied text by `get_or_intern`, and returns its number.
-pub fn copied_so<K: Key, S: BuildHasher + Drop, R: Wait>(
-    rt: &R,
-    shared: &ThreadedRodeo<K, S>,
-    text: &str,
-) -> LassoResult<usize> {
-    Ok(shared.get_or_intern(rt, text)?.into_usize())
-}
-
-/// Interns a static text by `get_or_intern_static`, and returns its number.
-pub fn kept_so<K: Key, S: BuildHasher + Drop, R: Wait>(
-    rt: &R,
-    shared: &ThreadedRodeo<K, S>,
-    text: &'static str,
-) -> LassoResult<usize> {
-    Ok(shared.get_or_intern_static(rt, text)?.into_usize())
-}
-
-/// Interns a copied text, again if memory runs out. Returns its number, or why it was refused.
-pub fn number<K: Key, S: BuildHasher + Drop, R: Wait>(
-    rt: &R,
-    shared: &ThreadedRodeo<K, S>,
-    text: &str,
-) -> Result<usize, LassoErrorKind> {
-    match copied(rt, shared, text) {
-        Err(error) if error.kind() == LassoErrorKind::FailedAllocation => {
-            answered(copied(rt, shared, text))
-        }
-        reply => answered(reply),
-    }
+/// The number of the key that the call returned.
+pub fn numbered<K: Key>(reply: LassoResult<K>) -> LassoResult<usize> {
+    Ok(reply?.into_usize())
 }
 
 /// The value of the call, or why it was refused.
@@ -181,6 +56,15 @@ pub fn answered<T>(reply: LassoResult<T>) -> Result<T, LassoErrorKind> {
     }
 }
 
+/// Why the call was refused, if it was. Out of memory is an error.
+pub fn refusal_of<T: Drop>(reply: LassoResult<T>) -> LassoResult<Option<LassoErrorKind>> {
+    match reply {
+        Ok(_answer) => Ok(None),
+        Err(error) if error.kind().is_failed_alloc() => Err(error),
+        Err(error) => Ok(Some(error.kind())),
+    }
+}
+
 /// A new pass of the interner.
 pub fn pass_of<K: Key, S: BuildHasher + Drop>(shared: &ThreadedRodeo<K, S>) -> Pass<K>
     ensures { result.of ≡ shared.now }
@@ -188,49 +72,49 @@ pub fn pass_of<K: Key, S: BuildHasher + Drop>(shared: &ThreadedRodeo<K, S>) -> P
     shared.pass()
 }
 
-/// Interns a static text by the pass.
-pub fn kept_as<K: Key, S: BuildHasher + Drop, R: Wait>(
-    rt: &R,
-    shared: &ThreadedRodeo<K, S>,
-    pass: &mut Pass<K>,
-    text: &'static str,
-) -> LassoResult<K>
-    requires { pass.old.of ≡ shared.now }
-    ensures { pass.new.of ≡ pass.old.of }
-{
-    shared.try_get_or_intern_static_as(rt, pass, text)
+/// Makes the call, which does not wait, again until nobody is in the way.
+pub fn until_free<T, F: FnMut() -> Option<T> + Drop>(rt: &impl Host, mut call: F) -> T {
+    for _ in rt.forever() {
+        if let Some(reply) = call() {
+            return reply;
+        }
+        yield_now();
+    }
+    unreachable!()
 }
 
 /// An interner with a pass of it, which its calls are made by, and with another pass.
 #[derive(Drop)]
-pub struct Caller<'a, K: Key, S: BuildHasher + Drop> {
+pub struct Caller<'a, K: Key, S: BuildHasher + Drop, R: Host> {
+    /// What its calls need.
+    pub rt: &'a R,
     /// The interner.
     pub shared: &'a ThreadedRodeo<K, S>,
     pass: Pass<K>,
     other: Pass<K>,
-    ghost of: { pass.of ≡ shared.now },
-    ghost others: { other.of ≡ shared.now },
 }
 
-/// Of an interner with the default keys and hasher.
-pub type DefaultCaller<'a> = Caller<'a, Spur, FixedState>;
-
-impl<'a, K: Key, S: BuildHasher + Drop> Caller<'a, K, S> {
+impl<'a, K: Key, S: BuildHasher + Drop, R: Host> Caller<'a, K, S, R> {
     /// Two new passes of the interner.
-    pub fn new(shared: &'a ThreadedRodeo<K, S>) -> Self {
+    pub fn new(rt: &'a R, shared: &'a ThreadedRodeo<K, S>) -> Self {
+        let (pass, other) = (shared.pass(), shared.pass());
         Caller {
+            rt,
             shared,
-            pass: shared.pass(),
-            other: shared.pass(),
+            pass,
+            other,
         }
     }
 
     /// Two new passes that keep hints. Out of memory they keep none.
-    pub fn hinted(alloc: Global, shared: &'a ThreadedRodeo<K, S>) -> Self {
+    pub fn hinted(rt: &'a R, shared: &'a ThreadedRodeo<K, S>) -> Self {
+        let pass = shared.pass_with_hints(rt.alloc());
+        let other = shared.pass_with_hints(rt.alloc());
         Caller {
+            rt,
             shared,
-            pass: shared.pass_with_hints(alloc),
-            other: shared.pass_with_hints(alloc),
+            pass,
+            other,
         }
     }
 
@@ -260,56 +144,43 @@ impl<'a, K: Key, S: BuildHasher + Drop> Caller<'a, K, S> {
     }
 
     /// Interns a static text.
-    pub fn kept<R: Wait>(&mut self, rt: &R, text: &'static str) -> LassoResult<K> {
+    pub fn kept(&mut self, text: &'static str) -> LassoResult<K> {
         self.shared
-            .try_get_or_intern_static_as(rt, &mut self.pass, text)
+            .try_get_or_intern_static_as(self.rt, &mut self.pass, text)
     }
 
     /// Interns a copied text.
-    pub fn copied<R: Wait>(&mut self, rt: &R, text: &str) -> LassoResult<K> {
-        self.shared.try_get_or_intern_as(rt, &mut self.pass, text)
+    pub fn copied(&mut self, text: &str) -> LassoResult<K> {
+        self.shared
+            .try_get_or_intern_as(self.rt, &mut self.pass, text)
     }
 
-    /// Interns a copied text without waiting. `None` if others are in the way.
-    pub fn copied_now(&mut self, text: &str) -> Option<LassoResult<K>> {
-        self.shared.intern_now_as(&mut self.pass, text)
+    /// Interns a copied text without waiting, again until nobody is in the way.
+    pub fn copied_now(&mut self, text: &str) -> LassoResult<K> {
+        let (shared, pass) = (self.shared, &mut self.pass);
+        until_free(self.rt, || shared.intern_now_as(pass, text))
     }
 
-    /// The number of the text, if it is present, without waiting. `None` if others are in the way.
-    pub fn found_now(&mut self, text: &str) -> Option<Option<usize>> {
-        match self.shared.get_now_as(&mut self.pass, text)? {
-            Some(key) => Some(Some(key.into_usize())),
-            None => Some(None),
-        }
+    /// The number of the text, if it is present, without waiting, again until nobody is in the way.
+    pub fn found_now(&mut self, text: &str) -> Option<usize> {
+        let (shared, pass) = (self.shared, &mut self.pass);
+        number_of(until_free(self.rt, || shared.get_now_as(pass, text)))
     }
 
     /// The number of the text, if it is present.
-    pub fn found<R: Wait>(&mut self, rt: &R, text: &str) -> Option<usize> {
-        match self.shared.get_as(rt, &mut self.pass, text) {
-            Some(key) => Some(key.into_usize()),
-            None => None,
-        }
+    pub fn found(&mut self, text: &str) -> Option<usize> {
+        number_of(self.shared.get_as(self.rt, &mut self.pass, text))
     }
 
     /// Interns the texts by one call, and appends their keys.
-    pub fn interned_all<R: Wait>(
-        &mut self,
-        rt: &R,
-        texts: &[&str],
-        keys: &mut Vec<K>,
-    ) -> LassoResult<()> {
+    pub fn interned_all(&mut self, texts: &[&str], keys: &mut Vec<K>) -> LassoResult<()> {
         self.shared
-            .try_get_or_intern_all_as(rt, &mut self.pass, texts, keys)
+            .try_get_or_intern_all_as(self.rt, &mut self.pass, texts, keys)
     }
 
     /// Looks the texts up by one call, and appends what is found.
-    pub fn found_all<R: Wait>(
-        &mut self,
-        rt: &R,
-        texts: &[&str],
-        keys: &mut Vec<Option<K>>,
-    ) -> LassoResult<()> {
-        self.shared.get_all_as(rt, &mut self.pass, texts, keys)
+    pub fn found_all(&mut self, texts: &[&str], keys: &mut Vec<Option<K>>) -> LassoResult<()> {
+        self.shared.get_all_as(self.rt, &mut self.pass, texts, keys)
     }
 
     /// Whether there is a text of this key.
@@ -329,28 +200,54 @@ impl<'a, K: Key, S: BuildHasher + Drop> Caller<'a, K, S> {
     }
 
     /// The limit and the usage.
-    pub fn sums<R: Wait>(&mut self, rt: &R) -> (usize, usize) {
-        let limit = self.shared.max_memory_usage_as(rt, &mut self.pass);
+    pub fn sums(&mut self) -> (usize, usize) {
+        let limit = self.shared.max_memory_usage_as(self.rt, &mut self.pass);
         (
             limit,
-            self.shared.current_memory_usage_as(rt, &mut self.pass),
+            self.shared.current_memory_usage_as(self.rt, &mut self.pass),
         )
     }
 
-    /// The limit and the usage, without waiting. `None` if others are in the way.
-    pub fn sums_now(&mut self) -> Option<(usize, usize)> {
-        let limit = self.shared.max_memory_usage_now_as(&mut self.pass)?;
-        let usage = self.shared.current_memory_usage_now_as(&mut self.pass)?;
-        Some((limit, usage))
+    /// The limit and the usage, without waiting, again until nobody is in the way.
+    pub fn sums_now(&mut self) -> (usize, usize) {
+        let (shared, pass) = (self.shared, &mut self.pass);
+        until_free(self.rt, || {
+            let limit = shared.max_memory_usage_now_as(pass)?;
+            Some((limit, shared.current_memory_usage_now_as(pass)?))
+        })
     }
 
     /// Sets the limit without waiting, unless others are in the way. Returns whether it did.
-    pub fn set_limits_now(&mut self, limits: MemoryLimits) -> bool {
+    pub fn set_limit_now(&mut self, bytes: usize) -> bool {
+        let limits = MemoryLimits::new(bytes);
         self.shared.set_memory_limits_now_as(&mut self.pass, limits)
     }
 
-    /// Sets the limit.
-    pub fn set_limits<R: Wait>(&mut self, rt: &R, limits: MemoryLimits) {
-        self.shared.set_memory_limits_as(rt, &mut self.pass, limits);
+    /// Sets the limit by the pass.
+    pub fn set_limit(&mut self, bytes: usize) {
+        let limits = MemoryLimits::new(bytes);
+        self.shared
+            .set_memory_limits_as(self.rt, &mut self.pass, limits);
+    }
+
+    /// Sets the limit without the pass.
+    pub fn set_limit_plainly(&self, bytes: usize) {
+        self.shared
+            .set_memory_limits(self.rt, MemoryLimits::new(bytes));
+    }
+
+    /// The limit, read without the pass.
+    pub fn limit(&self) -> usize {
+        self.shared.max_memory_usage(self.rt)
+    }
+
+    /// How many bytes all buckets take, read without the pass.
+    pub fn usage(&self) -> usize {
+        self.shared.current_memory_usage(self.rt)
+    }
+
+    /// The number of the text, if it is present, looked up without the pass.
+    pub fn found_plainly(&self, text: &str) -> Option<usize> {
+        number_of(self.shared.get(self.rt, text))
     }
 }

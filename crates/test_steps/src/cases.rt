@@ -1,13 +1,20 @@
-//! Cases: what the rows of a run leave open, which are a call, a size and two texts.
+//! Cases: what the rows of a run leave open, which are a call, a size and two texts. Interners that a row describes, and
+//! a thread that sets limits while another one calls the interner.
 //!
 //! In a case with a size, a text of a row that ends in `-` stands for a text of that many bytes: its letter, and
 //! `-` up to the end. One that ends in `.` stands for the same with `.` as its last byte, and `#` for the size as a
 //! number of five digits. Numbers of a row are in terms of `SIZE`. In each case `@` and `%` stand for its two
 //! texts.
+use crate::Host;
+use crate::calls::{Caller, Shared, refusal_of};
 use crate::steps::{Call, Reply, Step, Way};
 use crate::texts::{KeyNumbers, List, ended_lasting, items_of, lasting, numeral};
-use lasso_parts::util::LassoResult;
+use lasso_parts::keys::Key;
+use lasso_parts::util::{Capacity, LassoErrorKind, LassoResult, MemoryLimits};
+use lasso_shared::threaded::ThreadedRodeo;
 use std::alloc::Global;
+use std::hash::BuildHasher;
+use std::sync::atomic::{AtomicBool, Ordering};
 
 /// What the rows of a run leave open.
 #[derive(Clone, Copy)]
@@ -47,27 +54,18 @@ pub static HINTED: Case = Case {
 pub fn sized(size: usize) -> Case {
     Case {
         size: Some(size),
-        way: Way::Given,
-        pair: ("@", "%"),
-        times: 1,
-        is_hinted: false,
+        ..of_way(Way::Given)
     }
 }
 
 /// The case of this call.
 pub fn of_way(way: Way) -> Case {
-    paired(way, ("@", "%"))
+    Case { way, ..PLAIN }
 }
 
 /// The case of this call and these texts.
 pub fn paired(way: Way, pair: (&'static str, &'static str)) -> Case {
-    Case {
-        size: None,
-        way,
-        pair,
-        times: 1,
-        is_hinted: false,
-    }
+    Case { way, pair, ..PLAIN }
 }
 
 /// A number of a row: `n * SIZE + m` stands for `n` times the size of the case, and `m` more. The greatest number
@@ -99,82 +97,6 @@ fn sized_text(alloc: Global, size: usize, text: &'static str) -> LassoResult<&'s
     }
 }
 
-/// Texts that were formed for rows, each after the one in the row that stands for it.
-pub type Formed = Vec<(&'static str, &'static str)>;
-
-// The text that was formed for this one of a row.
-fn formed_for(formed: &[(&'static str, &'static str)], text: &str) -> Option<&'static str> {
-    for pair in formed.iter() {
-        if pair.0 == text {
-            return Some(pair.1);
-        }
-    }
-    None
-}
-
-// What a text of a row stands for in a case of this size. It is formed once.
-fn text_of_size(
-    alloc: Global,
-    formed: &mut Formed,
-    size: usize,
-    text: &'static str,
-) -> LassoResult<&'static str> {
-    if let Some(known) = formed_for(formed, text) {
-        return Ok(known);
-    }
-    let made = sized_text(alloc, size, text)?;
-    formed.push((text, made))?;
-    Ok(made)
-}
-
-// What the text of a row stands for.
-fn text_for(
-    alloc: Global,
-    formed: &mut Formed,
-    case: Case,
-    text: &'static str,
-) -> LassoResult<&'static str> {
-    if text == "@" {
-        return Ok(case.pair.0);
-    }
-    if text == "%" {
-        return Ok(case.pair.1);
-    }
-    match case.size {
-        Some(size) => text_of_size(alloc, formed, size, text),
-        None => Ok(text),
-    }
-}
-
-// What the text of a row stands for, if it has one.
-fn some_text_for(
-    alloc: Global,
-    formed: &mut Formed,
-    case: Case,
-    text: Option<&'static str>,
-) -> LassoResult<Option<&'static str>> {
-    match text {
-        Some(text) => Ok(Some(text_for(alloc, formed, case, text)?)),
-        None => Ok(None),
-    }
-}
-
-// What the number of a row stands for, if it has one.
-fn some_number_for(case: Case, number: Option<usize>) -> Option<usize> {
-    match number {
-        Some(number) => Some(number_for(case, number)),
-        None => None,
-    }
-}
-
-// What the reply of a row stands for.
-fn reply_for(case: Case, reply: Reply) -> Reply {
-    match reply {
-        Ok(number) => Ok(number_for(case, number)),
-        Err(kind) => Err(kind),
-    }
-}
-
 // What the numbers of a list stand for.
 fn list_for(case: Case, list: List) -> List {
     match list {
@@ -186,152 +108,254 @@ fn list_for(case: Case, list: List) -> List {
 /// The texts that those of the list stand for.
 pub fn items_for(alloc: Global, case: Case, list: List) -> LassoResult<Vec<&'static str>> {
     let items = items_of(alloc, list_for(case, list))?;
-    let mut formed = Vec::new(alloc);
+    let mut forms = Forms::new(alloc, case);
     let mut texts = Vec::new(alloc);
     for text in items.iter() {
-        texts.push(text_for(alloc, &mut formed, case, *text)?)?;
+        texts.push(forms.text(*text)?)?;
     }
     Ok(texts)
 }
 
-// The call of a case.
-fn way_for(case: Case, way: Way) -> Way {
-    match way {
-        Way::Given => case.way,
-        _ => way,
-    }
-}
-
-// The numbers of keys that these stand for.
-fn numbers_for(case: Case, numbers: KeyNumbers) -> KeyNumbers {
-    match numbers {
-        KeyNumbers::From(first) => KeyNumbers::From(number_for(case, first)),
-        _ => numbers,
-    }
-}
-
-// The texts that these stand for. The list of them is never freed.
-fn texts_for(
+/// What the rows of a run stand for in a case, with the texts that were formed for it.
+#[derive(Drop)]
+pub struct Forms {
     alloc: Global,
-    formed: &mut Formed,
     case: Case,
-    texts: &[&'static str],
-) -> LassoResult<&'static [&'static str]> {
-    let mut all = Vec::new(alloc);
-    for text in texts.iter() {
-        all.push(text_for(alloc, formed, case, *text)?)?;
-    }
-    Ok(all.leak())
+    // texts that were formed, each after the one in the row that stands for it
+    formed: Vec<(&'static str, &'static str)>,
 }
 
-// The call by a pass of a list that the row stands for.
-fn list_call_of(alloc: Global, formed: &mut Formed, case: Case, call: Call) -> LassoResult<Call> {
-    match call {
-        Call::TakesAll(List::Texts(texts), numbers, refusal) => {
-            let texts = texts_for(alloc, formed, case, texts)?;
-            Ok(Call::TakesAll(List::Texts(texts), numbers_for(case, numbers), refusal))
+impl Forms {
+    /// Without texts.
+    pub fn new(alloc: Global, case: Case) -> Self {
+        Forms {
+            alloc,
+            case,
+            formed: Vec::new(alloc),
         }
-        Call::TakesAll(list, numbers, refusal) => {
-            Ok(Call::TakesAll(list_for(case, list), numbers_for(case, numbers), refusal))
-        }
-        Call::FindsAll(texts, numbers) => {
-            Ok(Call::FindsAll(texts_for(alloc, formed, case, texts)?, numbers))
-        }
-        _ => Ok(call),
     }
-}
 
-// The call by a pass that the row stands for.
-fn call_of(alloc: Global, formed: &mut Formed, case: Case, call: Call) -> LassoResult<Call> {
-    match call {
-        Call::Copies(text, reply) => {
-            Ok(Call::Copies(text_for(alloc, formed, case, text)?, reply_for(case, reply)))
+    // What the text of a row stands for. It is formed once.
+    fn text(&mut self, text: &'static str) -> LassoResult<&'static str> {
+        if text == "@" {
+            return Ok(self.case.pair.0);
         }
-        Call::Keeps(text, reply) => {
-            Ok(Call::Keeps(text_for(alloc, formed, case, text)?, reply_for(case, reply)))
+        if text == "%" {
+            return Ok(self.case.pair.1);
         }
-        Call::Finds(text, number) => {
-            Ok(Call::Finds(
-                text_for(alloc, formed, case, text)?,
-                some_number_for(case, number),
-            ))
+        let Some(size) = self.case.size else {
+            return Ok(text);
+        };
+        for (row, made) in self.formed.iter() {
+            if *row == text {
+                return Ok(*made);
+            }
         }
-        Call::Reads(number, text) => {
-            Ok(Call::Reads(
-                number_for(case, number),
-                some_text_for(alloc, formed, case, text)?,
-            ))
-        }
-        Call::Counts(count) => Ok(Call::Counts(number_for(case, count))),
-        Call::Sums(limit, usage) => {
-            Ok(Call::Sums(number_for(case, limit), number_for(case, usage)))
-        }
-        Call::Uses(bytes) => Ok(Call::Uses(number_for(case, bytes))),
-        Call::Limits(bytes) => Ok(Call::Limits(number_for(case, bytes))),
-        _ => list_call_of(alloc, formed, case, call),
+        let made = sized_text(self.alloc, size, text)?;
+        self.formed.push((text, made))?;
+        Ok(made)
     }
-}
 
-// The row of sums, of a list or of a call by a pass that this row stands for.
-fn other_step_of(alloc: Global, formed: &mut Formed, case: Case, step: Step) -> LassoResult<Step> {
-    match step {
-        Step::Counts(count) => Ok(Step::Counts(number_for(case, count))),
-        Step::Uses(bytes) => Ok(Step::Uses(number_for(case, bytes))),
-        Step::Limits(bytes) => Ok(Step::Limits(number_for(case, bytes))),
-        Step::IsLimited(bytes) => Ok(Step::IsLimited(number_for(case, bytes))),
-        Step::AllocatesOver(bytes) => Ok(Step::AllocatesOver(number_for(case, bytes))),
-        Step::ByNew(call) => Ok(Step::ByNew(call_of(alloc, formed, case, call)?)),
-        Step::ByOne(call) => Ok(Step::ByOne(call_of(alloc, formed, case, call)?)),
-        Step::ByOther(call) => Ok(Step::ByOther(call_of(alloc, formed, case, call)?)),
-        _ => Ok(step),
+    // What the text of a row stands for, if it has one.
+    fn some_text(&mut self, text: Option<&'static str>) -> LassoResult<Option<&'static str>> {
+        match text {
+            Some(text) => Ok(Some(self.text(text)?)),
+            None => Ok(None),
+        }
     }
-}
 
-/// The row that this row stands for. Its texts are added to `formed`.
-pub fn step_of(alloc: Global, formed: &mut Formed, case: Case, step: Step) -> LassoResult<Step> {
-    match step {
-        Step::Interns(way, text, reply) => {
-            let text = text_for(alloc, formed, case, text)?;
-            Ok(Step::Interns(way_for(case, way), text, reply_for(case, reply)))
+    // The texts that these stand for. The list of them is never freed.
+    fn texts(&mut self, texts: &[&'static str]) -> LassoResult<&'static [&'static str]> {
+        let mut all = Vec::new(self.alloc);
+        for text in texts.iter() {
+            all.push(self.text(*text)?)?;
         }
-        Step::Takes(text, reply) => {
-            Ok(Step::Takes(text_for(alloc, formed, case, text)?, reply_for(case, reply)))
+        Ok(all.leak())
+    }
+
+    // What the number of a row stands for.
+    fn number(&self, number: usize) -> usize {
+        number_for(self.case, number)
+    }
+
+    // What the number of a row stands for, if it has one.
+    fn some_number(&self, number: Option<usize>) -> Option<usize> {
+        match number {
+            Some(number) => Some(self.number(number)),
+            None => None,
         }
-        Step::Finds(text, number) => {
-            Ok(Step::Finds(
-                text_for(alloc, formed, case, text)?,
-                some_number_for(case, number),
-            ))
+    }
+
+    // What the reply of a row stands for.
+    fn reply(&self, reply: Reply) -> Reply {
+        match reply {
+            Ok(number) => Ok(self.number(number)),
+            Err(kind) => Err(kind),
         }
-        Step::Reads(number, text) => {
-            Ok(Step::Reads(
-                number_for(case, number),
-                some_text_for(alloc, formed, case, text)?,
-            ))
+    }
+
+    // The call of the row, or of the case.
+    fn way(&self, way: Way) -> Way {
+        match way {
+            Way::Given => self.case.way,
+            _ => way,
         }
-        Step::EachInterns(text, reply) => {
-            Ok(Step::EachInterns(text_for(alloc, formed, case, text)?, reply_for(case, reply)))
+    }
+
+    // The numbers of keys that these stand for.
+    fn numbers(&self, numbers: KeyNumbers) -> KeyNumbers {
+        match numbers {
+            KeyNumbers::From(first) => KeyNumbers::From(self.number(first)),
+            _ => numbers,
         }
-        Step::EachCopies(text, reply) => {
-            Ok(Step::EachCopies(text_for(alloc, formed, case, text)?, reply_for(case, reply)))
-        }
-        Step::Resolves(way, text) => {
-            Ok(Step::Resolves(way_for(case, way), text_for(alloc, formed, case, text)?))
-        }
-        Step::New(way, text) => Ok(Step::New(
-            way_for(case, way),
-            text_for(alloc, formed, case, text)?,
-        )),
-        _ => other_step_of(alloc, formed, case, step),
+    }
+
+    // The call by a pass that the row stands for.
+    fn call(&mut self, call: Call) -> LassoResult<Call> {
+        Ok(match call {
+            Call::Copies(text, reply) => Call::Copies(self.text(text)?, self.reply(reply)),
+            Call::Keeps(text, reply) => Call::Keeps(self.text(text)?, self.reply(reply)),
+            Call::Finds(text, number) => Call::Finds(self.text(text)?, self.some_number(number)),
+            Call::Reads(number, text) => Call::Reads(self.number(number), self.some_text(text)?),
+            Call::Counts(count) => Call::Counts(self.number(count)),
+            Call::Sums(limit, usage) => Call::Sums(self.number(limit), self.number(usage)),
+            Call::Uses(bytes) => Call::Uses(self.number(bytes)),
+            Call::Limits(bytes) => Call::Limits(self.number(bytes)),
+            Call::TakesAll(list, numbers, refusal) => {
+                let list = match list {
+                    List::Texts(texts) => List::Texts(self.texts(texts)?),
+                    _ => list_for(self.case, list),
+                };
+                Call::TakesAll(list, self.numbers(numbers), refusal)
+            }
+            Call::FindsAll(texts, numbers) => Call::FindsAll(self.texts(texts)?, numbers),
+            _ => call,
+        })
+    }
+
+    /// The row that this row stands for.
+    pub fn step(&mut self, step: Step) -> LassoResult<Step> {
+        Ok(match step {
+            Step::Interns(way, text, reply) => {
+                Step::Interns(self.way(way), self.text(text)?, self.reply(reply))
+            }
+            Step::Takes(text, reply) => Step::Takes(self.text(text)?, self.reply(reply)),
+            Step::Finds(text, number) => Step::Finds(self.text(text)?, self.some_number(number)),
+            Step::Reads(number, text) => Step::Reads(self.number(number), self.some_text(text)?),
+            Step::EachInterns(text, reply) => {
+                Step::EachInterns(self.text(text)?, self.reply(reply))
+            }
+            Step::EachCopies(text, reply) => Step::EachCopies(self.text(text)?, self.reply(reply)),
+            Step::Resolves(way, text) => Step::Resolves(self.way(way), self.text(text)?),
+            Step::New(way, text) => Step::New(self.way(way), self.text(text)?),
+            Step::Counts(count) => Step::Counts(self.number(count)),
+            Step::Uses(bytes) => Step::Uses(self.number(bytes)),
+            Step::Limits(bytes) => Step::Limits(self.number(bytes)),
+            Step::IsLimited(bytes) => Step::IsLimited(self.number(bytes)),
+            Step::AllocatesOver(bytes) => Step::AllocatesOver(self.number(bytes)),
+            Step::ByNew(call) => Step::ByNew(self.call(call)?),
+            Step::ByOne(call) => Step::ByOne(self.call(call)?),
+            Step::ByOther(call) => Step::ByOther(self.call(call)?),
+            _ => step,
+        })
     }
 }
 
 /// The rows that these rows stand for.
 pub fn steps_of(alloc: Global, case: Case, steps: &[Step]) -> LassoResult<Vec<Step>> {
-    let mut formed = Vec::new(alloc);
+    let mut forms = Forms::new(alloc, case);
     let mut all = Vec::new(alloc);
     for step in steps.iter() {
-        all.push(step_of(alloc, &mut formed, case, *step)?)?;
+        all.push(forms.step(*step)?)?;
     }
     Ok(all)
+}
+
+// Interners that a row describes.
+
+/// How an interner is made.
+#[derive(Clone, Copy)]
+pub enum Maker {
+    /// With the default capacity and without a limit.
+    Default,
+    /// Of room for so many texts, a first bucket of so many bytes, at least one, and under this limit.
+    Sized(usize, usize, usize),
+    /// With a first bucket of so many bytes, which are also its limit.
+    Full(usize),
+    /// Of the items of the list.
+    Items(List),
+}
+
+/// An interner of the items.
+pub fn of_items<K: Key, S: BuildHasher + Default + Drop>(
+    rt: &impl Host,
+    items: &[&'static str],
+) -> LassoResult<ThreadedRodeo<K, S>> {
+    ThreadedRodeo::from_iter(rt.alloc(), rt, items.iter().copied())
+}
+
+/// The maker that this one stands for in the case.
+pub fn maker_for(case: Case, maker: Maker) -> Maker {
+    match maker {
+        Maker::Sized(texts, bytes, limit) => {
+            Maker::Sized(texts, number_for(case, bytes), number_for(case, limit))
+        }
+        Maker::Full(bytes) => Maker::Full(number_for(case, bytes)),
+        _ => maker,
+    }
+}
+
+/// Makes the interner.
+pub fn make<K: Key, S: BuildHasher + Default + Drop>(
+    rt: &impl Host,
+    maker: Maker,
+) -> LassoResult<ThreadedRodeo<K, S>> {
+    let (texts, bytes, limit) = match maker {
+        Maker::Default => return ThreadedRodeo::with_hasher(rt.alloc(), S::default()),
+        Maker::Items(list) => return of_items(rt, &items_of(rt.alloc(), list)?),
+        Maker::Full(bytes) => (50, bytes, bytes),
+        Maker::Sized(texts, bytes, limit) => (texts, bytes, limit),
+    };
+    let (room, limits) = (Capacity::new(texts, bytes.max(1)), MemoryLimits::new(limit));
+    ThreadedRodeo::with_capacity_memory_limits_and_hasher(rt.alloc(), room, limits, S::default())
+}
+
+/// Whether no interner is made of the items, for this reason.
+pub fn refuses_items<K: Key, S: BuildHasher + Default + Drop>(
+    rt: &impl Host,
+    items: &[&'static str],
+    wanted: LassoErrorKind,
+) -> LassoResult<bool> {
+    Ok(refusal_of(of_items::<K, S>(rt, items))? == Some(wanted))
+}
+
+// A thread that sets limits while another one calls the interner.
+
+// How many limits are set at most, in case the other thread never ends.
+const MOST: usize = 1_000_000;
+
+/// Sets the `count` limits from `least` on, again and again until the other thread is done, in turn by a pass
+/// and without one. Returns whether each is read as it was set.
+pub fn reads_what_it_sets(
+    rt: &impl Host,
+    shared: &Shared,
+    done: &AtomicBool,
+    least: usize,
+    count: usize,
+) -> bool {
+    let mut all = true;
+    for turn in 0..MOST {
+        if done.load(Ordering::SeqCst) {
+            break;
+        }
+        let bytes = least.saturating_add(turn % count.max(1));
+        let mut caller = Caller::new(rt, shared);
+        if turn / 2 % 2 == 1 {
+            caller.set_limit(bytes);
+        } else {
+            caller.set_limit_plainly(bytes);
+        }
+        all &= caller.limit() == bytes;
+    }
+    all
 }

@@ -4,7 +4,15 @@
 
 pub mod calls;
 pub mod cases;
-pub mod makers;
 pub mod passes;
 pub mod steps;
 pub mod texts;
+
+use std::process::Abort;
+use std::sync::Wait;
+use std::thread::Threads;
+
+/// What a test is given: memory, threads, waiting, and the end of the process.
+pub trait Host: AllocGlobal + Abort + Wait + Threads + Sync {}
+
+impl<R: AllocGlobal + Abort + Wait + Threads + Sync> Host for R {}

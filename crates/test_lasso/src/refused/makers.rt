@@ -1,12 +1,12 @@
 //! Each maker of an interner that threads share, and what it shows after each text of a list that is interned in order.
-use crate::refused::{Refused, is_so, retried, second_value};
+use crate::refused::{Run, retried};
 use lasso::{
     Capacity, FixedState, Key, LassoErrorKind, LassoResult, MemoryLimits, Spur, ThreadedRodeo,
 };
 use std::alloc::Global;
-use std::process::Abort;
-use std::sync::Wait;
 use std::test::Fail;
+use test_steps::Host;
+use test_steps::calls::{answered, number_of, numbered};
 
 // The makers, by what they take.
 #[derive(Clone, Copy)]
@@ -37,42 +37,30 @@ static MAKERS: [(Maker, &str, usize); 8] = [
     (Maker::All, "with_capacity_memory_limits_and_hasher", 4),
 ];
 
+// A text is interned in an empty interner whose first bucket has these bytes.
 #[test]
 fn a_text_is_interned_after_each_maker(rt: HostRuntime) -> Result<(), Fail> {
-    let mut refused = Refused::none();
-    for at in 0..MAKERS.len() {
-        let (maker, name, usage) = MAKERS[at];
-        let interner = retry(&rt, &mut refused, maker, name)?;
-        intern_first(&rt, &mut refused, &interner, usage);
+    let mut run = Run::new(&rt);
+    for (maker, name, usage) in MAKERS.iter() {
+        let interner: Result<Interner<Spur>, Fail> = retried!(run, *name, make(rt.alloc(), *maker));
+        let after = State {
+            texts: 1,
+            usage: *usage,
+        };
+        let scenario = Scenario {
+            bytes: *usage,
+            limit: usize::MAX,
+            way: Way::Copied,
+            list: &["a"],
+            steps: &[("a", Ok(0), after)],
+        };
+        let before = State {
+            texts: 0,
+            usage: *usage,
+        };
+        run.intern_steps(scenario, &interner?, before);
     }
-    refused.end()
-}
-
-fn retry<R: AllocGlobal + Abort>(
-    rt: &R,
-    refused: &mut Refused,
-    maker: Maker,
-    name: &'static str,
-) -> Result<Interner<Spur>, Fail> {
-    retried!(rt, refused, name, make(rt.alloc(), maker))
-}
-
-// Interns a text in an empty interner whose first bucket has these bytes.
-fn intern_first<R: Wait + Abort>(
-    rt: &R,
-    refused: &mut Refused,
-    interner: &Interner<Spur>,
-    usage: usize,
-) {
-    let after = State { texts: 1, usage };
-    let scenario = Scenario {
-        bytes: usage,
-        limit: usize::MAX,
-        way: Way::Copied,
-        list: &["a"],
-        steps: &[("a", Ok(0), after)],
-    };
-    scenario.intern_steps(rt, refused, interner, State { texts: 0, usage });
+    run.end()
 }
 
 const TWO: State = State {
@@ -95,22 +83,14 @@ static AFTER_WORDS: Scenario<'static> = Scenario {
 
 #[test]
 fn two_words_take_no_bytes(rt: HostRuntime) -> Result<(), Fail> {
-    let mut refused = Refused::none();
-    let interner = two_words(&rt, &mut refused)?;
-    AFTER_WORDS.intern_steps(&rt, &mut refused, &interner, TWO);
-    refused.end()
-}
-
-fn two_words<R: AllocGlobal + Abort>(
-    rt: &R,
-    refused: &mut Refused,
-) -> Result<Interner<Spur>, Fail> {
-    retried!(
-        rt,
-        refused,
+    let mut run = Run::new(&rt);
+    let interner: Result<Interner<Spur>, Fail> = retried!(
+        run,
         "from_static",
         ThreadedRodeo::from_static(rt.alloc(), &["if", "else"])
-    )
+    );
+    run.intern_steps(AFTER_WORDS, &interner?, TWO);
+    run.end()
 }
 
 fn make(alloc: Global, maker: Maker) -> LassoResult<Interner<Spur>> {
@@ -171,139 +151,81 @@ pub struct Scenario<'a> {
     pub steps: &'a [Step],
 }
 
-impl Scenario<'_> {
+impl<'a, R: Host> Run<'a, R> {
     /// An interner in which the texts were interned.
-    pub fn build<R: AllocGlobal + Wait + Abort, K: Key>(
-        &self,
-        rt: &R,
-        refused: &mut Refused,
-    ) -> Result<Interner<K>, Fail> {
-        let interner = self.make(rt, refused)?;
+    pub fn build<K: Key>(&mut self, scenario: Scenario<'_>) -> Result<Interner<K>, Fail> {
+        let alloc = self.rt.alloc();
+        let capacity = Capacity::new(1, scenario.bytes.max(1));
+        let limits = MemoryLimits::new(scenario.limit);
+        let made: Result<Interner<K>, Fail> = retried!(
+            self,
+            "with_capacity_and_memory_limits",
+            ThreadedRodeo::with_capacity_and_memory_limits(alloc, capacity, limits)
+        );
+        let interner = made?;
         let start = State {
             texts: 0,
-            usage: self.bytes,
+            usage: scenario.bytes,
         };
-        self.intern_steps(rt, refused, &interner, start);
+        self.intern_steps(scenario, &interner, start);
         Ok(interner)
-    }
-
-    fn make<R: AllocGlobal + Abort, K: Key>(
-        &self,
-        rt: &R,
-        refused: &mut Refused,
-    ) -> Result<Interner<K>, Fail> {
-        let name = "with_capacity_and_memory_limits";
-        retried!(rt, refused, name, self.make_once(rt.alloc()))
-    }
-
-    fn make_once<K: Key>(&self, alloc: Global) -> LassoResult<Interner<K>> {
-        let capacity = Capacity::new(1, self.bytes.max(1));
-        let limits = MemoryLimits::new(self.limit);
-        ThreadedRodeo::with_capacity_and_memory_limits(alloc, capacity, limits)
     }
 
     /// Interns the texts in an interner that shows `start`. If a call runs out of memory, the interner has to
     /// show the same as before, and the text is interned again.
-    pub fn intern_steps<R: Wait + Abort, K: Key>(
-        &self,
-        rt: &R,
-        refused: &mut Refused,
+    pub fn intern_steps<K: Key>(
+        &mut self,
+        scenario: Scenario<'_>,
         interner: &Interner<K>,
         start: State,
     ) {
         let mut before = start;
-        for (text, wanted, after) in self.steps {
-            let reply = self.intern(rt, refused, interner, *text, before);
-            is_so(rt, reply == *wanted, text);
-            is_so(rt, shows(rt, interner, self.list, *after), text);
+        for (text, wanted, after) in scenario.steps {
+            let mut reply = scenario.way.intern(self.rt, interner, *text);
+            if reply == Err(LassoErrorKind::FailedAllocation) {
+                self.note(*text);
+                self.is_so(shows(self.rt, interner, scenario.list, before), *text);
+                reply = scenario.way.intern(self.rt, interner, *text);
+            }
+            self.is_so(reply == *wanted, *text);
+            self.is_so(shows(self.rt, interner, scenario.list, *after), *text);
             before = *after;
         }
-    }
-
-    // The reply of the text, which is interned once more if memory runs out.
-    fn intern<R: Wait + Abort, K: Key>(
-        &self,
-        rt: &R,
-        refused: &mut Refused,
-        interner: &Interner<K>,
-        text: &'static str,
-        before: State,
-    ) -> Reply {
-        let reply = self.way.intern(rt, interner, text);
-        if reply != Err(LassoErrorKind::FailedAllocation) {
-            return reply;
-        }
-        refused.note(rt, text);
-        is_so(rt, shows(rt, interner, self.list, before), text);
-        self.way.intern(rt, interner, text)
     }
 }
 
 impl Way {
-    fn intern<R: Wait, K: Key>(self, rt: &R, interner: &Interner<K>, text: &'static str) -> Reply {
-        reply_of(match self {
+    fn intern<K: Key>(self, rt: &impl Host, interner: &Interner<K>, text: &'static str) -> Reply {
+        answered(numbered(match self {
             Way::Copied => interner.try_get_or_intern(rt, text),
             Way::Static => interner.try_get_or_intern_static(rt, text),
-        })
-    }
-}
-
-fn reply_of<K: Key>(interned: LassoResult<K>) -> Reply {
-    match interned {
-        Ok(key) => Ok(key.into_usize()),
-        Err(error) => Err(error.kind()),
+        }))
     }
 }
 
 /// Whether the interner has exactly the first `state.texts` texts of the list, each with the key of its
 /// position, and its buckets take `state.usage` bytes.
-pub fn shows<R: Wait, K: Key>(
-    rt: &R,
+pub fn shows<K: Key>(
+    rt: &impl Host,
     interner: &Interner<K>,
     list: &[&'static str],
     state: State,
 ) -> bool {
-    has_first(rt, interner, list, state.texts)
-        && is_listed(interner, list)
-        && interner.len() == state.texts
+    let mut all = interner.len() == state.texts
         && interner.strings().len() == state.texts
-        && interner.current_memory_usage(rt) == state.usage
-}
-
-// Whether the interner has exactly the first `texts` texts of the list, each with the key of its position.
-fn has_first<R: Wait, K: Key>(
-    rt: &R,
-    interner: &Interner<K>,
-    list: &[&'static str],
-    texts: usize,
-) -> bool {
+        && interner.current_memory_usage(rt) == state.usage;
     for (position, text) in list.iter().enumerate() {
-        let wanted = if position < texts {
-            Some(position)
-        } else {
-            None
-        };
-        if position_of(rt, interner, *text) != wanted {
-            return false;
-        }
+        let number = position_of(rt, interner, *text);
+        all &= number.is_some() == (position < state.texts);
+        all &= number.is_none() || number == Some(position);
     }
-    true
+    for (key, text) in interner.iter() {
+        all &= list.get(key.into_usize()) == Some(&text);
+    }
+    all
 }
 
 /// The number of the text's key, if the text is present.
-pub fn position_of<R: Wait, K: Key>(rt: &R, interner: &Interner<K>, text: &str) -> Option<usize> {
-    match interner.get(rt, text) {
-        Some(key) => Some(key.into_usize()),
-        None => None,
-    }
-}
-
-// Whether each text of the interner is that of its key's position in the list.
-fn is_listed<K: Key>(interner: &Interner<K>, list: &[&'static str]) -> bool {
-    for (key, text) in interner.iter() {
-        if list.get(key.into_usize()) != Some(&text) {
-            return false;
-        }
-    }
-    true
+pub fn position_of<K: Key>(rt: &impl Host, interner: &Interner<K>, text: &str) -> Option<usize> {
+    number_of(interner.get(rt, text))
 }

@@ -1,14 +1,13 @@
 //! An interner for one thread: a run of commands, texts that are cloned and written, and items of an iterator
 //! with a size hint.
-use crate::refused::{Refused, Single, check_written, is_so, retried, second_value, single_of};
+use crate::refused::{Run, retried};
 use lasso::{
-    Capacity, Command, FixedState, JsonKey, Key, LassoErrorKind, MemoryLimits, Reply, Rodeo,
-    RodeoReader, RodeoResolver, Spur, run_commands,
+    Capacity, Command, FixedState, JsonKey, Key, LassoErrorKind, MemoryLimits, Reply, Rodeo, Spur,
+    SpurRodeo, run_commands,
 };
 use serde_json::Value;
 use std::alloc::Global;
 use std::iter::repeat_n;
-use std::process::Abort;
 use std::test::Fail;
 
 // The reply that a command has to give.
@@ -68,62 +67,33 @@ const ITEMS: usize = 1000;
 // Otherwise a command that runs out of memory gets that as its reply, and the run goes on.
 #[test]
 fn a_run_goes_on_after_a_refused_command(rt: HostRuntime) -> Result<(), Fail> {
-    let mut refused = Refused::none();
-    let mut rodeo = of_four_bytes(&rt, &mut refused)?;
-    run(&rt, &mut refused, &mut rodeo)?;
-    refused.end()
-}
-
-fn of_four_bytes<R: AllocGlobal + Abort>(rt: &R, refused: &mut Refused) -> Result<Single, Fail> {
+    let mut run = Run::new(&rt);
     let (capacity, limits) = (Capacity::new(0, 4), MemoryLimits::new(4));
-    retried!(
-        rt,
-        refused,
+    let made: Result<SpurRodeo, Fail> = retried!(
+        run,
         "with_capacity_and_memory_limits",
         Rodeo::with_capacity_and_memory_limits(rt.alloc(), capacity, limits)
-    )
-}
-
-// Runs the commands in an empty interner of four bytes.
-fn run<R: AllocGlobal + Abort>(
-    rt: &R,
-    refused: &mut Refused,
-    rodeo: &mut Single,
-) -> Result<(), Fail> {
+    );
+    let mut rodeo = made?;
     let first = Spur::try_from_usize(0).ok_or("no key 0")?;
-    let replies = replies_to(rt, refused, rodeo, first)?;
-    check_replies(rt, refused, &replies);
-    is_so(rt, rodeo.len() == 1, "one text");
-    is_so(rt, rodeo.try_resolve(first) == Some("e"), "the text");
-    is_so(rt, rodeo.current_memory_usage() == 4, "the usage");
-    Ok(())
-}
-
-fn replies_to<R: AllocGlobal + Abort>(
-    rt: &R,
-    refused: &mut Refused,
-    rodeo: &mut Single,
-    first: Spur,
-) -> Result<Vec<Reply<Spur>>, Fail> {
     let commands = commands_on(first);
-    retried!(
-        rt,
-        refused,
+    let replies: Result<Vec<Reply<Spur>>, Fail> = retried!(
+        run,
         "run_commands",
-        run_commands(rt.alloc(), rodeo, commands.as_slice()),
+        run_commands(rt.alloc(), &mut rodeo, commands.as_slice()),
         rodeo.is_empty() && !rodeo.contains("abcd") && rodeo.current_memory_usage() == 4
-    )
-}
-
-// Checks that the replies are the usual ones, or those after a command that ran out of memory, which is noted.
-fn check_replies(rt: &impl Abort, refused: &mut Refused, replies: &[Reply<Spur>]) {
-    if are_replies(replies, &USUAL) {
-        return;
+    );
+    let replies = replies?;
+    if !are_replies(&replies, &USUAL) {
+        let is_explained = are_replies(&replies, &WITHOUT_THE_FIRST)
+            || are_replies(&replies, &WITHOUT_THE_COPY);
+        run.is_so(is_explained, "the replies");
+        run.note("a command of the run");
     }
-    let is_explained = are_replies(replies, &WITHOUT_THE_FIRST)
-        || are_replies(replies, &WITHOUT_THE_COPY);
-    is_so(rt, is_explained, "the replies");
-    refused.note(rt, "a command of the run");
+    run.is_so(rodeo.len() == 1, "one text");
+    run.is_so(rodeo.try_resolve(first) == Some("e"), "the text");
+    run.is_so(rodeo.current_memory_usage() == 4, "the usage");
+    run.end()
 }
 
 // The commands of the run. `first` is the key of number 0.
@@ -140,14 +110,11 @@ fn commands_on(first: Spur) -> [Command<'static, Spur, FixedState, Global>; 7] {
 }
 
 fn are_replies(replies: &[Reply<Spur>], wanted: &[Wanted]) -> bool {
-    let mut rows = wanted.iter();
-    for reply in replies {
-        match rows.next() {
-            Some(row) if is_reply(reply, *row) => {}
-            _ => return false,
-        }
+    let mut all = replies.len() == wanted.len();
+    for (reply, row) in replies.iter().zip(wanted) {
+        all &= is_reply(reply, *row);
     }
-    rows.next().is_none()
+    all
 }
 
 fn is_reply(reply: &Reply<Spur>, wanted: Wanted) -> bool {
@@ -161,137 +128,68 @@ fn is_reply(reply: &Reply<Spur>, wanted: Wanted) -> bool {
     }
 }
 
+// The key of the first text is written as 1. That is never refused.
 #[test]
 fn a_clone_is_equal(rt: HostRuntime) -> Result<(), Fail> {
-    let mut refused = Refused::none();
-    let rodeo = single_of(&rt, &mut refused, "from_iter", &STRINGS)?;
-    check_copy(&rt, &mut refused, &rodeo)?;
-    is_so(&rt, is_written_as_one(rt.alloc(), &rodeo), "the first key");
-    refused.end()
+    let mut run = Run::new(&rt);
+    let rodeo = run.single_of("from_iter", &STRINGS)?;
+    let copy: Result<SpurRodeo, Fail> = retried!(run, "try_clone", rodeo.try_clone());
+    run.is_so(rodeo == copy?, "the copy");
+    let key = rodeo.get("one string").ok_or("no key")?;
+    let number = key.key_to_json(rt.alloc())?.as_u64();
+    run.is_so(number == Some(1), "the first key");
+    run.end()
 }
 
-fn check_copy<R: Abort>(rt: &R, refused: &mut Refused, rodeo: &Single) -> Result<(), Fail> {
-    let copy = copy_of(rt, refused, rodeo)?;
-    is_so(rt, are_equal(rodeo, &copy), "the copy");
-    Ok(())
-}
-
-fn are_equal(rodeo: &Single, other: &Single) -> bool {
-    rodeo == other
-}
-
-// Whether the key of the first text is written as 1. That is never refused.
-fn is_written_as_one(alloc: Global, rodeo: &Single) -> bool {
-    let key = rodeo
-        .get("one string")
-        .and_then(|key| key.key_to_json(alloc).ok());
-    key.and_then(|value| value.as_u64()) == Some(1)
-}
-
-fn copy_of<R: Abort>(rt: &R, refused: &mut Refused, rodeo: &Single) -> Result<Single, Fail> {
-    retried!(rt, refused, "try_clone", rodeo.try_clone())
-}
-
+// Writes an interner, and then the forms to which that is frozen.
 #[test]
 fn each_form_is_written(rt: HostRuntime) -> Result<(), Fail> {
-    let mut refused = Refused::none();
-    let copy = single_of(&rt, &mut refused, "from_iter", &STRINGS)?;
-    write_forms(&rt, &mut refused, &copy)?;
-    refused.end()
-}
-
-// Writes a copy of the interner, and then the forms to which that is frozen.
-fn write_forms<R: AllocGlobal + Abort>(
-    rt: &R,
-    refused: &mut Refused,
-    copy: &Single,
-) -> Result<(), Fail> {
-    let rodeo = copy_of(rt, refused, copy)?;
-    write_rodeo(rt, refused, &rodeo, copy)?;
-    let reader = rodeo.into_reader();
-    write_reader(rt, refused, &reader, copy)?;
-    write_resolver(rt, refused, &reader.into_resolver(), copy)
-}
-
-fn write_rodeo<R: AllocGlobal + Abort>(
-    rt: &R,
-    refused: &mut Refused,
-    rodeo: &Single,
-    copy: &Single,
-) -> Result<(), Fail> {
-    let name = "serialize of a Rodeo";
+    let mut run = Run::new(&rt);
+    let copy = run.single_of("from_iter", &STRINGS)?;
+    let rodeo: Result<SpurRodeo, Fail> = retried!(run, "try_clone", copy.try_clone());
+    let rodeo = rodeo?;
     let value: Result<Value, Fail> = retried!(
-        rt,
-        refused,
-        name,
+        run,
+        "serialize of a Rodeo",
         rodeo.serialize(rt.alloc()),
-        are_equal(rodeo, copy)
+        rodeo == copy
     );
-    check_written(rt, refused, &value?, ARRAY)
-}
-
-fn write_reader<R: AllocGlobal + Abort>(
-    rt: &R,
-    refused: &mut Refused,
-    reader: &RodeoReader<Spur, FixedState, Global>,
-    copy: &Single,
-) -> Result<(), Fail> {
-    let name = "serialize of a RodeoReader";
+    run.check_written(&value?, ARRAY)?;
+    let reader = rodeo.into_reader();
     let value: Result<Value, Fail> = retried!(
-        rt,
-        refused,
-        name,
+        run,
+        "serialize of a RodeoReader",
         reader.serialize(rt.alloc()),
-        reader.eq_rodeo(copy)
+        reader.eq_rodeo(&copy)
     );
-    check_written(rt, refused, &value?, ARRAY)
-}
-
-fn write_resolver<R: AllocGlobal + Abort>(
-    rt: &R,
-    refused: &mut Refused,
-    resolver: &RodeoResolver<Spur, Global>,
-    copy: &Single,
-) -> Result<(), Fail> {
-    let name = "serialize of a RodeoResolver";
+    run.check_written(&value?, ARRAY)?;
+    let resolver = reader.into_resolver();
     let value: Result<Value, Fail> = retried!(
-        rt,
-        refused,
-        name,
+        run,
+        "serialize of a RodeoResolver",
         resolver.serialize(rt.alloc()),
-        resolver.eq_rodeo(copy)
+        resolver.eq_rodeo(&copy)
     );
-    check_written(rt, refused, &value?, ARRAY)
+    run.check_written(&value?, ARRAY)?;
+    run.end()
 }
 
 // An interner of 1000 equal items, with their number as the size hint. If that room is refused, the interner
-// has less room, but the same text.
+// has less room, but the same text, alone, in its first bucket.
 #[test]
 fn room_for_items_is_refused(rt: HostRuntime) -> Result<(), Fail> {
-    let mut refused = Refused::none();
-    let rodeo = of_items(&rt, &mut refused)?;
-    if rodeo.capacity() < ITEMS {
-        refused.note(&rt, "the room for all items");
-    }
-    is_so(&rt, is_one_item(&rodeo), "one item");
-    refused.end()
-}
-
-fn of_items<R: AllocGlobal + Abort>(rt: &R, refused: &mut Refused) -> Result<Single, Fail> {
-    retried!(
-        rt,
-        refused,
+    let mut run = Run::new(&rt);
+    let made: Result<SpurRodeo, Fail> = retried!(
+        run,
         "from_iter",
         Rodeo::from_iter(rt.alloc(), repeat_n("a", ITEMS))
-    )
-}
-
-// Whether the interner has the item alone, in its first bucket.
-fn is_one_item(rodeo: &Single) -> bool {
-    match rodeo.get("a") {
-        Some(key) => {
-            key.into_usize() == 0 && rodeo.len() == 1 && rodeo.current_memory_usage() == 4096
-        }
-        None => false,
+    );
+    let rodeo = made?;
+    if rodeo.capacity() < ITEMS {
+        run.note("the room for all items");
     }
+    run.is_so(rodeo.get("a") == Spur::try_from_usize(0), "the item");
+    run.is_so(rodeo.len() == 1, "one item");
+    run.is_so(rodeo.current_memory_usage() == 4096, "the first bucket");
+    run.end()
 }

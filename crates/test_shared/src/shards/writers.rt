@@ -9,13 +9,15 @@ use lasso_parts::util::LassoResult;
 use lasso_shared::threaded::ThreadedRodeo;
 use std::alloc::Global;
 use std::hash::{BuildHasher, Hasher};
-use std::sync::Wait;
 use std::sync::atomic::{AtomicU64, Ordering};
 use std::test::*;
-use std::thread::{Threads, join};
+use std::thread::join;
 use test_common::texts::leaked;
-use test_steps::calls::len;
-use test_steps::steps::{Way, interned};
+use test_steps::Host;
+use test_steps::calls::Caller;
+use test_steps::steps::Way;
+
+type Armed<'a> = ThreadedRodeo<Spur, ArmedState<'a>>;
 
 // The texts `0000` to `0999`. They are never freed.
 fn four_digits(alloc: Global) -> Result<Vec<&'static str>, Fail> {
@@ -26,89 +28,55 @@ fn four_digits(alloc: Global) -> Result<Vec<&'static str>, Fail> {
     Ok(texts)
 }
 
-type Armed<'a> = ThreadedRodeo<Spur, ArmedState<'a>>;
-
-// An interner whose hasher stops at the gate.
-fn armed<'a>(alloc: Global, gate: &'a Gate) -> LassoResult<Armed<'a>> {
-    ThreadedRodeo::with_hasher(alloc, ArmedState::new(gate))
-}
-
 // Interns `00`, arms the gate, and interns the texts.
-fn fills<R: Wait>(
-    rt: &R,
+fn fills(
+    rt: &impl Host,
     shared: &Armed<'_>,
     gate: &Gate,
     way: Way,
     texts: &[&'static str],
 ) -> LassoResult<()> {
-    interned(rt, shared, way, "00")?;
+    let caller = Caller::new(rt, shared);
+    caller.interned(way, "00")?;
     gate.arm();
     for text in texts.iter() {
-        interned(rt, shared, way, *text)?;
+        caller.interned(way, *text)?;
     }
     Ok(())
 }
 
 // Waits for the other writer at the gate, interns `a`, and lets that writer go on. Returns whether it came.
-fn passes<R: Wait>(rt: &R, shared: &Armed<'_>, gate: &Gate, way: Way) -> LassoResult<bool> {
+fn passes(rt: &impl Host, shared: &Armed<'_>, gate: &Gate, way: Way) -> LassoResult<bool> {
     let there = gate.is_first_there();
-    interned(rt, shared, way, "a")?;
+    Caller::new(rt, shared).interned(way, "a")?;
     gate.pass();
     Ok(there)
 }
 
-// Two threads intern a thousand texts of one shard and two of another. Returns whether one came to the gate,
-// the other was done while it waited there, and each text is there once.
-fn meet_at_gate<R: Threads + Wait + Sync>(
-    rt: &R,
-    shared: &Armed<'_>,
-    gate: &Gate,
-    way: Way,
-    texts: &[&'static str],
-) -> LassoResult<bool> {
+// Two threads intern a thousand texts of one shard and two of another by this call. One comes to the gate, the other is
+// done while it waits there, and each text is there once.
+fn are_apart(rt: &impl Host, way: Way) -> Result<(), Fail> {
+    let (texts, gate) = (four_digits(rt.alloc())?, Gate::new());
+    let shared: Armed<'_> = ThreadedRodeo::with_hasher(rt.alloc(), ArmedState::new(&gate))?;
     let (filled, there) = join(
         rt,
-        || fills(rt, shared, gate, way, texts),
-        || passes(rt, shared, gate, way),
+        || fills(rt, &shared, &gate, way, &texts),
+        || passes(rt, &shared, &gate, way),
     );
     filled?;
-    Ok(there? && gate.is_met() && len(shared) == 1002)
-}
-
-// Two threads intern in a new interner by this call. Returns whether neither waited for the other, and each
-// text is there once.
-fn are_apart<R: AllocGlobal + Threads + Wait + Sync>(
-    rt: &R,
-    gate: &Gate,
-    way: Way,
-    texts: &[&'static str],
-) -> LassoResult<bool> {
-    let shared = armed(rt.alloc(), gate)?;
-    meet_at_gate(rt, &shared, gate, way, texts)
+    is_so(rt, there? && gate.is_met(), "the gate");
+    is_so(rt, shared.len() == 1002, "the texts");
+    Ok(())
 }
 
 #[test]
 fn writers_of_copies_apart(rt: HostRuntime) -> Result<(), Fail> {
-    let texts = four_digits(rt.alloc())?;
-    let gate = Gate::new();
-    is_so(
-        &rt,
-        are_apart(&rt, &gate, Way::TryCopied, &texts)?,
-        "copied texts",
-    );
-    Ok(())
+    are_apart(&rt, Way::TryCopied)
 }
 
 #[test]
 fn writers_apart(rt: HostRuntime) -> Result<(), Fail> {
-    let texts = four_digits(rt.alloc())?;
-    let gate = Gate::new();
-    is_so(
-        &rt,
-        are_apart(&rt, &gate, Way::TryStatic, &texts)?,
-        "static texts",
-    );
-    Ok(())
+    are_apart(&rt, Way::TryStatic)
 }
 
 // Waits for the writer at the gate, reads the first text, and lets the writer go on. Returns whether it came, and each
@@ -124,33 +92,18 @@ fn reads_beside(shared: &Armed<'_>, gate: &Gate) -> bool {
     there && read && is_counted
 }
 
-// A thread interns a thousand texts of one shard, and another one reads while the first holds its shard. Returns
-// whether the readings found the first text.
-fn reads_at_gate<R: Threads + Wait + Sync>(
-    rt: &R,
-    shared: &Armed<'_>,
-    gate: &Gate,
-    texts: &[&'static str],
-) -> LassoResult<bool> {
-    let (filled, read) = join(
-        rt,
-        || fills(rt, shared, gate, Way::TryStatic, texts),
-        || reads_beside(shared, gate),
-    );
-    filled?;
-    Ok(read && gate.is_met())
-}
-
+// A thread interns a thousand texts of one shard, and another one reads while the first holds its shard.
 #[test]
 fn readings_beside_a_writer(rt: HostRuntime) -> Result<(), Fail> {
-    let texts = four_digits(rt.alloc())?;
-    let gate = Gate::new();
-    let shared = armed(rt.alloc(), &gate)?;
-    is_so(
+    let (texts, gate) = (four_digits(rt.alloc())?, Gate::new());
+    let shared: Armed<'_> = ThreadedRodeo::with_hasher(rt.alloc(), ArmedState::new(&gate))?;
+    let (filled, read) = join(
         &rt,
-        reads_at_gate(&rt, &shared, &gate, &texts)?,
-        "the readings",
+        || fills(&rt, &shared, &gate, Way::TryStatic, &texts),
+        || reads_beside(&shared, &gate),
     );
+    filled?;
+    is_so(&rt, read && gate.is_met(), "the readings");
     Ok(())
 }
 

@@ -1,9 +1,5 @@
 //! Lists of buckets: walks, with the spine and without it, and buckets of doubled and remnant size. Cells that one and
 //! two threads fill.
-ghost use Rattle.std.specs.Prelude.{◌≡◌, ◌<◌};
-ghost use Rattle.lasso_log.specs.SharedBuckets.{names_with_book};
-ghost use Rattle.lasso_log.specs.Views.{InternerId, PassView, SpineView};
-
 use crate::checks::is_so;
 use crate::shared_memory::Step::{
     Finds, Fits, FitsAnywhere, HasBucket, HasBuckets, HasCounted, SetsLimit, Stores, Uses, Walks,
@@ -14,11 +10,10 @@ use lasso_log::log::bucket_list::BucketList;
 use lasso_log::log::{Log, Spine};
 use lasso_parts::keys::Spur;
 use lasso_parts::util::LassoResult;
-use std::alloc::{AllocError, Global};
-use std::process::Abort;
-use std::sync::Wait;
+use std::alloc::AllocError;
 use std::test::*;
-use std::thread::{Threads, join};
+use std::thread::join;
+use test_steps::Host;
 
 #[test]
 fn a_new_list_has_the_first_bucket(rt: HostRuntime) -> Result<(), Fail> {
@@ -92,41 +87,25 @@ fn bytes_are_taken_in_a_later_bucket(rt: HostRuntime) -> Result<(), Fail> {
     run_steps(&rt, 4, u64::MAX, &STEPS)
 }
 
-// How many bytes of all buckets are taken.
-fn taken<R: Wait>(rt: &R, log: &Log<Spur>, list: &BucketList<Spur>) -> u64
-    requires { list.now ≡ names_with_book log.now }
-{
-    let mut sum: u64 = 0;
-    for position in 0..list.len() {
-        sum = sum.saturating_add(bucket_at(rt, log, list, &mut log.pass(), position).1);
-    }
-    sum
-}
-
 // Copies a text of four bytes twenty times, into new buckets where none has room.
-fn stores_twenty<R: Wait>(
-    rt: &R,
-    alloc: Global,
+fn stores_twenty(
+    rt: &impl Host,
     log: &Log<Spur>,
     list: &BucketList<Spur>,
     spine: &mut Spine<Spur>,
-) -> LassoResult<()>
-    requires of { (spine.old.of ≡ log.now) × (list.now ≡ names_with_book log.now) }
-{
+) -> LassoResult<()> {
     let mut pass = log.pass();
     for _ in 0..20u32 {
-        stores(rt, alloc, log, list, spine, &mut pass, "abcd")?;
+        stores(rt, log, list, spine, &mut pass, "abcd")?;
     }
     Ok(())
 }
 
 // Copies a text of three bytes wherever there is room, and returns how many bytes it copied.
-fn walks_twenty<R: Wait>(rt: &R, log: &Log<Spur>, list: &BucketList<Spur>) -> u64
-    requires { list.now ≡ names_with_book log.now }
-{
+fn walks_twenty(rt: &impl Host, log: &Log<Spur>, list: &BucketList<Spur>) -> u64 {
     let mut copied: u64 = 0;
     for _ in 0..20u32 {
-        if fits_anywhere(rt, log, list, &mut log.pass(), "xyz") {
+        if fits_anywhere(rt, log, list, "xyz") {
             copied = copied.saturating_add(3);
         }
     }
@@ -134,30 +113,22 @@ fn walks_twenty<R: Wait>(rt: &R, log: &Log<Spur>, list: &BucketList<Spur>) -> u6
 }
 
 // Has a thread walk while another adds buckets. All bytes that they copied are then taken.
-fn walk_beside_adding<R: Abort + Threads + Wait + Sync>(
-    rt: &R,
-    alloc: Global,
-    log: &Log<Spur>,
-    list: &BucketList<Spur>,
-    spine: &mut Spine<Spur>,
-) -> Result<(), Fail>
-    requires { (spine.old.of ≡ log.now) × (list.now ≡ names_with_book log.now) }
-{
-    let (stored, copied) = join(
-        rt,
-        || stores_twenty(rt, alloc, log, list, spine),
-        || walks_twenty(rt, log, list),
-    );
-    stored?;
-    let are_taken = taken(rt, log, list) == copied.saturating_add(80);
-    is_so(rt, are_taken, "the bytes of both threads");
-    Ok(())
-}
-
 #[test]
 fn a_thread_walks_while_another_adds_buckets(rt: HostRuntime) -> Result<(), Fail> {
     let (log, mut spine, list) = opens(rt.alloc(), 4, u64::MAX)?;
-    walk_beside_adding(&rt, rt.alloc(), &log, &list, &mut spine)
+    let (stored, copied) = join(
+        &rt,
+        || stores_twenty(&rt, &log, &list, &mut spine),
+        || walks_twenty(&rt, &log, &list),
+    );
+    stored?;
+    let mut taken: u64 = 0;
+    for position in 0..list.len() {
+        taken = taken.saturating_add(bucket_at(&rt, &log, &list, position).1);
+    }
+    let holds = taken == copied.saturating_add(80);
+    is_so(&rt, holds, "the bytes of both threads");
+    Ok(())
 }
 
 #[test]
@@ -184,34 +155,16 @@ fn buckets_are_doubled_and_then_what_the_limit_leaves(rt: HostRuntime) -> Result
 
 static TEXTS: [&str; 4] = ["", "a", "Bär", "long enough to tell from the others"];
 
-// Makes the chunk of a position, and returns whether there is one then.
-fn makes(alloc: Global, chunks: &Chunks<&'static str>, position: u64) -> Result<bool, AllocError> {
-    Ok(chunks.make_chunk(alloc, position)?.is_some())
-}
-
-// Fills a cell, and looks at what it holds then.
-fn fills<R: Wait>(
-    rt: &R,
+// Makes the chunk of the cell, fills the cell, and looks at what it holds then.
+fn fills(
+    rt: &impl Host,
     chunks: &Chunks<&'static str>,
     position: u64,
     text: &'static str,
-) -> bool {
+) -> Result<bool, AllocError> {
+    let is_made = chunks.make_chunk(rt.alloc(), position)?.is_some();
     let (chunk, item) = chunks.fill(rt, position, text);
-    *chunks.value(position, &chunk, &item) == text
-}
-
-// Makes the chunk of each cell and fills the cell.
-fn fill_each<R: Wait + Abort>(
-    rt: &R,
-    alloc: Global,
-    chunks: &Chunks<&'static str>,
-    cells: &[(u64, &'static str)],
-) -> Result<(), Fail> {
-    for (position, text) in cells {
-        is_so(rt, makes(alloc, chunks, *position)?, "a chunk is made");
-        assert!(rt; fills(rt, chunks, *position, *text), "at {position}");
-    }
-    Ok(())
+    Ok(*chunks.value(position, &chunk, &item) == text && is_made)
 }
 
 #[test]
@@ -225,46 +178,37 @@ fn a_filled_cell_lends_its_text(rt: HostRuntime) -> Result<(), Fail> {
         (64, ""),
         (700, "a"),
     ];
-    fill_each(&rt, rt.alloc(), &chunks, &CELLS)
-}
-
-// Fills every other one of 400 cells, and looks at what each holds then.
-fn fill_every_other<R: Wait>(
-    rt: &R,
-    alloc: Global,
-    chunks: &Chunks<&'static str>,
-    first: u64,
-) -> Result<bool, AllocError>
-    requires { first < 2 }
-{
-    let mut good = true;
-    for i in 0..200u32 {
-        let position = first + 2 * u64::from(i);
-        chunks.make_chunk(alloc, position)?;
-        if !fills(rt, chunks, position, TEXTS[i as usize % 4]) {
-            good = false;
-        }
+    for (position, text) in CELLS.iter() {
+        assert!(rt; fills(&rt, &chunks, *position, *text)?, "at {position}");
     }
-    Ok(good)
-}
-
-// Has two threads fill the cells of even and of odd positions.
-fn fill_together<R: Abort + Threads + Wait + Sync>(
-    rt: &R,
-    alloc: Global,
-    chunks: &Chunks<&'static str>,
-) -> Result<(), Fail> {
-    let (even, odd) = join(
-        rt,
-        || fill_every_other(rt, alloc, chunks, 0),
-        || fill_every_other(rt, alloc, chunks, 1),
-    );
-    is_so(rt, even? && odd?, "each cell has its text");
     Ok(())
 }
 
+// Fills every other one of 400 cells. Returns whether each holds its text then.
+fn fill_every_other(
+    rt: &impl Host,
+    chunks: &Chunks<&'static str>,
+    first: u64,
+) -> Result<bool, AllocError> {
+    let mut all = true;
+    for i in 0..200u32 {
+        let (position, text) = (first + 2 * u64::from(i), TEXTS[i as usize % 4]);
+        chunks.make_chunk(rt.alloc(), position)?;
+        let (chunk, item) = chunks.fill(rt, position, text);
+        all &= *chunks.value(position, &chunk, &item) == text;
+    }
+    Ok(all)
+}
+
+// Has two threads fill the cells of even and of odd positions.
 #[test]
 fn two_threads_fill_cells_of_the_same_chunks(rt: HostRuntime) -> Result<(), Fail> {
     let chunks = Chunks::new(rt.alloc(), "")?;
-    fill_together(&rt, rt.alloc(), &chunks)
+    let (even, odd) = join(
+        &rt,
+        || fill_every_other(&rt, &chunks, 0),
+        || fill_every_other(&rt, &chunks, 1),
+    );
+    is_so(&rt, even? && odd?, "each cell has its text");
+    Ok(())
 }

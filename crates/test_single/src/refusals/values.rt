@@ -1,57 +1,53 @@
 //! Interners read from JSON, and written with the global allocator.
-use crate::commands::{Wanted, all_wanted};
-use crate::interners::{LIMIT, is_kind, is_text, refusal_of};
+use crate::commands::{PAST_THE_LIMIT, Wanted, are_wanted, past_the_limit};
 use crate::refusals::*;
 use lasso_parts::json::{JsonError, JsonKey};
-use lasso_single::commands::{Command, Reply, run_commands};
+use lasso_single::commands::run_commands;
 use lasso_single::reader::RodeoReader;
 use lasso_single::resolver::RodeoResolver;
 use serde_json::Value;
 
-type Reader<A> = RodeoReader<Spur, FixedState, A>;
+type Reader<'m> = RodeoReader<Spur, FixedState, &'m Memory>;
 
-type Resolver<A> = RodeoResolver<Spur, A>;
+type Resolver<'m> = RodeoResolver<Spur, &'m Memory>;
 
 const WANTING: JsonError = JsonError::Lasso(LassoErrorKind::FailedAllocation);
 
-// How many texts a form reads from the value, or its error. 0 is an interner, 1 a reader, and 2 a resolver.
-fn read<A: Allocator + Clone>(alloc: A, value: &Value, form: usize) -> Result<usize, JsonError> {
-    match form {
-        0 => Ok(Metered::<Spur, A>::deserialize(alloc, value)?.len()),
-        1 => Ok(Reader::<A>::deserialize(alloc, value)?.len()),
-        _ => Ok(Resolver::<A>::deserialize(alloc, value)?.len()),
-    }
-}
+// How many texts a form reads, or its error.
+type Read = Result<usize, JsonError>;
 
-fn is_read(found: Result<usize, JsonError>, wanted: Result<usize, JsonError>) -> bool {
-    found == wanted
+// What a form reads from the value. 0 is an interner, 1 a reader, and 2 a resolver.
+fn read(memory: &Memory, value: &Value, form: usize) -> Read {
+    match form {
+        0 => Ok(Metered::<Spur>::deserialize(memory, value)?.len()),
+        1 => Ok(Reader::deserialize(memory, value)?.len()),
+        _ => Ok(Resolver::deserialize(memory, value)?.len()),
+    }
 }
 
 // Checks that a form reads so from the value of the text. A call that runs out of memory leaves nothing
 // allocated, and the same call made again returns what the first would have.
-fn reads<A: Allocator + Clone + Copy>(
-    rt: &impl Abort,
+fn reads(
+    rt: &impl Host,
     memory: &Memory,
-    alloc: A,
     text: &str,
-    value: &Value,
     form: usize,
-    wanted: Result<usize, JsonError>,
-) {
-    let mut found = read(alloc, value, form);
+    wanted: Read,
+) -> Result<(), Fail> {
+    let value = Value::from_str(rt.alloc(), text)?;
+    let mut found = read(memory, &value, form);
     for _refusal in 0..REFUSALS {
         if !memory.has_refused_anew() {
             break;
         }
-        is_so(rt, is_read(found, Err(WANTING)), text);
+        is_so(rt, found == Err(WANTING), text);
         is_so(rt, memory.bytes_out() == 0, text);
-        found = read(alloc, value, form);
+        found = read(memory, &value, form);
     }
-    is_so(rt, is_read(found, wanted), text);
+    is_so(rt, found == wanted, text);
     is_so(rt, memory.bytes_out() == 0, text);
+    Ok(())
 }
-
-type Read = Result<usize, JsonError>;
 
 const DOUBLED: Read = Err(JsonError::Doubled(2));
 
@@ -65,22 +61,22 @@ static FORMS: [(&str, [Read; 3]); 4] = [
     (r#"["a","bc"]"#, [Ok(2), Ok(2), Ok(2)]),
 ];
 
-fn reads_each(rt: &impl Abort, memory: &Memory, text: &str, value: &Value, wanted: &[Read]) {
-    for (form, wanted) in wanted.iter().enumerate() {
-        reads(rt, memory, memory, text, value, form, *wanted);
-    }
-}
-
-fn each_form<R: AllocGlobal + Abort>(rt: &R, memory: &Memory) -> Result<(), Fail> {
+fn each_form(rt: &impl Host, memory: &Memory) -> Result<(), Fail> {
     for (text, wanted) in FORMS.iter() {
-        let value = Value::from_str(rt.alloc(), *text)?;
-        reads_each(rt, memory, *text, &value, wanted.as_slice());
+        for (form, wanted) in wanted.iter().enumerate() {
+            reads(rt, memory, *text, form, *wanted)?;
+        }
     }
     Ok(())
 }
 
+#[test]
+fn values_that_are_read(rt: HostRuntime) -> Result<(), Fail> {
+    each_refused(&rt, each_form)
+}
+
 // The value that was read. `None` if the call ran out of memory.
-fn was_read<T>(rt: &impl Abort, memory: &Memory, outcome: Result<T, JsonError>) -> Option<T> {
+fn was_read<T>(rt: &impl Host, memory: &Memory, outcome: Result<T, JsonError>) -> Option<T> {
     match outcome {
         Ok(made) => Some(made),
         Err(fault) => {
@@ -91,68 +87,27 @@ fn was_read<T>(rt: &impl Abort, memory: &Memory, outcome: Result<T, JsonError>) 
     }
 }
 
-// Whether the texts are exactly these, in this order.
-fn has_texts<A: Allocator + Clone>(resolver: &Resolver<A>, texts: &[&str]) -> bool {
-    let mut walk = resolver.strings();
-    for text in texts {
-        if !is_text(walk.next(), text) {
-            return false;
-        }
-    }
-    walk.next().is_none()
-}
-
-fn reads_three<A: Allocator + Clone>(rt: &impl Abort, memory: &Memory, alloc: A, value: &Value) {
-    if let Some(resolver) = was_read(rt, memory, Resolver::<A>::deserialize(alloc, value)) {
-        is_so(rt, has_texts(&resolver, &["a", "b", "a"]), "the texts");
-    }
-}
-
-fn three_texts<R: AllocGlobal + Abort>(rt: &R, memory: &Memory) -> Result<(), Fail> {
-    let value = Value::from_str(rt.alloc(), r#"["a","b","a"]"#)?;
-    reads_three(rt, memory, memory, &value);
-    Ok(())
-}
-
-// Reads an interner from the value, and checks its state.
-fn reads_value<A: Allocator + Clone>(
-    rt: &impl Abort,
-    memory: &Memory,
-    alloc: A,
-    value: &Value,
-    state: State,
-) {
-    if let Some(rodeo) = was_read(rt, memory, Metered::<Spur, A>::deserialize(alloc, value)) {
-        is_in(rt, &rodeo, state);
-    }
-}
-
 // Reads an interner from the value of the JSON text, and checks its state.
-fn reads_interner<R: AllocGlobal + Abort>(
-    rt: &R,
-    memory: &Memory,
-    text: &str,
-    state: State,
-) -> Result<(), Fail> {
+fn reads_interner(rt: &impl Host, memory: &Memory, text: &str, state: State) -> Result<(), Fail> {
     let value = Value::from_str(rt.alloc(), text)?;
-    reads_value(rt, memory, memory, &value, state);
+    if let Some(rodeo) = was_read(rt, memory, Metered::<Spur>::deserialize(memory, &value)) {
+        holds(rt, &rodeo, state.0, state.1);
+    }
     Ok(())
 }
 
 // Two texts of three bytes get a bucket of three bytes. Without texts the bucket has the usual 4096.
-fn read_interners<R: AllocGlobal + Abort>(rt: &R, memory: &Memory) -> Result<(), Fail> {
+fn reads_texts(rt: &impl Host, memory: &Memory) -> Result<(), Fail> {
+    let value = Value::from_str(rt.alloc(), r#"["a","b","a"]"#)?;
+    if let Some(resolver) = was_read(rt, memory, Resolver::deserialize(memory, &value)) {
+        let mut walk = resolver.strings();
+        for text in ["a", "b", "a"] {
+            is_so(rt, walk.next() == Some(text), text);
+        }
+        is_so(rt, walk.next().is_none(), "the end");
+    }
     reads_interner(rt, memory, r#"["a","bc"]"#, (&["a", "bc"], 3))?;
     reads_interner(rt, memory, "[]", (&[], 4096))
-}
-
-#[test]
-fn values_that_are_read(rt: HostRuntime) -> Result<(), Fail> {
-    each_refused(&rt, each_form)
-}
-
-fn reads_texts<R: AllocGlobal + Abort>(rt: &R, memory: &Memory) -> Result<(), Fail> {
-    three_texts(rt, memory)?;
-    read_interners(rt, memory)
 }
 
 #[test]
@@ -161,10 +116,7 @@ fn what_was_read(rt: HostRuntime) -> Result<(), Fail> {
 }
 
 // The value of the interner, written again if the first call runs out of memory.
-fn value_of<A: Allocator + Clone, R: AllocGlobal + Abort>(
-    rt: &R,
-    rodeo: &Metered<Spur, A>,
-) -> Result<Value, Fail> {
+fn value_of(rt: &impl Host, rodeo: &Metered<'_, Spur>) -> Result<Value, Fail> {
     match rodeo.serialize(rt.alloc()) {
         Ok(value) => Ok(value),
         Err(fault) => {
@@ -175,75 +127,28 @@ fn value_of<A: Allocator + Clone, R: AllocGlobal + Abort>(
     }
 }
 
-fn is_written(alloc: Global, value: &Value) -> Result<bool, Fail> {
-    let text = value.to_string(alloc)?;
-    Ok(text.as_str() == r#"["b","a"]"#)
-}
-
-fn is_one(alloc: Global, key: Spur) -> bool {
-    match key.key_to_json(alloc) {
-        Ok(number) => number.as_u64() == Some(1),
-        Err(_fault) => false,
-    }
-}
-
-// Whether the key of "b" is 1 in JSON, and still stands for the text.
-fn has_first_key<A: Allocator + Clone>(alloc: Global, rodeo: &Metered<Spur, A>) -> bool {
-    match rodeo.get("b") {
-        Some(first) => is_one(alloc, first) && is_text(rodeo.try_resolve(first), "b"),
-        None => false,
-    }
-}
-
-fn writes<A: Allocator + Clone, R: AllocGlobal + Abort>(
-    rt: &R,
-    rodeo: &Metered<Spur, A>,
-) -> Result<(), Fail> {
-    let value = value_of(rt, rodeo)?;
-    is_so(rt, is_written(rt.alloc(), &value)?, "the value");
-    holds(rt, rodeo, &["b", "a"], 4096);
-    is_so(rt, has_first_key(rt.alloc(), rodeo), "the first key");
-    Ok(())
-}
-
 // If writing runs out of memory (`rt try --test --fail-alloc N`), the interner is unchanged, and the same
-// call made again writes the value.
+// call made again writes the value. The key of "b" is 1 in JSON, and still stands for the text.
 #[test]
 fn what_is_written_changes_nothing(rt: HostRuntime) -> Result<(), Fail> {
     let memory = Refusing::new(rt.alloc(), 0);
-    let rodeo = Metered::<Spur, &Memory>::from_iter(&memory, ["b", "a"])?;
-    writes(&rt, &rodeo)
+    let rodeo = Metered::<Spur>::from_iter(&memory, ["b", "a"])?;
+    let text = value_of(&rt, &rodeo)?.to_string(rt.alloc())?;
+    is_so(&rt, text.as_str() == r#"["b","a"]"#, "the value");
+    holds(&rt, &rodeo, &["b", "a"], 4096);
+    let first = rodeo.get("b").ok_or("no key")?;
+    let number = first.key_to_json(rt.alloc())?.as_u64();
+    is_so(&rt, number == Some(1), "the first key");
+    is_so(&rt, rodeo.try_resolve(first) == Some("b"), "its text");
+    Ok(())
 }
 
 // Runs of commands, interners made from static keywords, and lists of texts interned by one call. A command that runs
 // out of memory gets that as its reply, and the run goes on.
 
-// Under a limit of 4 bytes the second text does not fit after the first. After the clear it does.
-fn commands<'a, A: Allocator + 'a>() -> [Command<'a, Spur, FixedState, A>; 7] {
-    [
-        Command::Intern("abcd"),
-        Command::Intern("e"),
-        Command::Clear,
-        Command::Intern("e"),
-        Command::TryResolve(Spur::default()),
-        Command::Len,
-        Command::Usage,
-    ]
-}
-
-// The replies if no command runs out of memory, and if the first does, so that the second text becomes the first
-// one. No other command asks this memory: the limit refuses the second one first, and the clear keeps the room that
-// the first one made.
-static USUAL: [Wanted; 7] = [
-    Wanted::Key(0),
-    Wanted::Limit,
-    Wanted::Done,
-    Wanted::Key(0),
-    Wanted::Text("e"),
-    Wanted::Number(1),
-    Wanted::Number(4),
-];
-
+// The replies if the first command runs out of memory, so that the second text becomes the first one. No other
+// command asks this memory: the limit refuses the second one first, and the clear keeps the room that the first one
+// made.
 static WITHOUT_THE_FIRST: [Wanted; 7] = [
     Wanted::Memory,
     Wanted::Key(0),
@@ -254,44 +159,20 @@ static WITHOUT_THE_FIRST: [Wanted; 7] = [
     Wanted::Number(4),
 ];
 
-fn replies<'m>(
-    alloc: Global,
-    rodeo: &mut Metered<Spur, &'m Memory>,
-) -> LassoResult<Vec<Reply<Spur>>> {
-    let commands = commands::<'m, &'m Memory>();
-    run_commands(alloc, rodeo, commands.as_slice())
-}
-
-// The replies of a run whose first command may have run out of memory.
-fn wanted_of(memory: &Memory) -> &'static [Wanted] {
-    if memory.has_refused_anew() {
-        WITHOUT_THE_FIRST.as_slice()
-    } else {
-        USUAL.as_slice()
-    }
-}
-
 // The replies and the copy of the text use the global allocator, so `memory` refuses none of their requests.
-fn runs_small<R: AllocGlobal + Abort>(
-    rt: &R,
-    memory: &Memory,
-    rodeo: &mut Metered<Spur, &Memory>,
-) -> Result<(), Fail> {
-    let replies = replies(rt.alloc(), rodeo)?;
-    is_so(
-        rt,
-        all_wanted(replies.as_slice(), wanted_of(memory)),
-        "the replies",
-    );
-    is_in(rt, rodeo, (&["e"], 4));
-    Ok(())
-}
-
-fn small_run<R: AllocGlobal + Abort>(rt: &R, memory: &Memory) -> Result<(), Fail> {
-    match interner::<Spur, &Memory>(rt, memory, memory, 4, 4) {
-        Some(mut rodeo) => runs_small(rt, memory, &mut rodeo),
-        None => Ok(()),
+fn small_run<R: Host>(rt: &R, memory: &Memory) -> Result<(), Fail> {
+    if let Some(mut tried) = Tried::<Spur, R>::new(rt, memory, 4, 4) {
+        let commands = past_the_limit(Spur::default());
+        let replies = run_commands(rt.alloc(), &mut tried.rodeo, commands.as_slice())?;
+        let wanted = if memory.has_refused_anew() {
+            &WITHOUT_THE_FIRST
+        } else {
+            &PAST_THE_LIMIT
+        };
+        are_wanted(rt, replies.as_slice(), wanted);
+        tried.is_in((&["e"], 4));
     }
+    Ok(())
 }
 
 #[test]
@@ -308,152 +189,99 @@ const WORDS: [&str; 3] = ["if", "else", LONG];
 const WITH_WIDTH: [&str; 4] = ["if", "else", LONG, "width"];
 
 // A present keyword keeps its key, and a new text gets the key after the keywords.
-fn interns_after_keywords<A: Allocator + Clone>(
-    rt: &impl Abort,
-    memory: &Memory,
-    rodeo: &mut Metered<Spur, A>,
-) {
+fn opened_with_keywords<R: Host>(rt: &R, memory: &Memory) {
     static ROWS: [Row; 2] = [
         (Intern("else"), Ok(1), (&WORDS, 4096)),
         (Intern("width"), Ok(3), (&WITH_WIDTH, 4096)),
     ];
-    is_in(rt, rodeo, (&WORDS, 4096));
-    gives_each(rt, memory, rodeo, (&WORDS, 4096), &ROWS);
-}
-
-fn opened_with_keywords<A: Allocator + Clone>(rt: &impl Abort, memory: &Memory, alloc: A) {
-    match made(rt, memory, Metered::<Spur, A>::from_static(alloc, &WORDS)) {
-        Some(mut rodeo) => interns_after_keywords(rt, memory, &mut rodeo),
+    match Tried::<Spur, R>::of(rt, memory, Rodeo::from_static(memory, &WORDS)) {
+        Some(mut tried) => {
+            tried.is_in((&WORDS, 4096));
+            tried.gives_each((&WORDS, 4096), &ROWS);
+        }
         None => is_so(rt, memory.bytes_out() == 0, "the bytes that are out"),
     }
 }
 
 static LIST: [&str; 4] = ["ab", "cd", "ab", "e"];
 
-type Keys<A> = Vec<Spur, A>;
+type Keys<'m> = Vec<Spur, &'m Memory>;
 
-fn intern_all<A: Allocator + Clone>(
-    rodeo: &mut Metered<Spur, A>,
-    texts: &[&str],
-    keys: &mut Keys<A>,
-) -> Option<LassoErrorKind> {
-    refusal_of(rodeo.try_get_or_intern_all(texts, keys))
-}
-
-// Interns the list from the text after the last key on, again while a request is refused, until the limit
-// refuses "e".
-fn lists<A: Allocator + Clone>(
-    rt: &impl Abort,
-    memory: &Memory,
-    rodeo: &mut Metered<Spur, A>,
-    keys: &mut Keys<A>,
-) {
-    let mut taken = 0;
-    for _refusal in 0..REFUSALS {
-        let Some(rest) = LIST.get(taken..) else {
-            break;
-        };
-        let refusal = intern_all(rodeo, rest, keys);
-        taken = keys.len();
-        if !memory.has_refused_anew() {
-            is_so(rt, is_kind(refusal, LIMIT), "the text past the limit");
-            break;
+impl<'m, R: Host> Tried<'m, Spur, R> {
+    // Interns the list from the text after the last key on, again while a request is refused, until the limit
+    // refuses "e".
+    fn lists(&mut self, keys: &mut Keys<'m>) {
+        for _refusal in 0..REFUSALS {
+            let rest = LIST.get(keys.len()..).unwrap_or(&[]);
+            let refusal = refusal_of(self.rodeo.try_get_or_intern_all(rest, keys));
+            if !self.memory.has_refused_anew() {
+                is_so(self.rt, refusal == Some(LIMIT), "the text past the limit");
+                break;
+            }
+            is_so(self.rt, refusal == Some(MEMORY), "a text out of memory");
+            let has_keys = self.rodeo.len() <= keys.len();
+            is_so(self.rt, has_keys, "the texts without a key");
         }
-        is_so(rt, is_kind(refusal, MEMORY), "a text out of memory");
-        is_so(rt, rodeo.len() <= taken, "the texts without a key");
     }
-}
 
-// The error of a list that the limit refuses, unless a request is refused first.
-fn ends_list(memory: &Memory) -> LassoErrorKind {
-    if memory.has_refused_anew() {
-        MEMORY
-    } else {
-        LIMIT
-    }
-}
-
-// Whether "ab", "cd", "ab" have the keys of these positions, and "e" has none.
-fn are_of_list(keys: &[Option<Spur>]) -> bool {
-    match keys {
-        [Some(first), Some(second), Some(third), None] => {
-            first.into_usize() == 0 && second.into_usize() == 1 && third.into_usize() == 0
+    // Looks for the list's keys, again while a request is refused. A refused call adds none. "ab", "cd", "ab" have
+    // the keys of these numbers, and "e" has none.
+    fn finds_keys(&self) {
+        let mut keys: Vec<Option<Spur>, &Memory> = Vec::new(self.memory);
+        for _call in 0..REFUSALS.saturating_add(1) {
+            let refusal = refusal_of(self.rodeo.get_all(&LIST, &mut keys));
+            if !self.memory.has_refused_anew() {
+                is_so(self.rt, refusal.is_none(), "the keys of a list");
+                break;
+            }
+            is_so(self.rt, refusal == Some(MEMORY), "keys out of memory");
+            is_so(self.rt, keys.is_empty(), "the keys of a refused call");
         }
-        _ => false,
-    }
-}
-
-// Looks for the list's keys, again while a request is refused. A refused call adds none.
-fn finds_keys<A: Allocator + Clone + Copy>(
-    rt: &impl Abort,
-    memory: &Memory,
-    rodeo: &Metered<Spur, A>,
-    alloc: A,
-) {
-    let mut keys: Vec<Option<Spur>, A> = Vec::new(alloc);
-    for _call in 0..REFUSALS.saturating_add(1) {
-        let refusal = refusal_of(rodeo.get_all(&LIST, &mut keys));
-        if !memory.has_refused_anew() {
-            is_so(rt, refusal.is_none(), "the keys of a list");
-            break;
+        is_so(self.rt, keys.len() == LIST.len(), "the number of keys");
+        for (key, number) in keys.iter().zip([Some(0), Some(1), Some(0), None]) {
+            is_so(self.rt, number_of(*key) == number, "the keys");
         }
-        is_so(rt, is_kind(refusal, MEMORY), "keys out of memory");
-        is_so(rt, keys.is_empty(), "the keys of a refused call");
     }
-    is_so(rt, are_of_list(keys.as_slice()), "the keys");
-}
 
-fn resolve_all<'a, A: Allocator + Clone>(
-    rodeo: &'a Metered<Spur, A>,
-    keys: &[Spur],
-    texts: &mut Vec<&'a str, A>,
-) -> Option<LassoErrorKind> {
-    if !rodeo.contains_keys(keys) {
-        return Some(KEYS);
-    }
-    refusal_of(rodeo.resolve_all(keys, texts))
-}
-
-fn are_texts(texts: &[&str]) -> bool {
-    texts == ["ab", "cd", "ab"].as_slice()
-}
-
-// Looks for the texts of the list's keys in the same way.
-fn finds_texts<A: Allocator + Clone + Copy>(
-    rt: &impl Abort,
-    memory: &Memory,
-    rodeo: &Metered<Spur, A>,
-    keys: &[Spur],
-    alloc: A,
-) {
-    let mut texts: Vec<&str, A> = Vec::new(alloc);
-    for _call in 0..REFUSALS.saturating_add(1) {
-        let refusal = resolve_all(rodeo, keys, &mut texts);
-        if !memory.has_refused_anew() {
-            is_so(rt, refusal.is_none(), "the texts of a list");
-            break;
+    // Looks for the texts of the list's keys in the same way.
+    fn finds_texts(&self, keys: &[Spur]) {
+        let mut texts: Vec<&str, &Memory> = Vec::new(self.memory);
+        is_so(self.rt, self.rodeo.contains_keys(keys), "the texts' keys");
+        for _call in 0..REFUSALS.saturating_add(1) {
+            let refusal = refusal_of(self.rodeo.resolve_all(keys, &mut texts));
+            if !self.memory.has_refused_anew() {
+                is_so(self.rt, refusal.is_none(), "the texts of a list");
+                break;
+            }
+            is_so(self.rt, refusal == Some(MEMORY), "texts out of memory");
+            is_so(self.rt, texts.is_empty(), "the texts of a refused call");
         }
-        is_so(rt, is_kind(refusal, MEMORY), "texts out of memory");
-        is_so(rt, texts.is_empty(), "the texts of a refused call");
+        let holds = texts.as_slice() == ["ab", "cd", "ab"].as_slice();
+        is_so(self.rt, holds, "the texts");
     }
-    is_so(rt, are_texts(texts.as_slice()), "the texts");
 }
 
 // "ab" and "cd" use up the limit of 4 bytes. The list of keys allocates too, and that may be refused as well.
-fn listed<A: Allocator + Clone + Copy>(rt: &impl Abort, memory: &Memory, alloc: A) {
-    if let Some(mut rodeo) = interner::<Spur, A>(rt, memory, alloc, 2, 4) {
-        let mut keys: Keys<A> = Vec::new(alloc);
-        lists(rt, memory, &mut rodeo, &mut keys);
-        finds_keys(rt, memory, &rodeo, alloc);
-        finds_texts(rt, memory, &rodeo, keys.as_slice(), alloc);
-        let refusal = intern_all(&mut rodeo, &["ab", "cd", "e"], &mut keys);
-        is_so(rt, is_kind(refusal, ends_list(memory)), "the last list");
+fn listed<R: Host>(rt: &R, memory: &Memory) {
+    if let Some(mut tried) = Tried::<Spur, R>::new(rt, memory, 2, 4) {
+        let mut keys: Keys<'_> = Vec::new(memory);
+        tried.lists(&mut keys);
+        tried.finds_keys();
+        tried.finds_texts(keys.as_slice());
+        let more = ["ab", "cd", "e"];
+        let refusal = refusal_of(tried.rodeo.try_get_or_intern_all(&more, &mut keys));
+        let wanted = if memory.has_refused_anew() {
+            MEMORY
+        } else {
+            LIMIT
+        };
+        is_so(rt, refusal == Some(wanted), "the last list");
     }
 }
 
-fn interns_keywords_and_lists<R: AllocGlobal + Abort>(rt: &R, memory: &Memory) -> Result<(), Fail> {
-    opened_with_keywords(rt, memory, memory);
-    listed(rt, memory, memory);
+fn interns_keywords_and_lists<R: Host>(rt: &R, memory: &Memory) -> Result<(), Fail> {
+    opened_with_keywords(rt, memory);
+    listed(rt, memory);
     Ok(())
 }
 

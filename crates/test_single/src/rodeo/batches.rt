@@ -5,18 +5,13 @@
 //! bytes are 1,048,576. A batch of 32 that is interned or taken is looked ahead at if at least 8 texts of the one before
 //! were present and far; one that `get_all` looks up, if the text before it was present, or if the index has
 //! 4,194,304 bytes.
-use crate::interners::{
-    Small, SpurReader, SpurResolver, copied, frozen, has_count, is_so, is_so_at, key_at, of_texts,
-    resolving,
-};
+use crate::interners::{Host, Small, has_count, is_so, is_so_at, key_at, number_of, of_texts};
 use lasso_parts::keys::{Key, Spur};
 use lasso_parts::util::Capacity;
 use lasso_single::batch::{Batch, get_next, look_ahead};
-use lasso_single::reader::RodeoReader;
 use lasso_single::rodeo::Rodeo;
 use std::alloc::Global;
 use std::cell::Cell;
-use std::process::Abort;
 use std::test::Fail;
 use test_common::hashers::CountingState;
 use test_common::texts::leaked;
@@ -29,56 +24,36 @@ static HEAD: &str = "of the texts of 16,360 bytes, number ";
 // 64 bytes.
 static FILL: &str = "the quick brown fox jumps over the lazy dog, and then back again";
 
-// The text of a number from 100 to 999. All of them have the same ends.
-fn numbered(alloc: Global, number: usize) -> Result<&'static str, Fail> {
-    let mut text = format!(in alloc; "{HEAD}{number}")?;
-    for _ in 0..255 {
-        text.push_str(FILL)?;
-    }
-    leaked(text)
-}
-
-// The texts of a hundred numbers, which have the indices 0 to 99.
+// The texts of the numbers from 100 on, which have the indices 0 to 99. All of them have the same ends.
 fn texts_of(alloc: Global) -> Result<Vec<&'static str>, Fail> {
     let mut texts = Vec::new(alloc);
     for number in 100..200 {
-        texts.push(numbered(alloc, number)?)?;
+        let mut text = format!(in alloc; "{HEAD}{number}")?;
+        for _ in 0..255 {
+            text.push_str(FILL)?;
+        }
+        texts.push(leaked(text)?)?;
     }
     Ok(texts)
-}
-
-fn text_at<'a>(texts: &[&'a str], index: usize) -> &'a str {
-    if index < texts.len() {
-        texts[index]
-    } else {
-        ""
-    }
 }
 
 // The texts of these indices.
 fn picked<'a>(alloc: Global, texts: &[&'a str], indices: &[usize]) -> Result<Vec<&'a str>, Fail> {
     let mut list = Vec::new(alloc);
     for index in indices {
-        list.push(text_at(texts, *index))?;
+        list.push(*texts.get(*index).ok_or("no text")?)?;
     }
     Ok(list)
 }
 
-fn is_found(found: Option<Spur>, index: usize, count: usize) -> bool {
-    match found {
-        Some(key) => key.into_usize() == index && index < count,
-        None => index >= count,
-    }
-}
-
 // Whether the keys are those of their indices, and there is none for an index of `count` or more.
 fn are_found(keys: &[Option<Spur>], indices: &[usize], count: usize) -> bool {
+    let mut all = keys.len() == indices.len();
     for (key, index) in keys.iter().zip(indices) {
-        if !is_found(*key, *index, count) {
-            return false;
-        }
+        let wanted = if *index < count { Some(*index) } else { None };
+        all &= number_of(*key) == wanted;
     }
-    keys.len() == indices.len()
+    all
 }
 
 // A call that looks texts up, or interns them.
@@ -107,21 +82,6 @@ fn found_next(
     Ok(())
 }
 
-// Interns the texts by one call.
-fn interned_all(
-    rodeo: &mut Counted<'_>,
-    alloc: Global,
-    list: &[&str],
-    found: &mut Vec<Option<Spur>>,
-) -> Result<(), Fail> {
-    let mut keys = Vec::new(alloc);
-    rodeo.try_get_or_intern_all(list, &mut keys)?;
-    for key in keys.iter() {
-        found.push(Some(*key))?;
-    }
-    Ok(())
-}
-
 // Makes the call for the texts of these indices. Returns whether exactly those of an index below the number of texts
 // are found, each with the key of its index.
 fn finds_by(
@@ -136,22 +96,15 @@ fn finds_by(
     match call {
         Call::GetAll => rodeo.get_all(list.as_slice(), &mut keys)?,
         Call::GetNext => found_next(rodeo, list.as_slice(), &mut keys)?,
-        Call::InternAll => interned_all(rodeo, alloc, list.as_slice(), &mut keys)?,
+        Call::InternAll => {
+            let mut interned = Vec::new(alloc);
+            rodeo.try_get_or_intern_all(list.as_slice(), &mut interned)?;
+            for key in interned.iter() {
+                keys.push(Some(*key))?;
+            }
+        }
     }
     Ok(are_found(keys.as_slice(), indices, rodeo.len()))
-}
-
-// Looks for the texts of these indices by one call of a reader.
-fn reader_finds_all(
-    reader: &RodeoReader<Spur, CountingState<'_>, Global>,
-    alloc: Global,
-    texts: &[&str],
-    indices: &[usize],
-) -> Result<bool, Fail> {
-    let list = picked(alloc, texts, indices)?;
-    let mut keys = Vec::new(alloc);
-    reader.get_all(list.as_slice(), &mut keys)?;
-    Ok(are_found(keys.as_slice(), indices, reader.len()))
 }
 
 // An interner with room for this many texts, which has the first 96 and counts the texts that it hashes.
@@ -163,8 +116,8 @@ fn counted<'a>(
 ) -> Result<Counted<'a>, Fail> {
     let (room, state) = (Capacity::for_strings(strings), CountingState::new(made));
     let mut rodeo: Counted<'a> = Rodeo::with_capacity_and_hasher(alloc, room, state)?;
-    for index in 0..96 {
-        rodeo.try_get_or_intern(text_at(texts, index))?;
+    for text in texts.iter().take(96) {
+        rodeo.try_get_or_intern(*text)?;
     }
     Ok(rodeo)
 }
@@ -217,41 +170,24 @@ fn indices_of(alloc: Global, row: &Row, absent: usize) -> Result<Vec<usize>, Fai
     Ok(indices)
 }
 
-// Makes the call for the texts of each row. Fails unless they are found, and as many are hashed as the row says.
-fn hashes<R: AllocGlobal + Abort>(
-    rt: &R,
-    rodeo: &mut Counted<'_>,
-    made: &Cell<u64>,
-    texts: &[&str],
-    call: Call,
-    rows: &[Row],
-) -> Result<(), Fail> {
-    for row in 0..rows.len() {
-        let absent = if matches!(call, Call::InternAll) {
-            96 + row % 4
-        } else {
-            99
-        };
-        let indices = indices_of(rt.alloc(), &rows[row], absent)?;
-        let before = made.get();
-        let found = finds_by(rodeo, rt.alloc(), call, texts, indices.as_slice())?;
-        is_so_at(rt, found, row);
-        is_so_at(rt, made.get().wrapping_sub(before) == rows[row].4, row);
-    }
-    Ok(())
-}
-
-// Makes the call on an interner with room for this many texts.
-fn hashes_with<R: AllocGlobal + Abort>(
-    rt: &R,
-    strings: usize,
-    call: Call,
-    rows: &[Row],
-) -> Result<(), Fail> {
+// Makes the call for the texts of each row on an interner with room for this many texts. Fails unless they are found,
+// and as many are hashed as the row says.
+fn hashes_with(rt: &impl Host, strings: usize, call: Call, rows: &[Row]) -> Result<(), Fail> {
     let made = Cell::new(0);
     let texts = texts_of(rt.alloc())?;
     let mut rodeo = counted(rt.alloc(), &made, strings, texts.as_slice())?;
-    hashes(rt, &mut rodeo, &made, texts.as_slice(), call, rows)
+    for (number, row) in rows.iter().enumerate() {
+        let absent = match call {
+            Call::InternAll => 96 + number % 4,
+            _ => 99,
+        };
+        let indices = indices_of(rt.alloc(), row, absent)?;
+        let before = made.get();
+        let found = finds_by(&mut rodeo, rt.alloc(), call, &texts, indices.as_slice())?;
+        is_so_at(rt, found, number);
+        is_so_at(rt, made.get().wrapping_sub(before) == row.4, number);
+    }
+    Ok(())
 }
 
 #[test]
@@ -272,29 +208,23 @@ fn texts_of_a_list_are_hashed_once(rt: HostRuntime) -> Result<(), Fail> {
     hashes_with(&rt, 700_000, Call::GetAll, &ONCE)
 }
 
-// Looks the texts up in a reader, where each has to be hashed once.
-fn reader_hashes<R: AllocGlobal + Abort>(
-    rt: &R,
-    reader: &RodeoReader<Spur, CountingState<'_>, Global>,
-    made: &Cell<u64>,
-    texts: &[&str],
-) -> Result<(), Fail> {
-    for row in 0..ONCE.len() {
-        let indices = indices_of(rt.alloc(), &ONCE[row], 99)?;
-        let before = made.get();
-        let found = reader_finds_all(reader, rt.alloc(), texts, indices.as_slice())?;
-        is_so_at(rt, found, row);
-        is_so_at(rt, made.get().wrapping_sub(before) == ONCE[row].4, row);
-    }
-    Ok(())
-}
-
+// Looks the texts up in a reader.
 #[test]
 fn texts_of_a_list_are_hashed_once_in_a_reader(rt: HostRuntime) -> Result<(), Fail> {
     let made = Cell::new(0);
     let texts = texts_of(rt.alloc())?;
-    let rodeo = counted(rt.alloc(), &made, 50, texts.as_slice())?;
-    reader_hashes(&rt, &rodeo.into_reader(), &made, texts.as_slice())
+    let reader = counted(rt.alloc(), &made, 50, texts.as_slice())?.into_reader();
+    for (number, row) in ONCE.iter().enumerate() {
+        let indices = indices_of(rt.alloc(), row, 99)?;
+        let list = picked(rt.alloc(), &texts, indices.as_slice())?;
+        let before = made.get();
+        let mut keys = Vec::new(rt.alloc());
+        reader.get_all(list.as_slice(), &mut keys)?;
+        let found = are_found(keys.as_slice(), indices.as_slice(), reader.len());
+        is_so_at(&rt, found, number);
+        is_so_at(&rt, made.get().wrapping_sub(before) == row.4, number);
+    }
+    Ok(())
 }
 
 // Lists of thousands of texts and of keys, by each call that takes a list.
@@ -313,17 +243,10 @@ fn numbers(alloc: Global) -> Result<Vec<String>, Fail> {
     Ok(texts)
 }
 
-fn numbered_at(texts: &[String], place: usize) -> &str {
-    match texts.get(place % DISTINCT) {
-        Some(text) => text.as_str(),
-        None => "",
-    }
-}
-
 fn list_of<'a>(alloc: Global, texts: &'a [String]) -> Result<Vec<&'a str>, Fail> {
     let mut list = Vec::new(alloc);
     for place in 0..COUNT {
-        list.push(numbered_at(texts, place))?;
+        list.push(texts[place % DISTINCT].as_str())?;
     }
     Ok(list)
 }
@@ -339,84 +262,33 @@ fn keys_of(alloc: Global) -> Result<Vec<Spur>, Fail> {
 
 // Whether the keys are those of the list.
 fn are_keys(keys: &[Option<Spur>]) -> bool {
-    for place in 0..keys.len() {
-        if !is_found(keys[place], place % DISTINCT, DISTINCT) {
-            return false;
-        }
+    let mut all = keys.len() == COUNT;
+    for (place, key) in keys.iter().enumerate() {
+        all &= number_of(*key) == Some(place % DISTINCT);
     }
-    keys.len() == COUNT
-}
-
-// Whether interning the list by one call gives these keys.
-fn interns(alloc: Global, list: &[&str], wanted: &[Spur]) -> Result<bool, Fail> {
-    let mut rodeo: Small = Rodeo::default(alloc)?;
-    let mut keys = Vec::new(alloc);
-    rodeo.try_get_or_intern_all(list, &mut keys)?;
-    Ok(keys.as_slice() == wanted && has_count(&rodeo, DISTINCT))
-}
-
-// Whether a `Rodeo` finds the keys of the list.
-fn finds(rodeo: &Small, alloc: Global, list: &[&str]) -> Result<bool, Fail> {
-    let mut found = Vec::new(alloc);
-    rodeo.get_all(list, &mut found)?;
-    Ok(are_keys(found.as_slice()))
-}
-
-// Whether a reader finds them.
-fn reader_finds(reader: &SpurReader, alloc: Global, list: &[&str]) -> Result<bool, Fail> {
-    let mut found = Vec::new(alloc);
-    reader.get_all(list, &mut found)?;
-    Ok(are_keys(found.as_slice()))
-}
-
-fn are_texts(texts: &[&str], wanted: &[&str]) -> bool {
-    texts == wanted
-}
-
-// Whether the interner or the frozen form gives these texts for the keys.
-macro_rules! gives_texts {
-    ($form:expr, $alloc:expr, $keys:expr, $list:expr) => {{
-        let mut texts = Vec::new($alloc);
-        if $form.contains_keys($keys) {
-            $form.resolve_all($keys, &mut texts)?;
-        }
-        Ok(are_texts(texts.as_slice(), $list))
-    }};
-}
-
-fn resolves(rodeo: &Small, alloc: Global, keys: &[Spur], list: &[&str]) -> Result<bool, Fail> {
-    gives_texts!(rodeo, alloc, keys, list)
-}
-
-fn reader_resolves(
-    reader: &SpurReader,
-    alloc: Global,
-    keys: &[Spur],
-    list: &[&str],
-) -> Result<bool, Fail> {
-    gives_texts!(reader, alloc, keys, list)
-}
-
-fn resolver_resolves(
-    resolver: &SpurResolver,
-    alloc: Global,
-    keys: &[Spur],
-    list: &[&str],
-) -> Result<bool, Fail> {
-    gives_texts!(resolver, alloc, keys, list)
+    all
 }
 
 #[test]
 fn six_thousand_texts_are_interned(rt: HostRuntime) -> Result<(), Fail> {
     let texts = numbers(rt.alloc())?;
     let list = list_of(rt.alloc(), texts.as_slice())?;
-    let keys = keys_of(rt.alloc())?;
-    is_so(
-        &rt,
-        interns(rt.alloc(), list.as_slice(), keys.as_slice())?,
-        "the keys",
-    );
+    let mut rodeo = Small::default(rt.alloc())?;
+    let mut keys = Vec::new(rt.alloc());
+    rodeo.try_get_or_intern_all(list.as_slice(), &mut keys)?;
+    let wanted = keys_of(rt.alloc())?;
+    is_so(&rt, keys.as_slice() == wanted.as_slice(), "the keys");
+    is_so(&rt, has_count(&rodeo, DISTINCT), "the number of texts");
     Ok(())
+}
+
+// Fails unless the interner or the frozen form finds the keys of the list.
+macro_rules! finds {
+    ($rt:expr, $form:expr, $list:expr) => {{
+        let mut found = Vec::new($rt.alloc());
+        $form.get_all($list, &mut found)?;
+        is_so($rt, are_keys(found.as_slice()), "the keys");
+    }};
 }
 
 #[test]
@@ -424,37 +296,20 @@ fn six_thousand_texts_are_found(rt: HostRuntime) -> Result<(), Fail> {
     let texts = numbers(rt.alloc())?;
     let list = list_of(rt.alloc(), texts.as_slice())?;
     let rodeo = of_texts(rt.alloc(), list.as_slice())?;
-    is_so(&rt, finds(&rodeo, rt.alloc(), list.as_slice())?, "a rodeo");
-    let reader = frozen(rodeo);
-    is_so(
-        &rt,
-        reader_finds(&reader, rt.alloc(), list.as_slice())?,
-        "a reader",
-    );
+    finds!(&rt, rodeo, list.as_slice());
+    let reader = rodeo.into_reader();
+    finds!(&rt, reader, list.as_slice());
     Ok(())
 }
 
-// Checks the calls of all three.
-fn each_resolves<R: AllocGlobal + Abort>(
-    rt: &R,
-    rodeo: Small,
-    keys: &[Spur],
-    list: &[&str],
-) -> Result<(), Fail> {
-    is_so(rt, resolves(&rodeo, rt.alloc(), keys, list)?, "a rodeo");
-    let resolver = resolving(copied(&rodeo)?);
-    is_so(
-        rt,
-        resolver_resolves(&resolver, rt.alloc(), keys, list)?,
-        "a resolver",
-    );
-    let reader = frozen(rodeo);
-    is_so(
-        rt,
-        reader_resolves(&reader, rt.alloc(), keys, list)?,
-        "a reader",
-    );
-    Ok(())
+// Fails unless the interner or the frozen form gives these texts for the keys.
+macro_rules! gives_texts {
+    ($rt:expr, $form:expr, $keys:expr, $list:expr) => {{
+        let mut texts = Vec::new($rt.alloc());
+        is_so($rt, $form.contains_keys($keys), "the keys");
+        $form.resolve_all($keys, &mut texts)?;
+        is_so($rt, texts.as_slice() == $list, "the texts");
+    }};
 }
 
 #[test]
@@ -463,5 +318,10 @@ fn six_thousand_keys_are_resolved(rt: HostRuntime) -> Result<(), Fail> {
     let list = list_of(rt.alloc(), texts.as_slice())?;
     let rodeo = of_texts(rt.alloc(), list.as_slice())?;
     let keys = keys_of(rt.alloc())?;
-    each_resolves(&rt, rodeo, keys.as_slice(), list.as_slice())
+    gives_texts!(&rt, rodeo, keys.as_slice(), list.as_slice());
+    let resolver = rodeo.try_clone()?.into_resolver();
+    gives_texts!(&rt, resolver, keys.as_slice(), list.as_slice());
+    let reader = rodeo.into_reader();
+    gives_texts!(&rt, reader, keys.as_slice(), list.as_slice());
+    Ok(())
 }
