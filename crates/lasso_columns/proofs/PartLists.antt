@@ -3,13 +3,12 @@
 -- Interning a present text changes nothing. So interning the distinct texts of a list, in the order of their
 -- first occurrences, leaves what interning all its texts leaves. If it stops at a text, interning all texts
 -- stops at the first occurrence of that text.
-use Rattle.std.proofs.Common.{ℕ, zero, suc, ◌≡◌, ◌+◌, ◌-◌, ◌<◌, ◌≤◌, List, [], ◌∷◌, ◌++◌, map, take, length, Bool, true, false, cond, is_some, is_err, Option, Some, None, Bor, Result, Ok, Err, MatchResult, IfSome, IfErr, OnOk, IsSomeAnd, refl, sym, ap, subst, ◌∙◌, arith, append_assoc, get_or, drop, min, length-append, ◌⊎◌, inl, inr}
+use Rattle.std.proofs.Common.{ℕ, zero, suc, ◌≡◌, ◌+◌, ◌-◌, ◌<◌, ◌≤◌, List, [], ◌∷◌, ◌++◌, map, take, length, Bool, true, false, cond, is_some, is_err, Option, Some, None, Bor, Result, Ok, Err, MatchResult, OnOk, IsSomeAnd, refl, sym, ap, subst, ◌∙◌, arith, append_assoc, get_or, drop, min, ◌⊎◌, inl, inr}
 use Rattle.std.specs.Prelude.{slice_get, All}
 use Rattle.std.proofs.lemmas.List.{append-nil, take-map, drop-map, take_all, length-map, length-take, length_push, take-append-drop}
 use Rattle.std.proofs.Math.Seq.{take-add}
 use Rattle.std.proofs.lemmas.List.Elements.{All-push}
 use Rattle.std.proofs.lemmas.Option.{slice_get_within, get_or_from_slice_get}
-use Rattle.lasso_parts.proofs.IndexLaws.{slice_get-append_left}
 use Rattle.lasso_parts.proofs.TextLemmas.{position_here, position_last}
 use Rattle.lasso_parts.specs.Texts.{Text, position_of}
 use Rattle.lasso_parts.specs.declared.util.LassoError.{LassoError}
@@ -19,10 +18,10 @@ use Rattle.lasso_single.specs.Interner.{InternerView}
 use Rattle.lasso_single.proofs.Filled.{accepted}
 use Rattle.lasso_columns.proofs.Interned.{list_interned}
 use Rattle.lasso_columns.proofs.Interned.{position_with_last}
-use Rattle.lasso_single.proofs.Coded.{position_stays, map_some_at, map_some_length, map_some_both, codes_longer}
+use Rattle.lasso_single.proofs.Coded.{position_stays, map_some_both, codes_longer}
 use Rattle.lasso_single.specs.Codes.{AreCodes, AddsCodes}
 use Rattle.lasso_single.specs.Coding.{spur_at, encoded_texts}
-use Rattle.lasso_columns.specs.Parts.{new_texts, IsEncoded, AddsRewritten}
+use Rattle.lasso_columns.specs.Parts.{new_texts, IsEncoded}
 use Rattle.lasso_single.proofs.Encoded.{Encoded, encoded_length, next_at}
 
 -- ---- an interner that has a text
@@ -49,7 +48,7 @@ pub found_interned : (old new : InternerView) (text : Text) (key : ℕ) → Inte
 found_interned old new text key interns =
     (interned_position old.texts text, key, rw (list_interned spur_at old new text key interns) (position_with_last old.texts text (position_of old.texts text) refl), interns.0.1)
 
-all_at : {X : Type 0} (P : X → Type 0) (xs : List X) (n : ℕ) (x : X) → All P xs → slice_get xs n ≡ Some x → P x
+pub all_at : {X : Type 0} (P : X → Type 0) (xs : List X) (n : ℕ) (x : X) → All P xs → slice_get xs n ≡ Some x → P x
 all_at P xs n x all e = subst P (get_or_from_slice_get xs n x x e) (all n x (slice_get_within xs n x e))
 
 pub there_at : (o : Option ℕ) → is_some o ≡ true → (n : ℕ) × (o ≡ Some n)
@@ -60,10 +59,18 @@ not_there : (o : Option ℕ) → is_some o ≡ false → o ≡ None
 not_there None e = refl
 not_there (Some n) e = cc
 
--- the first of some texts that were all interned
+-- the first of some texts that were all interned, and the others
 first_of : (mid new : InternerView) (texts : List Text) (one : Result ℕ LassoError) → MatchResult one (λ _. extend spur_at mid texts accepted new) (λ error. (accepted ≡ Err error) × (new ≡ mid)) → (k : ℕ) × (one ≡ Ok k) × extend spur_at mid texts accepted new
 first_of mid new texts (Ok k) h = (k, refl, h)
 first_of mid new texts (Err error) h = let e = h.0 in cc
+
+abbrev pub First : InternerView → Text → List Text → InternerView → Type 0
+First old text texts new = (key : ℕ) × (mid : InternerView) × InternsIn spur_at old text (Ok key) mid × extend spur_at mid texts accepted new
+
+pub first : (old new : InternerView) (text : Text) (texts : List Text) → extend spur_at old (text ∷ texts) accepted new → First old text texts new
+first old new text texts h =
+    let one = first_of h.1 new texts h.0 h.3 in
+    (one.0, h.1, subst (λ (r : Result ℕ LassoError). InternsIn spur_at old text r h.1) one.1 h.2, one.2)
 
 -- ---- the list that interning leaves
 
@@ -75,9 +82,8 @@ list_more list text texts false e =
 pub list_extended : (old new : InternerView) (texts : List Text) → extend spur_at old texts accepted new → new.texts ≡ old.texts ++ new_texts old.texts texts
 list_extended old new [] h = rw (h.1) (sym (append-nil old.texts))
 list_extended old new (text ∷ texts) h =
-    let first = first_of h.1 new texts h.0 h.3 in
-    let interns : InternsIn spur_at old text (Ok first.0) h.1 = subst (λ (r : Result ℕ LassoError). InternsIn spur_at old text r h.1) first.1 h.2 in
-    list_extended h.1 new texts first.2 ∙ ap (λ (ts : List Text). ts ++ new_texts ts texts) (list_interned spur_at old h.1 text first.0 interns)
+    let f = first old new text texts h in
+    list_extended f.1 new texts f.3 ∙ ap (λ (ts : List Text). ts ++ new_texts ts texts) (list_interned spur_at old f.1 text f.0 f.2)
     ∙ list_more old.texts text texts (is_some (position_of old.texts text)) refl
 
 -- ---- interning the distinct texts leaves what interning all leaves
@@ -88,11 +94,10 @@ extend_more old new list text texts true e found others h =
     let here : Found old text = all_at (Found old) list at.0 text found (position_here list text at.0 at.1) in
     (Ok here.1, old, interns_found old text here, others old list found h)
 extend_more old new list text texts false e found others h =
-    let first = first_of h.1 new (new_texts (list ++ text ∷ []) texts) h.0 h.3 in
-    let interns : InternsIn spur_at old text (Ok first.0) h.1 = subst (λ (r : Result ℕ LassoError). InternsIn spur_at old text r h.1) first.1 h.2 in
-    let more : All (Found h.1) (list ++ text ∷ []) =
-    All-push (Found h.1) list text (λ k d small. found_stays old h.1 text first.0 interns (get_or list k d) (found k d small)) (found_interned old h.1 text first.0 interns) in
-    (Ok first.0, h.1, interns, others h.1 (list ++ text ∷ []) more first.2)
+    let f = first old new text (new_texts (list ++ text ∷ []) texts) h in
+    let more : All (Found f.1) (list ++ text ∷ []) =
+    All-push (Found f.1) list text (λ k d small. found_stays old f.1 text f.0 f.2 (get_or list k d) (found k d small)) (found_interned old f.1 text f.0 f.2) in
+    (Ok f.0, f.1, f.2, others f.1 (list ++ text ∷ []) more f.3)
 
 pub extend_all : (old new : InternerView) (list texts : List Text) → All (Found old) list → extend spur_at old (new_texts list texts) accepted new → extend spur_at old texts accepted new
 extend_all old new list [] found h = h
@@ -111,14 +116,6 @@ pub past_end : {X : Type 0} (xs : List X) (n : ℕ) → slice_get xs n ≡ None 
 past_end [] n e = omega arith
 past_end (x ∷ xs) zero e = cc
 past_end (x ∷ xs) (suc n) e = let rest : length xs ≤ n = past_end xs n e in omega (arith, rest)
-
-stops_at : (merged codes rewritten : List ℕ) → map (slice_get merged) (take (length rewritten) codes) ≡ map Some rewritten → IfSome (slice_get codes (length rewritten)) (λ code. slice_get merged code ≡ None) → Stops (length merged) codes (length rewritten)
-stops_at merged [] [] is next = refl
-stops_at merged [] (r ∷ rs) is next = absurd (cc)
-stops_at merged (c ∷ cs) [] is next = past_end merged c next
-stops_at merged (c ∷ cs) (r ∷ rs) is next =
-    let here : slice_get merged c ≡ Some r = cc in
-    (slice_get_within merged c r here, stops_at merged cs rs (cc) next)
 
 pub position_longer : (list more : List Text) (text : Text) (n : ℕ) → position_of list text ≡ Some n → position_of (list ++ more) text ≡ Some n
 position_longer list [] text n e = subst (λ (ts : List Text). position_of ts text ≡ Some n) (sym (append-nil list)) e
@@ -169,70 +166,6 @@ stop_is list (text ∷ texts) (c ∷ codes) m zero are stops = stop_here list te
 stop_is list (text ∷ texts) (c ∷ codes) m (suc n) are stops =
     stop_later list text texts c codes m n (is_some (position_of list text)) refl (λ ts k are' stops'. stop_is ts texts codes k n are' stops') (cc) (cc) stops.0 stops.1
 
--- all codes are below the list's length
-stops_never : (list texts : List Text) (codes : List ℕ) (n : ℕ) → AreCodes list texts codes → Stops (length list) codes n → n ≡ length texts
-stops_never list [] [] n are stops = stops
-stops_never list [] (c ∷ codes) n are stops = absurd (cc)
-stops_never list (text ∷ texts) [] n are stops = absurd (cc)
-stops_never list (text ∷ texts) (c ∷ codes) zero are stops =
-    let inside = slice_get_within list c text (position_here list text c (cc)) in absurd (omega (arith, inside, stops))
-stops_never list (text ∷ texts) (c ∷ codes) (suc n) are stops =
-    let rest : n ≡ length texts = stops_never list texts codes n (cc) stops.1 in omega (arith, rest)
-
-rewritten_are : (into from more texts : List Text) (codes merged rewritten : List ℕ) → AreCodes (from ++ more) texts codes → AreCodes into from merged → map (slice_get merged) (take (length rewritten) codes) ≡ map Some rewritten → AreCodes into (take (length rewritten) texts) rewritten
-rewritten_are into from more texts codes merged [] are merges is = refl
-rewritten_are into from more [] [] merged (r ∷ rewritten) are merges is = absurd (cc)
-rewritten_are into from more [] (c ∷ codes) merged (r ∷ rewritten) are merges is = absurd (cc)
-rewritten_are into from more (t ∷ texts) [] merged (r ∷ rewritten) are merges is = absurd (cc)
-rewritten_are into from more (t ∷ texts) (c ∷ codes) merged (r ∷ rewritten) are merges is =
-    let put : slice_get merged c ≡ Some r = cc in
-    let inside = slice_get_within merged c r put in
-    let long = map_some_length (position_of into) from merged merges in
-    let stands : slice_get (from ++ more) c ≡ Some t = position_here (from ++ more) t c (cc) in
-    let stands' : slice_get from c ≡ Some t = sym (slice_get-append_left from more c (omega (arith, inside, long))) ∙ stands in
-    let here : position_of into t ≡ Some r = map_some_at (position_of into) from merged c t r merges stands' put in
-    let others : map (position_of into) (take (length rewritten) texts) ≡ map Some rewritten = rewritten_are into from more texts codes merged rewritten (cc) merges (cc) in
-    cc
-
--- ---- a part whose list was interned
-
-module _ (texts list : List Text) (part merged before after : List ℕ) (old new : InternerView) (encoded : IsEncoded texts list part) (list_put : extend spur_at old (take (length merged) list) accepted new) (merges : AreCodes new.texts (take (length merged) list) merged) (put : AddsRewritten merged part before after) where
-  stops : Stops (length merged) part (length put.0)
-  stops = stops_at merged part put.0 put.2 put.3
-
-  stop : IsStop [] texts (length merged) (length put.0)
-  stop = stop_is [] texts part (length merged) (length put.0) (subst (λ (ts : List Text). AreCodes ts texts part) encoded.0 encoded.1) (let same : length merged ≡ 0 + length merged = omega arith in subst (λ (b : ℕ). Stops b part (length put.0)) same stops)
-
-  pub part_encoded : Encoded old (take (length put.0) texts) before new after
-  part_encoded = record {
-    list =
-        extend_all old new [] (take (length put.0) texts) (λ k d small. absurd (omega arith))
-        (subst (λ (ts : List Text). extend spur_at old ts accepted new) (ap (take (length merged)) encoded.0 ∙ stop.0) list_put);
-    codes = (
-      put.0,
-      put.1,
-      rewritten_are new.texts (take (length merged) list) (drop (length merged) list) texts part merged put.0 (subst (λ (ts : List Text). AreCodes ts texts part) (sym (take-append-drop (length merged) list)) encoded.1) merges put.2,
-    );
-  }
-
-  -- if its whole list was interned, all its codes were rewritten
-  pub part_whole : length merged ≡ length list → length after ≡ length before + length texts
-  part_whole long =
-      let all : length put.0 ≡ length texts = stops_never list texts part (length put.0) encoded.1 (subst (λ (b : ℕ). Stops b part (length put.0)) long stops) in
-      omega (arith, all, ap length put.1, length-append before put.0)
-
-  -- the text of its list that was refused is the next text of the part
-  pub part_refused : (P : Text → Type 0) → IsSomeAnd (slice_get list (length merged)) P → IsSomeAnd (slice_get texts (length after - length before)) P
-  part_refused P holds = part_next P (slice_get list (length merged)) refl holds
-    where
-      part_next : (P : Text → Type 0) (o : Option Text) → slice_get list (length merged) ≡ o → IsSomeAnd o P → IsSomeAnd (slice_get texts (length after - length before)) P
-      part_next P None e holds = absurd (holds)
-      part_next P (Some text) e holds =
-          let long : length after - length before ≡ length put.0 = omega (arith, ap length put.1, length-append before put.0) in
-          let there : slice_get texts (length put.0) ≡ Some text = stop.1 text (ap (λ (ts : List Text). slice_get ts (length merged)) (sym encoded.0) ∙ e) in
-          let here : slice_get texts (length after - length before) ≡ Some text = ap (λ n. slice_get texts n) long ∙ there in
-          subst (λ o. IsSomeAnd o P) (sym here) holds
-
 -- ---- a part
 
 -- what encoding the texts with an interner without texts leaves
@@ -271,10 +204,6 @@ list_next old new from n codes b text at P holds =
     let here : length codes ≡ n = omega (arith, b.long, slice_get_within from n text at) in
     subst (λ o. IsSomeAnd o P) (sym (ap (λ k. slice_get from k) here ∙ at)) holds
 
-pub some_and_then : {X : Type 0} (P Q : X → Type 0) (o : Option X) → IsSomeAnd o P → ((x : X) → P x → Q x) → IsSomeAnd o Q
-some_and_then P Q None holds then = absurd (holds)
-some_and_then P Q (Some x) holds then = then x holds
-
 -- since the codes have room, the second of two cases holds
 pub not_full : (P : Type 0) (room long : ℕ) → (room ≤ long) ⊎ P → long < room → P
 not_full P room long (inl full) some = absurd (omega (arith, full, some))
@@ -282,24 +211,15 @@ not_full P room long (inr holds) some = holds
 
 -- ---- parts one after another
 
-pub on_ok_then : {T E : Type 0} (P Q : Type 0) (r : Result T E) → OnOk r P → (P → Q) → OnOk r Q
-on_ok_then P Q (Ok x) holds then = then holds
-on_ok_then P Q (Err e) holds then = tt
-
 pub on_not_err : {T E : Type 0} (P : Type 0) (r : Result T E) → OnOk r P → is_err r ≡ false → P
 on_not_err P (Ok x) holds fine = holds
 on_not_err P (Err e) holds fine = absurd (cc)
 
-pub if_err_then : {T E : Type 0} (P Q : E → Type 0) (r : Result T E) → IfErr r P → ((e : E) → P e → Q e) → IfErr r Q
-if_err_then P Q (Ok x) holds then = tt
-if_err_then P Q (Err e) holds then = then e holds
-
 pub extend_append : (old mid new : InternerView) (front back : List Text) → extend spur_at old front accepted mid → extend spur_at mid back accepted new → extend spur_at old (front ++ back) accepted new
 extend_append old mid new [] back h h' = subst (λ (i : InternerView). extend spur_at i back accepted new) h.1 h'
 extend_append old mid new (text ∷ front) back h h' =
-    let first = first_of h.1 mid front h.0 h.3 in
-    let interns : InternsIn spur_at old text (Ok first.0) h.1 = subst (λ (r : Result ℕ LassoError). InternsIn spur_at old text r h.1) first.1 h.2 in
-    (Ok first.0, h.1, interns, extend_append h.1 mid new front back first.2 h')
+    let f = first old mid text front h in
+    (Ok f.0, f.1, f.2, extend_append f.1 mid new front back f.3 h')
 
 -- the texts of a part were encoded after those of the parts before it
 pub encoded_join : (old mid new : InternerView) (front back : List Text) (before middle after : List ℕ) → Encoded old front before mid middle → extend spur_at mid back accepted new → AddsCodes new.texts back middle after → Encoded old (front ++ back) before new after

@@ -1,14 +1,12 @@
 -- Codes that are rewritten by a table.
 --
--- A part's codes are positions in its own list, so each is below the list's length. The table has a new
--- code for each of the first texts of that list. The codes before the first one that the table lacks are
--- rewritten one by one, and the table has each of them.
-use Rattle.std.proofs.Common.{ℕ, zero, suc, ◌≡◌, ◌-◌, ◌<◌, ◌≤◌, List, [], ◌∷◌, ◌++◌, map, take, drop, length, Some, Option, None, IfSome, refl, sym, ap, subst, ◌∙◌, arith, get_or}
-use Rattle.std.specs.List.{AllWithin}
+-- A part's codes are positions in its own list, so each is below the list's length. The table has a new code for
+-- each text of that list, so it has one for each code.
+use Rattle.std.proofs.Common.{ℕ, zero, suc, ◌≡◌, ◌-◌, ◌<◌, List, [], ◌∷◌, ◌++◌, map, take, drop, length, Some, refl, sym, ap, ◌∙◌, arith, get_or}
 use Rattle.std.specs.Prelude.{slice_get, All}
-use Rattle.std.proofs.lemmas.List.{length-append, get_or-take, length-take-le, take_all}
+use Rattle.std.proofs.lemmas.List.{length-append, take_all}
 use Rattle.std.proofs.Math.Seq.{drop-append_seam}
-use Rattle.std.proofs.lemmas.Option.{slice_get-get_or, slice_get_within, slice_get_past}
+use Rattle.std.proofs.lemmas.Option.{slice_get-get_or, slice_get_within}
 use Rattle.lasso_input.proofs.Ends.{end_written}
 use Rattle.lasso_parts.specs.Texts.{Text}
 use Rattle.lasso_single.proofs.Coded.{codes_stand}
@@ -34,40 +32,18 @@ each_rewritten table (c ∷ cs) (r ∷ rs) long each =
     let others : map (slice_get table) cs ≡ map Some rs = each_rewritten table cs rs (omega (arith, long)) (λ k small. each (suc k) (omega (arith, small))) in
     cc
 
--- the first codes were rewritten one by one, and the table lacks the next one
-adds_rewritten : (table codes before after rewritten : List ℕ) (n : ℕ) → n ≤ length codes → after ≡ before ++ rewritten → length rewritten ≡ n → ((k : ℕ) → k < n → slice_get table (get_or (take n codes) k 0) ≡ Some (get_or rewritten k 0)) → IfSome (slice_get codes n) (λ code. length table ≤ code) → AddsRewritten table codes before after
-adds_rewritten table codes before after rewritten n within is long each next =
-    let kept : length (take n codes) ≡ n = length-take-le n codes within in
-    let all : map (slice_get table) (take n codes) ≡ map Some rewritten =
-    each_rewritten table (take n codes) rewritten (omega (arith, kept, long)) (λ k small. each k (omega (arith, kept, small))) in (
-      rewritten,
-      is,
-      subst (λ m. map (slice_get table) (take m codes) ≡ map Some rewritten) (sym long) all,
-      subst (λ m. IfSome (slice_get codes m) (λ code. slice_get table code ≡ None)) (sym long) (not_there (slice_get codes n) next),
-    )
-  where
-    not_there : (o : Option ℕ) → IfSome o (λ code. length table ≤ code) → IfSome o (λ code. slice_get table code ≡ None)
-    not_there None past = tt
-    not_there (Some code) past = slice_get_past table code past
-
--- the first n codes were appended, and then each of them was rewritten
-module _ (table codes before mid : List ℕ) (start total n : ℕ) (within : n ≤ length codes) (begins : start ≡ length before) (is : mid ≡ before ++ take n codes) (long : total ≡ length mid) (below : AllWithin (λ code. code < length table) codes 0 n) where
-  kept : length (take n codes) ≡ n
-  kept = length-take-le n codes within
-
-  end_is : take (total - start) (drop start mid) ≡ take n codes
+-- the codes were appended, and then each of them was rewritten
+module _ (table codes before mid : List ℕ) (start total : ℕ) (begins : start ≡ length before) (is : mid ≡ before ++ codes) (long : total ≡ length mid) (below : All (λ code. code < length table) codes) where
+  end_is : take (total - start) (drop start mid) ≡ codes
   end_is =
-      let end : drop start mid ≡ take n codes = ap (λ k. drop k mid) begins ∙ ap (drop (length before)) is ∙ drop-append_seam before (take n codes) in
-      ap (take (total - start)) end ∙ take_all (total - start) (take n codes) (omega (arith, begins, long, ap length is, length-append before (take n codes)))
+      let end : drop start mid ≡ codes = ap (λ k. drop k mid) begins ∙ ap (drop (length before)) is ∙ drop-append_seam before codes in
+      ap (take (total - start)) end ∙ take_all (total - start) codes (omega (arith, begins, long, ap length is, length-append before codes))
 
-  low : (k : ℕ) (d : ℕ) → k < n → get_or (take n codes) k d < length table
-  low k d small = subst (λ c. c < length table) (sym (get_or-take n codes k d small)) (below k d (omega arith) small)
-
-  pub end_rewritten : (old written : List ℕ) → old ≡ take (total - start) (drop start mid) → length written ≡ length old → ((k : ℕ) → k < length old → get_or written k 0 ≡ get_or table (get_or old k 0) 0) → IfSome (slice_get codes n) (λ code. length table ≤ code) → AddsRewritten table codes before (take total ((take start mid ++ (written ++ drop (length written) (drop start mid))) ++ drop (length (take start mid ++ (written ++ drop (length written) (drop start mid)))) mid))
-  end_rewritten old written was same each next =
-      let old_is : old ≡ take n codes = was ∙ end_is in
-      let whole : length written ≡ n = same ∙ ap length old_is ∙ kept in
-      let here : (k : ℕ) → k < n → slice_get table (get_or (take n codes) k 0) ≡ Some (get_or written k 0) = λ k small.
-      slice_get-get_or table (get_or (take n codes) k 0) 0 (low k 0 small)
+  pub end_rewritten : (old written : List ℕ) → old ≡ take (total - start) (drop start mid) → length written ≡ length old → ((k : ℕ) → k < length old → get_or written k 0 ≡ get_or table (get_or old k 0) 0) → AddsRewritten table codes before (take total ((take start mid ++ (written ++ drop (length written) (drop start mid))) ++ drop (length (take start mid ++ (written ++ drop (length written) (drop start mid)))) mid))
+  end_rewritten old written was same each =
+      let old_is : old ≡ codes = was ∙ end_is in
+      let whole : length written ≡ length codes = same ∙ ap length old_is in
+      let here : (k : ℕ) → k < length codes → slice_get table (get_or codes k 0) ≡ Some (get_or written k 0) = λ k small.
+      slice_get-get_or table (get_or codes k 0) 0 (below k 0 small)
       ∙ ap (λ c. Some c) (sym (each k (omega (arith, small, same, whole)) ∙ ap (λ xs. get_or table (get_or xs k 0) 0) old_is)) in
-      adds_rewritten table codes before _ written n within (end_written before (take n codes) written mid start total begins is long (omega (arith, whole, kept))) whole here next
+      (written, end_written before codes written mid start total begins is long whole, each_rewritten table codes written whole here)

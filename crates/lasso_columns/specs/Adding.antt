@@ -1,15 +1,13 @@
 -- Texts that are counted after others.
-use Rattle.std.specs.Prelude.{ℕ, ◌≡◌, ◌+◌, ◌<◌, ◌≤◌, ◌⊎◌, List, [], ◌++◌, length, sum, take, slice_get, codes, decimal, Vec, vec_capacity, vec_len, None, IsSome, IsSomeAnd, Result, Ok, Err, MatchResult}
+use Rattle.std.specs.Prelude.{ℕ, ◌≡◌, ◌+◌, ◌<◌, ◌≤◌, ◌⊎◌, List, ◌++◌, length, sum, take, slice_get, codes, decimal, Vec, vec_capacity, vec_len, None, IsSome, IsSomeAnd, Result, Ok, Err, MatchResult}
 use Rattle.lasso_parts.specs.Errors.{error_text}
 use Rattle.lasso_parts.specs.Texts.{Text, position_of, IsDistinct}
 use Rattle.lasso_parts.specs.declared.util.LassoError.{LassoError}
 use Rattle.lasso_single.specs.Codes.{AreCodes}
-use Rattle.lasso_single.specs.Filling.{extend}
 use Rattle.lasso_single.specs.Intern.{InternsIn}
 use Rattle.lasso_single.specs.Interner.{InternerView}
 use Rattle.lasso_single.specs.Coding.{spur_at, IsRefused, MayLackMemory}
 use Rattle.lasso_columns.specs.Counts.{count_of, count_at, counted}
-use Rattle.lasso_columns.specs.Parts.{new_texts}
 use Rattle.lasso_columns.specs.declared.counts.error.CountError.{CountError}
 
 -- what the error prints
@@ -42,11 +40,6 @@ CountsCodes codes before after = (list texts : List Text) → length before ≡ 
 abbrev pub AddsAmountsAt : (places amounts before after : List ℕ) → Type 0
 AddsAmountsAt places amounts before after =
     (list from : List Text) → length before ≡ length list → IsDistinct from → AreCodes list from places → AddsAmounts list from amounts before after
-
--- the texts that were counted are interned, if before this the first of the distinct texts were, no matter how many
-abbrev pub InternsRest : (old : InternerView) → Result (Unit {0}) CountError → List Text → (new : InternerView) → Type 0
-InternsRest old result texts new =
-    (before : InternerView) (n : ℕ) → extend spur_at before (take n (new_texts [] texts)) (Ok tt) old → extend spur_at before (counted_of result texts) (Ok tt) new
 
 -- the text at the error's position was refused with it, as `IsRefused` of `lasso_single` says
 abbrev pub IsRefusedAmong : InternerView → List Text → CountError → Type 0

@@ -1,5 +1,5 @@
 -- Texts that are encoded in parts, each with a list of its own.
-use Rattle.std.specs.Prelude.{◌≡◌, ℕ, List, [], ◌∷◌, ◌++◌, cond, is_some, length, map, take, None, Some, IfSome, slice_get}
+use Rattle.std.specs.Prelude.{◌≡◌, ℕ, List, [], ◌∷◌, ◌++◌, cond, is_some, map, Some, slice_get}
 use Rattle.lasso_parts.specs.Texts.{Text, position_of}
 use Rattle.lasso_single.specs.Codes.{AreCodes}
 
@@ -12,8 +12,6 @@ new_texts list (text ∷ texts) = cond (is_some (position_of list text)) (new_te
 abbrev pub IsEncoded : List Text → List Text → List ℕ → Type 0
 IsEncoded texts list codes = (list ≡ new_texts [] texts) × AreCodes list texts codes
 
--- the codes were rewritten by the table, up to the first that it lacks, and appended
+-- the codes were rewritten by the table and appended
 abbrev pub AddsRewritten : List ℕ → List ℕ → List ℕ → List ℕ → Type 0
-AddsRewritten table codes before after =
-    (rewritten : List ℕ) × (after ≡ before ++ rewritten) × (map (slice_get table) (take (length rewritten) codes) ≡ map Some rewritten)
-    × IfSome (slice_get codes (length rewritten)) (λ code. slice_get table code ≡ None)
+AddsRewritten table codes before after = (rewritten : List ℕ) × (after ≡ before ++ rewritten) × (map (slice_get table) codes ≡ map Some rewritten)

@@ -1,14 +1,13 @@
 //! Encodes texts to codes in parts, each by a thread with an interner of its own.
 ghost use Rattle.std.specs.Prelude.{◌≡◌, ℕ, ◌+◌, ◌<◌, ◌≤◌, Ok, OnOk, IfErr, IfSome, All};
-ghost use Rattle.std.specs.Prelude.{length, map, slice_get, slice_index, vec_len, vec_capacity};
-ghost use Rattle.std.specs.List.{AllWithin};
+ghost use Rattle.std.specs.Prelude.{length, map, slice_index, vec_len, vec_capacity};
 ghost use Rattle.lasso_single.specs.Filling.{extend};
 ghost use Rattle.lasso_single.specs.Codes.{AddsCodes};
 ghost use Rattle.lasso_single.specs.Coding.{spur_at, encoded_texts, IsNextRefused, MayLackMemoryNext};
 ghost use Rattle.lasso_columns.specs.Parts.{IsEncoded, AddsRewritten};
 
 use crate::interners::SpurRodeoReader;
-use crate::merging::encode_list;
+use crate::merge;
 use lasso_parts::keys::Spur;
 use lasso_parts::util::LassoResult;
 use lasso_single::coding::encode;
@@ -126,41 +125,38 @@ fn put_part<R: AllocGlobal + Threads + Sync, S: BuildHasher, A: Allocator + Clon
     let Some(part) = part else {
         return encode(rodeo, texts, codes);
     };
-    // Room for all codes and for the table is reserved before a text is interned.
+    // Reserves room for all codes before a text of the part is interned.
     if codes.reserve(part.codes.len()).is_err() {
         return encode(rodeo, texts, codes);
     }
-    let mut table = Vec::new(rt.alloc());
-    if table.reserve(part.list.len()).is_err() {
-        return encode(rodeo, texts, codes);
+    match merge(rt.alloc(), rodeo, &part.list) {
+        Ok(table) => {
+            append_rewritten(rt, codes, &part.codes, &table, workers);
+            Ok(())
+        }
+        // The first texts are interned by now, and have no codes yet.
+        Err(_) => encode(rodeo, texts, codes),
     }
-    let outcome = encode_list(rodeo, &part.list, &mut table);
-    append_rewritten(rt, codes, &part.codes, part.list.len(), &table, workers);
-    outcome
 }
 
-// Appends the codes of a list of `len` texts, rewritten by the table. The table has the new code of each
-// text, or of the first texts only. Stops at the first code that the table lacks. `codes` must have room
-// for all. Up to `workers` threads rewrite.
+// Appends the codes, rewritten by the table. `codes` must have room for all. Up to `workers` threads rewrite.
 fn append_rewritten<R: Threads + Sync>(
     rt: &R,
     codes: &mut Vec<u32>,
     part: &[u32],
-    len: usize,
     table: &[u32],
     workers: usize,
 )
     requires workers { 0 < workers }
-    requires inside { All (λ code. code < len) part.now }
+    requires inside { All (λ code. code < length table.now) part.now }
     requires room { vec_len codes.old + length part.now ≤ vec_capacity codes.old }
     ensures { AddsRewritten table.now part.now codes.old.items codes.new.items }
 {
-    let kept = known(part, len, table.len());
     let before = codes.len();
-    let Ok(()) = codes.extend_from_slice(&part[..kept]) else {
+    let Ok(()) = codes.extend_from_slice(part) else {
         unreachable!();
     };
-    let threads = workers.min(kept / CODES_A_THREAD + 1);
+    let threads = workers.min(part.len() / CODES_A_THREAD + 1);
     rewrite(rt, codes.slice_mut(before..), table, threads);
 }
 
@@ -171,22 +167,4 @@ fn rewrite<R: Threads + Sync>(rt: &R, codes: &mut [u32], table: &[u32], threads:
     ensures { (k : ℕ) → k < length codes.old → slice_index codes.new k ≡ slice_index table.now (slice_index codes.old k) }
 {
     for_each_mut(rt, codes, threads, &|_, code| *code = table[*code as usize]);
-}
-
-// How many codes come before the first that is `bound` or more. All codes are below `len`.
-fn known(codes: &[u32], len: usize, bound: usize) -> usize
-    requires { All (λ code. code < len) codes.now }
-    ensures within { result ≤ length codes.now }
-    ensures below { AllWithin (λ code. code < bound) codes.now 0 result }
-    ensures next { IfSome (slice_get codes.now result) (λ code. bound ≤ code) }
-{
-    if bound >= len {
-        return codes.len();
-    }
-    for position in 0..codes.len() {
-        if codes[position] as usize >= bound {
-            return position;
-        }
-    }
-    codes.len()
 }

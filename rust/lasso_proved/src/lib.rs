@@ -31,6 +31,7 @@
 mod error;
 mod foreign;
 mod foreign_shared;
+mod frozen;
 mod interface;
 mod iter;
 mod keys;

@@ -1,17 +1,16 @@
 //! Counts texts in parts. A thread counts each part with its own interner.
-ghost use Rattle.std.specs.Prelude.{◌≡◌, ◌+◌, ◌-◌, ◌^◌, ◌<◌, ◌≤◌, ◌++◌, Ok, IfErr, IfSome, IsSome, All};
-ghost use Rattle.std.specs.Prelude.{length, map, None, replicate, slice_get, sum, take, vec_len, vec_capacity};
-ghost use Rattle.lasso_parts.specs.Texts.{key_of, position_of};
+ghost use Rattle.std.specs.Prelude.{◌≡◌, ◌+◌, ◌-◌, ◌^◌, ◌<◌, ◌≤◌, ◌++◌, Ok, IfErr, IfSome, All};
+ghost use Rattle.std.specs.Prelude.{length, map, replicate, sum, vec_len, vec_capacity};
 ghost use Rattle.lasso_single.specs.Filling.{extend};
 ghost use Rattle.lasso_single.specs.Coding.{spur_at};
 ghost use Rattle.lasso_columns.specs.Counts.{AreCounts};
-ghost use Rattle.lasso_columns.specs.Adding.{AddsAmountsAt, AddsCounts, InternsRest, IsRefusedAmong, RefusesNewAmong, counted_of};
+ghost use Rattle.lasso_columns.specs.Adding.{AddsAmountsAt, AddsCounts, IsRefusedAmong, RefusesNewAmong, counted_of};
 
 use crate::counts::counting::count_texts;
 use crate::counts::error::CountError;
 use crate::interners::SpurRodeoReader;
 use crate::merge;
-use lasso_parts::keys::{Key, Spur};
+use lasso_parts::keys::Spur;
 use lasso_single::rodeo::Rodeo;
 use std::alloc::{Allocator, Global};
 use std::hash::BuildHasher;
@@ -129,7 +128,8 @@ fn put_part<S: BuildHasher, A: Allocator + Clone>(
             add_counts(counts, &places, &part.counts);
             Ok(())
         }
-        Err(_) => count_rest(rodeo, texts, counts),
+        // The first texts are interned by now, and have no counts yet.
+        Err(_) => count_texts(rodeo, texts, counts),
     }
 }
 
@@ -155,48 +155,4 @@ fn add_counts(counts: &mut Vec<u64>, places: &[u32], amounts: &[u64])
     for position in 0..places.len() {
         counts[places[position] as usize] += amounts[position];
     }
-}
-
-// Does what `count_texts` does, after some of the first texts were interned and not counted.
-fn count_rest<S: BuildHasher, A: Allocator + Clone>(
-    rodeo: &mut Rodeo<Spur, S, A>,
-    texts: &[&str],
-    counts: &mut Vec<u64>,
-) -> Result<(), CountError>
-    requires lengths { vec_len counts.old ≡ length rodeo.old.texts }
-    requires fits { sum counts.old.items + length texts.now < 2 ^ 64 }
-    ensures list { InternsRest rodeo.old result (map (λ t. t.now) texts.now) rodeo.new }
-    ensures counts { AddsCounts (counted_of result (map (λ t. t.now) texts.now)) rodeo.old.texts counts.old.items rodeo.new.texts counts.new.items }
-    ensures refused { IfErr result (λ error. IsRefusedAmong rodeo.new (map (λ t. t.now) texts.now) error) }
-    ensures memory { IfErr result (λ error. RefusesNewAmong rodeo.new counts.new (map (λ t. t.now) texts.now) error) }
-    ensures room { vec_capacity counts.old ≤ vec_capacity counts.new }
-{
-    let found = count_found(rodeo, texts, counts);
-    match count_texts(rodeo, &texts[found..], counts) {
-        Ok(()) => Ok(()),
-        Err(error) => Err(error.after(found)),
-    }
-}
-
-// Counts the texts before the first that is not interned. Returns the number of these texts.
-fn count_found<S: BuildHasher, A: Allocator>(
-    rodeo: &Rodeo<Spur, S, A>,
-    texts: &[&str],
-    counts: &mut Vec<u64>,
-) -> usize
-    requires lengths { vec_len counts.old ≡ length rodeo.now.texts }
-    requires fits { sum counts.old.items + length texts.now < 2 ^ 64 }
-    ensures within { result ≤ length texts.now }
-    ensures found { All (λ text. IsSome (key_of spur_at rodeo.now.texts text)) (take result (map (λ t. t.now) texts.now)) }
-    ensures next { IfSome (slice_get (map (λ t. t.now) texts.now) result) (λ text. position_of rodeo.now.texts text ≡ None) }
-    ensures counts { AddsCounts (take result (map (λ t. t.now) texts.now)) rodeo.now.texts counts.old.items rodeo.now.texts counts.new.items }
-    ensures capacity { vec_capacity counts.new ≡ vec_capacity counts.old }
-{
-    for position in 0..texts.len() {
-        let Some(key) = rodeo.get(texts[position]) else {
-            return position;
-        };
-        counts[key.into_usize()] += 1;
-    }
-    texts.len()
 }

@@ -4,5 +4,4 @@ use Rattle.lasso_columns.proofs.parts.append_rewritten.Goals as goal
 
 pub returns : goal.returns
 returns g c =
-    let known = c.known-kept.ensures in
-    end_rewritten c.args.table.now c.args.part.now c.args.codes.now.items c.extend_from_slice.new.self.items c.len-before.result c.extend_from_slice.new.self.len c.known-kept.result known.within (omega (arith, c.len-before.ensures)) c.in-Ok.ensures.items (omega arith) known.below c.slice_mut.result.now c.rewrite.new.codes c.slice_mut.ensures.value c.rewrite.auto.codes c.rewrite.ensures known.next
+    end_rewritten c.args.table.now c.args.part.now c.args.codes.now.items c.extend_from_slice.new.self.items c.len-before.result c.extend_from_slice.new.self.len (omega (arith, c.len-before.ensures)) c.in-Ok.ensures.items (omega arith) c.requires.inside c.slice_mut.result.now c.rewrite.new.codes c.slice_mut.ensures.value c.rewrite.auto.codes c.rewrite.ensures

@@ -9,7 +9,8 @@ use Rattle.lasso_columns.proofs.PartSizes.{parts_reach}
 use Rattle.lasso_single.specs.Coding.{spur_at, IsRefused}
 use Rattle.lasso_columns.specs.Adding.{AddsCounts, RefusesNew}
 use Rattle.lasso_columns.proofs.Added.{adds_join}
-use Rattle.lasso_columns.proofs.Rest.{extend_both, part_here, first_here, within, next_here}
+use Rattle.lasso_columns.proofs.PartLists.{extend_append}
+use Rattle.lasso_columns.proofs.Rest.{part_here, first_here, within, next_here}
 use Rattle.lasso_columns.proofs.counts.parts.count_in_parts.Given.{Over}
 use Rattle.lasso_columns.proofs.counts.parts.count_in_parts.Goals as goal
 
@@ -55,7 +56,7 @@ loop-part-preserved g c =
     let next : (at.part + 1) * c.max-size.result ≡ at.part * c.max-size.result + c.max-size.result = omega arith in
     record {
       start = omega (arith, at.invariant.start, c.min-count.ensures, next);
-      list = subst (λ (ts : List Text). extend spur_at c.args.rodeo.now ts accepted new.rodeo) (sym more) (extend_both c.args.rodeo.now at.rodeo new.rodeo (take start all) (take count (drop start all)) at.invariant.list list);
+      list = subst (λ (ts : List Text). extend spur_at c.args.rodeo.now ts accepted new.rodeo) (sym more) (extend_append c.args.rodeo.now at.rodeo new.rodeo (take start all) (take count (drop start all)) at.invariant.list list);
       counts = subst (λ (ts : List Text). AddsCounts ts c.args.rodeo.now.texts c.args.counts.now.items new.rodeo.texts new.counts.items) (sym more) (adds_join (take start all) (take count (drop start all)) c.args.rodeo.now.texts at.rodeo.texts new.rodeo.texts c.args.counts.now.items at.counts.items new.counts.items at.invariant.counts counts);
       room = omega (arith, at.invariant.room, told.room);
     }
@@ -73,7 +74,7 @@ returns-in-Err-clause-list g c =
     let small = within (λ text. IsRefused new.rodeo text c.in-Err.error.error) (take count (drop start all)) k refused in
     let first : take k (take count (drop start all)) ≡ take k (drop start all) = first_here (drop start all) count k (omega (arith, small)) in
     let list = subst (λ (ts : List Text). extend spur_at at.rodeo ts accepted new.rodeo) (ap (take k) here ∙ first) c.in-Err.ensures.list in
-    let whole = subst (λ (ts : List Text). extend spur_at c.args.rodeo.now ts accepted new.rodeo) (sym (take-add start k all)) (extend_both c.args.rodeo.now at.rodeo new.rodeo (take start all) (take k (drop start all)) at.invariant.list list) in
+    let whole = subst (λ (ts : List Text). extend spur_at c.args.rodeo.now ts accepted new.rodeo) (sym (take-add start k all)) (extend_append c.args.rodeo.now at.rodeo new.rodeo (take start all) (take k (drop start all)) at.invariant.list list) in
     subst (λ n. extend spur_at c.args.rodeo.now (take n all) accepted new.rodeo) (sym c.after.ensures.position) whole
 
 pub returns-in-Err-clause-counts : goal.returns-in-Err-clause-counts
