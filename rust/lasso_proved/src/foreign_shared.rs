@@ -151,7 +151,8 @@ impl Users {
     pub(crate) fn intern(&self, text: &str) -> LassoResult<u32> {
         let (bytes, len, mut code) = (text.as_ptr(), text.len(), 0);
         // SAFETY: a handle under its lock, a text, and a variable (1, 2).
-        let intern = |user: &mut Shared| unsafe { lasso_shared_intern(user, bytes, len, &mut code) };
+        let intern =
+            |user: &mut Shared| unsafe { lasso_shared_intern(user, bytes, len, &mut code) };
         let status = self.user()?.wait(intern);
         outcome(status).map(|()| code)
     }
@@ -206,7 +207,8 @@ impl Users {
             *seat = Seat(Mutex::new(User::NONE));
         }
         // SAFETY: a handle under its lock (1, 2).
-        match unsafe { lasso_shared_freeze(&mut lock(&self.seats[SEATS]).0) } {
+        let status = unsafe { lasso_shared_freeze(&mut lock(&self.seats[SEATS]).0) };
+        match status {
             DONE => self,
             other => unexpected(other),
         }
@@ -219,8 +221,7 @@ impl Users {
         let mut texts = vec![LassoText::NONE; unsafe { lasso_shared_len(&mut first.0) }];
         // SAFETY: a handle under its lock, and a slice of this function's, filled with good texts
         // (1, 2).
-        let lent =
-            unsafe { lasso_shared_texts(&mut first.0, 0, texts.as_mut_ptr(), texts.len()) };
+        let lent = unsafe { lasso_shared_texts(&mut first.0, 0, texts.as_mut_ptr(), texts.len()) };
         assert!(
             lent == texts.len(),
             "liblasso has lent too few texts: {lent}"

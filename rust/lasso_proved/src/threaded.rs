@@ -166,7 +166,10 @@ impl<K: Key, S: BuildHasher> ThreadedRodeo<K, S> {
     /// Interns a text that was absent, unless the key type has no key for it.
     #[cold]
     fn intern_if_key_left(&self, text: &str) -> LassoResult<K> {
-        let _last_keys = self.last_keys.lock().unwrap_or_else(PoisonError::into_inner);
+        let _last_keys = self
+            .last_keys
+            .lock()
+            .unwrap_or_else(PoisonError::into_inner);
         // Another thread may have interned it meanwhile.
         if let Some(code) = self.users.get(text)? {
             return Ok(key_of(code));

@@ -191,7 +191,10 @@ fn what_is_left_in_buckets_is_used_whatever_the_limit() {
     assert!(rodeo.try_get_or_intern(text("d", 97)).is_err());
     assert!(rodeo.try_get_or_intern(text("d", 96)).is_ok());
     assert!(rodeo.try_get_or_intern(text("e", 1)).is_err());
-    assert_eq!((rodeo.current_memory_usage(), rodeo.max_memory_usage()), (12_288, 0));
+    assert_eq!(
+        (rodeo.current_memory_usage(), rodeo.max_memory_usage()),
+        (12_288, 0)
+    );
     rodeo.set_memory_limits(MemoryLimits::new(14_000));
     assert!(rodeo.try_get_or_intern(text("e", 1712)).is_ok());
     assert_eq!(rodeo.current_memory_usage(), 14_000);
@@ -380,14 +383,24 @@ fn a_frozen_interner_is_read_in_64_threads() {
         let places: Vec<_> = rodeo.strings().map(str::as_ptr).collect();
         let last = rodeo.get_or_intern_static("last");
         let reader = rodeo.into_reader();
-        assert_eq!((reader.len(), reader.resolve(&last)), (places.len() + 1, "last"));
-        assert!(reader.strings().map(str::as_ptr).zip(places).all(|(is, was)| is == was));
+        assert_eq!(
+            (reader.len(), reader.resolve(&last)),
+            (places.len() + 1, "last")
+        );
+        assert!(reader
+            .strings()
+            .map(str::as_ptr)
+            .zip(places)
+            .all(|(is, was)| is == was));
         at_once(MANY, |_| {
             for (this, text) in interned.iter().flatten() {
                 assert_eq!(reader.get(text), Some(*this));
                 assert_eq!(reader.resolve(this), text);
             }
-            assert_eq!((reader.get("red"), reader.get("last")), (Some(key(0)), Some(last)));
+            assert_eq!(
+                (reader.get("red"), reader.get("last")),
+                (Some(key(0)), Some(last))
+            );
             assert_eq!((reader.get("absent"), reader.contains("")), (None, false));
         });
         assert!(reader.into_resolver().strings().last() == Some("last"));
