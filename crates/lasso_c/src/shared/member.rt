@@ -153,7 +153,7 @@ impl Member {
 
     // Freezes the interner, and sees its list, unless it has other members and is not frozen yet. Returns whether it is frozen then.
     pub(crate) fn freeze(&mut self) -> bool
-        ensures quiet { IsQuiet self.old.pass self.new.pass }
+        ensures quiet { IsTrue result → IsQuiet self.old.pass self.new.pass }
         ensures list { IsTrue result → self.new.list.notes ≡ self.new.pass.notes }
         ensures frozen { IsTrue result → self.new.shared.is_frozen ≡ true }
         ensures already { self.old.shared.is_frozen ≡ true → IsTrue result }
