@@ -79,5 +79,5 @@ SharedBatchEnds greatest bytes offsets codes_before codes_after status report No
 SharedBatchEnds greatest bytes offsets codes_before codes_after status report (Some before) None = ⊥
 SharedBatchEnds greatest bytes offsets codes_before codes_after status report (Some before) (Some after) =
     MatchBool before.shared.is_frozen
-      ((status ≡ FROZEN) × (report ≡ record { texts = 0; bytes = 0; at = 0 }) × (codes_after ≡ codes_before) × (after ≡ before))
-      (InternsBatch greatest bytes offsets report.texts status codes_before codes_after before.pass after.pass × (report ≡ shared_report report.texts status))
+    ((status ≡ FROZEN) × (report ≡ record { texts = 0; bytes = 0; at = 0 }) × (codes_after ≡ codes_before) × (after ≡ before))
+    (InternsBatch greatest bytes offsets report.texts status codes_before codes_after before.pass after.pass × (report ≡ shared_report report.texts status))

@@ -58,9 +58,9 @@ pub extern "C" fn lasso_shared_join(
 }
 
 /// Interns a text, and writes its code. An absent text is appended first, as a copy that lasts as long as the interner. It returns
-/// `NOT_UTF8`, `NO_INTERNER`, `FROZEN`, for an absent text `NO_MEMORY`, `LIMIT_REACHED` or `NO_CODE_LEFT`, and `BUSY` if another thread is
-/// inside a step. No text was appended then. With `NO_CODE_LEFT` the text's bytes (or a new bucket) stay
-/// taken, and with `BUSY` they may.
+/// `NOT_UTF8`, `NO_INTERNER`, `FROZEN`, for an absent text `NO_MEMORY`, `LIMIT_REACHED` or `NO_CODE_LEFT`, and `BUSY` if another thread
+/// is inside a step. No text was appended then. With `NO_CODE_LEFT` the text's bytes (or a new bucket) stay taken, and with `BUSY` they
+/// may.
 #[unsafe(no_mangle)]
 pub extern "C" fn lasso_shared_intern(shared: &mut LassoShared, text: &[u8], code: &mut u32) -> u32
     ensures status { IsInternStatus (is_utf8 text.now) shared.old.seat.value result }

@@ -88,7 +88,10 @@ fn a_first_bucket_has_its_bytes_whatever_the_limit(rt: HostRuntime) -> Result<()
         (Maker::Sized([9, 0, 0]), (1, 0)),
         (Maker::Sized([0, 10, 5]), (10, 5)),
         (Maker::SizedSeeded([9, 100, 1000], 1, 2), (100, 1000)),
-        (Maker::SizedKeyed([9, 65536, usize::MAX], 1, 2), (65536, usize::MAX)),
+        (
+            Maker::SizedKeyed([9, 65536, usize::MAX], 1, 2),
+            (65536, usize::MAX),
+        ),
     ] {
         row = row.saturating_add(1);
         if make(alloc, &mut shared, maker) != 0 {

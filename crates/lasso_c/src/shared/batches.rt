@@ -24,9 +24,9 @@ struct Ending {
 }
 
 /// Interns the texts of a layout in order, up to the first that is refused, and writes the codes of those before it. The report says
-/// how many these are, and also where the refused one is. It returns `NO_INTERNER`; `FROZEN`; `CODES_TOO_SHORT` and interns none if a code of
-/// each text has no room; `BUSY` if another thread is inside a step: the texts before that one stay; and else what the refused text
-/// gives: `OFFSETS_FALL`, `OFFSET_PAST_BYTES` or `NOT_UTF8` for its layout, or a refusal of `lasso_shared_intern`.
+/// how many these are, and also where the refused one is. It returns `NO_INTERNER`; `FROZEN`; `CODES_TOO_SHORT` and interns none if a
+/// code of each text has no room; `BUSY` if another thread is inside a step: the texts before that one stay; and else what the refused
+/// text gives: `OFFSETS_FALL`, `OFFSET_PAST_BYTES` or `NOT_UTF8` for its layout, or a refusal of `lasso_shared_intern`.
 #[unsafe(no_mangle)]
 pub extern "C" fn lasso_shared_intern_batch(
     shared: &mut LassoShared,

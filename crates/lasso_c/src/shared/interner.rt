@@ -41,8 +41,9 @@ impl<S: BuildHasher + Copy + Drop> SharedInterner<S> {
         ensures frozen { IfSome result (λ made. made.is_frozen ≡ false) }
     {
         let limits = MemoryLimits::new(limit);
-        let made =
-            ThreadedRodeo::with_capacity_memory_limits_and_hasher(alloc, capacity, limits, seed);
+        let made = ThreadedRodeo::with_capacity_memory_limits_and_hasher(
+            alloc, capacity, limits, seed,
+        );
         let rodeo = Arc::new(alloc, made.ok()?).ok()?;
         Some(SharedInterner {
             rodeo,

@@ -34,12 +34,7 @@ pub struct Member {
 
 impl Member {
     // The first member of a new interner with room for `capacity`, whose buckets take at most `limit` bytes, or none out of memory.
-    pub(crate) fn new(
-        alloc: Global,
-        capacity: Capacity,
-        limit: usize,
-        seed: Seed,
-    ) -> Option<Member>
+    pub(crate) fn new(alloc: Global, capacity: Capacity, limit: usize, seed: Seed) -> Option<Member>
         ensures opening { IfSome result (λ m. m.pass.of.opening ≡ opened [] capacity.bytes 0 limit) }
         ensures notes { IfSome result (λ m. m.pass.notes ≡ []) }
         ensures seed { IfSome result (λ m. m.shared.seed ≡ seed) }
