@@ -228,8 +228,9 @@ def test_eight_threads_share_what_a_limit_leaves() -> None:
     refused: list[list[str]] = [[] for _ in range(THREADS)]
 
     def fill(shared: SharedInterner, number: int) -> None:
+        # A thread's texts have more than the limit's bytes.
         words = random.Random(number)
-        for _ in range(200):
+        for _ in range(450):
             text = f"text {words.randrange(3000)} " + "x" * words.randrange(300)
             try:
                 codes = shared.encode([text, text]) if words.random() < 0.5 else [shared.intern(text)]
