@@ -33,8 +33,6 @@ enum Step {
     Sees(usize, u32),
     // its interner is frozen: this status
     Freezes(usize, u32),
-    // interning the text "red" as a batch has this status and writes this code, 77 if none
-    InternsBatch(usize, (u32, u32)),
     // lending the text of the code has this status and lends this text, "none" if there is none
     Lends(usize, u32, (u32, &'static [u8])),
     // interning the texts of these bytes and offsets by the first, with room for this number of codes, ends so
@@ -64,14 +62,6 @@ fn resolves(shared: &mut LassoShared, code: u32, want: (u32, &[u8], usize)) -> S
     let status = lasso_shared_resolve(shared, code, &mut text, &mut whole);
     let is_told = (status, whole) == (want.0, want.2);
     (status, is_told && has_bytes(&text, want.1))
-}
-
-fn interns_batch(shared: &mut LassoShared, want: (u32, u32)) -> Seen {
-    let (mut codes, mut report) = ([77], UNSET);
-    let status = lasso_shared_intern_batch(shared, b"red", &[0, 3], &mut codes, &mut report);
-    let texts = if status == 0 { 1 } else { 0 };
-    let is_reported = (report.texts, report.bytes, report.at) == (texts, 0, 0);
-    (status, (status, codes[0]) == want && is_reported)
 }
 
 fn lends(shared: &mut LassoShared, code: u32, want: (u32, &[u8])) -> Seen {
@@ -116,8 +106,6 @@ fn take(alloc: Global, [first, second]: &mut [LassoShared; 2], step: &Step) -> S
         Step::Sees(_, want) => is_status(lasso_shared_see(second), want),
         Step::Freezes(0, want) => is_status(lasso_shared_freeze(first), want),
         Step::Freezes(_, want) => is_status(lasso_shared_freeze(second), want),
-        Step::InternsBatch(0, want) => interns_batch(first, want),
-        Step::InternsBatch(_, want) => interns_batch(second, want),
         Step::Lends(0, code, want) => lends(first, code, want),
         Step::Lends(_, code, want) => lends(second, code, want),
         Step::Batch(bytes, offsets, room, want) => batch(first, bytes, offsets, room, want),
@@ -236,7 +224,7 @@ static FROZEN: [Step; 29] = [
     Step::Freezes(0, 16),
     Step::Lends(0, 0, (4, b"none")),
     Step::Freezes(1, 16),
-    Step::InternsBatch(0, (0, 0)),
+    Step::Batch(b"red", &[0, 3], 4, (0, (1, 0, 0), &[0])),
     Step::Interns(1, b"green", (0, 2)),
     Step::Frees(1),
     Step::Freezes(0, 0),
@@ -250,7 +238,7 @@ static FROZEN: [Step; 29] = [
     Step::Resolves(0, 1, (0, b"blue", 4)),
     Step::Interns(0, b"red", (17, 77)),
     Step::Interns(0, b"\xc3", (3, 77)),
-    Step::InternsBatch(0, (17, 77)),
+    Step::Batch(b"red", &[0, 3], 4, (17, (0, 0, 0), &[])),
     Step::Joins(0, 0),
     Step::Freezes(1, 0),
     Step::Interns(1, b"pink", (17, 77)),
