@@ -94,8 +94,10 @@ def some_step(random):
         (6, ("dictionary", handle, random.choice([0, 0, 1, 5, 2**32, ENDLESS]), random.choice([0, 10, 300, 50000]), random.choice([0, 1, 2, 10, 100]), is_large)),
         (8, ("encode", small_data, small_offsets, some_bitmap(random, texts) if random.random() < 0.5 else None, some_null(random), about(random, texts), about(random, len(small_data)), about(random, texts + 1))),
         (8, ("decode", small_data, small_offsets, some_codes(random, texts), some_null(random), random.choice([0, room, 50000]), None, None)),
-        (1, ("status_text", random.choice([*range(18), 2**32 - 1]), random.choice([0, 1, 5, 100]))),
-        (2, ("shared_new", handle, None, random.choice([None, None, (0,), (60,), (1000,), (2**60,), (ENDLESS,)]), keys)),
+        (1, ("status_text", random.choice([*range(20), 2**32 - 1]), random.choice([0, 1, 5, 100]))),
+        (2, ("shared_new", handle, None, None, keys)),
+        (1, ("shared_new", handle, limit, (random.choice([0, 60, 1000, 2**60, ENDLESS]), random.choice([0, 1, 100, 8192, 2**62, ENDLESS])), keys)),
+        (1, ("shared_freeze", handle)),
         (3, ("shared_join", handle, other)),
         (1, ("shared_free", handle)),
         (2, ("shared_see", handle)),
@@ -239,14 +241,14 @@ class Run:
     # Calls that make and end interners.
 
     def new(self, kind, handle, limit, sizes, keys):
-        """Of a shared interner the limit is None."""
+        """Of a shared interner without sizes the limit is None."""
         arguments = [self.at(kind, handle), *(sizes or ()), *([] if limit is None else [limit]), *(keys[1:] if keys else ())]
         name = kind + "new" + ("_sized" if sizes else "") + ("_" + keys[0] if keys else "")
         is_too_much = bool(sizes) and max(sizes) >= 2**60
         if not self.is_done(name, Refused(reference.NO_MEMORY) if is_too_much else None, *arguments):
             return
         if kind == SHARED:
-            self.held[kind][handle] = reference.SharedHandle(reference.Shared())
+            self.held[kind][handle] = reference.SharedHandle(reference.Shared(limit, max(sizes[1], 1)) if sizes else reference.Shared())
             return
         self.held[kind][handle], self.lent[handle] = reference.Interner(limit, max(sizes[1], 1) if sizes else 4096), []
         room = self.number("lasso_capacity", handle)
@@ -287,6 +289,12 @@ class Run:
         held = self.tried(kind, handle, reference.holding)
         if self.is_done(kind + "set_limit", held, self.at(kind, handle), limit):
             held.account.limit = limit
+
+    def freeze(self, kind, handle):
+        of_handle = self.held[kind][handle]
+        handles = sum(share is not None and of_handle is not None and share.interner is of_handle.interner for share in self.held[kind])
+        done = self.tried(kind, handle, lambda share: reference.holding(share).freeze(handles == 1))
+        self.is_done("lasso_shared_freeze", done, self.at(kind, handle))
 
     def see(self, kind, handle):
         held = self.tried(kind, handle, reference.holding)
@@ -388,7 +396,7 @@ class Run:
         size = self.library.call("lasso_status_text", SIZE, status, whole)
         expect("lasso_status_text: the size", (self.library.call("lasso_status_text", SIZE, status, text), 0 < size < 1000), (size, True))
         said = whole.after[:size]
-        expect("lasso_status_text: the text", (said.isascii(), said == b"not a status"), (True, status > reference.BUSY))
+        expect("lasso_status_text: the text", (said.isascii(), said == b"not a status"), (True, status > reference.FROZEN))
         expect("lasso_status_text: what is written", (whole.after, text.after), (whole.after_writing(list(said)), text.after_writing(list(said[:room]))))
 
 

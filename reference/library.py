@@ -21,7 +21,9 @@ from lines import Account, is_utf8
     NO_SUCH_TEXT,
     BITMAP_TOO_SHORT,
     BUSY,
-) = range(16)
+    OTHER_HANDLES,
+    FROZEN,
+) = range(18)
 NULL = ABSENT = 2**32 - 1
 NO_REPORT = (0, 0, 0)
 
@@ -124,6 +126,8 @@ def decode(data, offsets, codes, null, bytes_room, offsets_room, bitmap_room):
 class Interner:
     """What a handle holds."""
 
+    is_frozen = False
+
     def __init__(self, limit, first=4096):
         self.codes = {}
         self.account = Account(limit, first)
@@ -162,7 +166,8 @@ def intern(interner, text):
 def intern_batch(interner, data, offsets, present, null, codes_room):
     """lasso_intern_batch and its other forms: the status, the report and the codes."""
     rows, codes = max(len(offsets) - 1, 0), []
-    holding(interner)
+    if holding(interner).is_frozen:
+        raise Refused(FROZEN)
     if codes_room < rows:
         raise Refused(CODES_TOO_SHORT)
     if present and len(present) * 8 < rows:
@@ -210,10 +215,10 @@ def dictionary(interner, start, bytes_room, offsets_room, greatest):
 class SharedAccount:
     """The buckets of a shared interner, by the bytes that are left in each, under a limit."""
 
-    def __init__(self):
-        self.limit = 2**64 - 1
-        self.rooms = [4096]
-        self.usage = self.doubling = 4096
+    def __init__(self, limit, first):
+        self.limit = limit
+        self.rooms = [first]
+        self.usage = self.doubling = first
 
     def store(self, length):
         """Takes the bytes of a text. Whether the limit allows it; if not, nothing changes."""
@@ -235,11 +240,11 @@ class SharedAccount:
 
 
 class Shared(Interner):
-    """What handles of an interner that threads share have in common: the list of its texts, and their buckets."""
+    """What handles of an interner that threads share have in common: the list of its texts, their buckets, and whether it is frozen."""
 
-    def __init__(self):
-        super().__init__(2**64 - 1)
-        self.account = SharedAccount()
+    def __init__(self, limit=2**64 - 1, first=4096):
+        super().__init__(limit)
+        self.account = SharedAccount(limit, first)
 
 
 class SharedHandle:
@@ -254,8 +259,22 @@ class SharedHandle:
         """lasso_shared_see."""
         self.seen = len(self.codes)
 
+    @property
+    def is_frozen(self):
+        """Whether no text is interned any more."""
+        return self.interner.is_frozen
+
+    def freeze(self, is_last):
+        """lasso_shared_freeze, by a handle that is the last one or not."""
+        if not is_last and not self.is_frozen:
+            raise Refused(OTHER_HANDLES)
+        self.interner.is_frozen = True
+        self.see()
+
     def intern(self, text):
         """lasso_shared_intern: the code."""
+        if self.is_frozen:
+            raise Refused(FROZEN)
         return self.interner.intern(text)
 
     def copy(self):

@@ -6,8 +6,9 @@
    In some rounds a thread sets limits that fall and rise: of two looks at the memory under one limit, the second has more only up to that limit.
    In a round each of some places makes calls by a handle of its own. Now and then the thread of a place ends: the handle for the next thread
    of the place meets its own, which it frees, while others go on. Each reply is noted with the times before and after the call, and each of
-   a batch. In the end the list is lent at once, and copied for one thread. No call takes a
-   second in a round in which a thread that sleeps wakes in time. On a busy machine that is not so, and threads wait for others that do not run. */
+   a batch. In the end the last handle freezes the interner, and the list is lent at once, and copied for one thread; as long as there are others,
+   no handle freezes it. No call takes a second in a round in which a thread that sleeps wakes in time. On a busy machine that is not so, and
+   threads wait for others that do not run. */
 #include "lasso.h"
 
 #include <pthread.h>
@@ -228,6 +229,8 @@ static void *work(void *argument)
     }
     if (kind == STARVED && place->number == 0)
         is_written = true;
+    if (lasso_shared_freeze(&handle) != LASSO_OTHER_HANDLES)
+        FAULT("an interner with other handles was frozen");
     if (lasso_shared_meet(&handle, &place->handle) != LASSO_DONE)
         FAULT("two handles did not meet");
     check_met(place, &handle);
@@ -311,7 +314,7 @@ static void check_reply(const struct reply *reply, size_t length)
     }
 }
 
-/* The list as it is lent from a code on, and a copy of it for one thread, have these texts. */
+/* The list of a frozen interner as it is lent from a code on, and a copy of it for one thread, have these texts. */
 static void check_whole(struct lasso_shared *shared, size_t length)
 {
     static struct lasso_text texts[TEXTS];
@@ -319,7 +322,7 @@ static void check_whole(struct lasso_shared *shared, size_t length)
     struct lasso copy = LASSO_NONE;
     for (size_t code = 0; code < TEXTS; code++)
         texts[code] = (struct lasso_text)LASSO_NO_TEXT;
-    if (lasso_shared_see(shared) != LASSO_DONE || lasso_shared_texts(shared, 0, texts, TEXTS) != length)
+    if (lasso_shared_texts(shared, 0, texts, TEXTS) != length)
         FAULT("not all texts are lent");
     if (lasso_shared_copy(shared, &copy) != LASSO_DONE || lasso_len(&copy) != length)
         FAULT("not all texts are copied");
@@ -332,11 +335,26 @@ static void check_whole(struct lasso_shared *shared, size_t length)
     lasso_free(&copy);
 }
 
+/* The last handle freezes the interner, and so it stays. */
+static void freeze(struct lasso_shared *shared)
+{
+    struct lasso_shared later = LASSO_SHARED_NONE;
+    uint32_t code = UINT32_MAX;
+    if (lasso_shared_freeze(shared) != LASSO_DONE)
+        FAULT("the last handle did not freeze the interner");
+    if (lasso_shared_join(shared, &later) != LASSO_DONE || lasso_shared_freeze(shared) != LASSO_DONE)
+        FAULT("a frozen interner has no other handle, or is not frozen");
+    if (lasso_shared_intern(shared, (const uint8_t *)"more", 4, &code) != LASSO_FROZEN || lasso_shared_intern(&later, NULL, 0, &code) != LASSO_FROZEN)
+        FAULT("a frozen interner interns");
+    lasso_shared_free(&later);
+}
+
 /* One growing list of distinct texts explains all replies, and lent texts are as they were. */
 static size_t check_round(struct lasso_shared *shared)
 {
     size_t length = lasso_shared_len(shared), calls = 0;
     struct lasso_text lent = LASSO_NO_TEXT;
+    freeze(shared);
     gather();
     order(length);
     for (struct place *place = places; place < places + place_count; place++) {
@@ -348,7 +366,7 @@ static size_t check_round(struct lasso_shared *shared)
         calls += place->done;
     }
     for (uint32_t code = 0; code < length; code++)
-        if (lasso_shared_text_now(shared, code, &lent) != LASSO_DONE || number_of(lent.bytes, lent.length) != number_at[code])
+        if (lasso_shared_text(shared, code, &lent) != LASSO_DONE || number_of(lent.bytes, lent.length) != number_at[code])
             FAULT("code %u has another text in the end", (unsigned)code);
     if (lasso_shared_text_now(shared, (uint32_t)length, &lent) != LASSO_NO_SUCH_CODE)
         FAULT("there is a text past the last one");
@@ -359,18 +377,18 @@ static size_t check_round(struct lasso_shared *shared)
 /* An interner by one of the makers. */
 static uint32_t make_interner(uint32_t *state, struct lasso_shared *shared)
 {
-    uint32_t texts = next(state) >> 8 & 8191, one = next(state), other = next(state);
+    uint32_t texts = next(state) >> 8 & 8191, bytes = next(state) >> 8 & 8191, one = next(state), other = next(state);
     switch (next(state) >> 8 & 7) {
     case 0:
-        return lasso_shared_new_sized(shared, texts);
+        return lasso_shared_new_sized(shared, texts, bytes, LASSO_NO_LIMIT);
     case 1:
         return lasso_shared_new_seeded(shared, one, other);
     case 2:
-        return lasso_shared_new_sized_seeded(shared, texts, one, other);
+        return lasso_shared_new_sized_seeded(shared, texts, bytes, LASSO_NO_LIMIT, one, other);
     case 3:
         return lasso_shared_new_keyed(shared, one, other);
     case 4:
-        return lasso_shared_new_sized_keyed(shared, texts, one, other);
+        return lasso_shared_new_sized_keyed(shared, texts, bytes, LASSO_NO_LIMIT, one, other);
     default:
         return lasso_shared_new(shared);
     }
@@ -535,7 +553,7 @@ static int run_refused(void)
     memset(long_text, 'x', sizeof long_text);
     while (again(lasso_shared_new(&first), &first, 0))
         continue;
-    while (again(lasso_shared_new_sized_keyed(&first, 100, 1, 2), &first, 0))
+    while (again(lasso_shared_new_sized_keyed(&first, 100, 100, LASSO_NO_LIMIT, 1, 2), &first, 0))
         continue;
     while (again(lasso_shared_join(&first, &other), &first, 0))
         continue;
@@ -562,6 +580,8 @@ static int run_refused(void)
         FAULT("a copy has %zu texts", lasso_len(&copy));
     lasso_free(&copy);
     lasso_shared_free(&first);
+    if (lasso_shared_freeze(&other) != LASSO_DONE)
+        FAULT("no memory is asked for, and the interner is not frozen");
     lasso_shared_free(&other);
     return puts("6101 texts") < 0;
 }

@@ -141,6 +141,35 @@ static int check_limit(void)
     return 0;
 }
 
+/* The last handle freezes the interner: it and later ones lend the whole list, and intern no more. */
+static int check_freezing(void)
+{
+    struct lasso_shared shared = LASSO_SHARED_NONE, other = LASSO_SHARED_NONE;
+    struct lasso_text lent = LASSO_NO_TEXT, kept = LASSO_NO_TEXT;
+    const int32_t offsets[] = {0, 3};
+    struct lasso_report report = {7, 7, 7};
+    uint32_t code = 77;
+    size_t bytes = 77;
+    CHECK(lasso_shared_freeze(&shared) == LASSO_NO_INTERNER);
+    CHECK(lasso_shared_new_sized(&shared, 0, 10, 20) == LASSO_DONE && lasso_shared_join(&shared, &other) == LASSO_DONE);
+    CHECK(intern(&shared, "red", &code) == LASSO_DONE && intern(&other, "a text of more bytes", &code) == LASSO_LIMIT_REACHED);
+    CHECK(lasso_shared_freeze(&shared) == LASSO_OTHER_HANDLES && lasso_shared_freeze(&other) == LASSO_OTHER_HANDLES);
+    CHECK(lasso_shared_text(&shared, 0, &lent) == LASSO_NO_SUCH_CODE);
+    CHECK(intern(&other, "blue", &code) == LASSO_DONE && code == 1 && lasso_shared_text_now(&other, 1, &kept) == LASSO_DONE);
+    lasso_shared_free(&other);
+    CHECK(lasso_shared_freeze(&shared) == LASSO_DONE && lasso_shared_text(&shared, 1, &lent) == LASSO_DONE && is_lent(&lent, "blue"));
+    CHECK(lent.bytes == kept.bytes && lasso_shared_len(&shared) == 2 && get(&shared, "red", &code) == LASSO_DONE && code == 0);
+    CHECK(intern(&shared, "red", &code) == LASSO_FROZEN && intern(&shared, "new", &code) == LASSO_FROZEN && code == 0);
+    CHECK(lasso_shared_intern_batch_wait(&shared, (const uint8_t *)"red", 3, offsets, 2, &code, 1, &report) == LASSO_FROZEN);
+    CHECK(report.texts == 0 && report.bytes == 0 && report.at == 0 && code == 0);
+    CHECK(lasso_shared_join(&shared, &other) == LASSO_DONE && lasso_shared_freeze(&shared) == LASSO_DONE);
+    CHECK(lasso_shared_text(&other, 1, &lent) == LASSO_DONE && intern(&other, "new", &code) == LASSO_FROZEN);
+    CHECK(lasso_shared_memory_wait(&other, &bytes) == LASSO_DONE && bytes == 10 && lasso_shared_len(&other) == 2);
+    lasso_shared_free(&shared);
+    lasso_shared_free(&other);
+    return 0;
+}
+
 /* A copy for one thread has the texts that the handle has seen, under their codes. */
 static int check_copy(struct lasso_shared *shared, const char *const *texts, size_t count)
 {
@@ -191,12 +220,13 @@ static int check_lists(void)
     struct lasso copy = LASSO_NONE;
     CHECK(lasso_shared_copy(&shared, &copy) == LASSO_NO_INTERNER && !copy.live);
     CHECK(lasso_shared_new(&shared) == LASSO_DONE && check_lists_of(&shared) == 0);
-    CHECK(lasso_shared_new_sized(&shared, 100000) == LASSO_DONE && check_lists_of(&shared) == 0);
+    CHECK(lasso_shared_new_sized(&shared, 100000, 65536, LASSO_NO_LIMIT) == LASSO_DONE && check_lists_of(&shared) == 0);
     CHECK(lasso_shared_new_seeded(&shared, 7, UINT64_MAX) == LASSO_DONE && check_lists_of(&shared) == 0);
-    CHECK(lasso_shared_new_sized_seeded(&shared, 0, 7, 8) == LASSO_DONE && check_lists_of(&shared) == 0);
+    CHECK(lasso_shared_new_sized_seeded(&shared, 0, 0, 100, 7, 8) == LASSO_DONE && check_lists_of(&shared) == 0);
     CHECK(lasso_shared_new_keyed(&shared, UINT64_MAX, 7) == LASSO_DONE && check_lists_of(&shared) == 0);
-    CHECK(lasso_shared_new_sized_keyed(&shared, 1000, 8, 7) == LASSO_DONE && check_lists_of(&shared) == 0);
-    CHECK(lasso_shared_new_sized(&shared, SIZE_MAX) == LASSO_NO_MEMORY && lasso_shared_len(&shared) == 3);
+    CHECK(lasso_shared_new_sized_keyed(&shared, 1000, 1000, 0, 8, 7) == LASSO_DONE && check_lists_of(&shared) == 0);
+    CHECK(lasso_shared_new_sized(&shared, SIZE_MAX, 1, LASSO_NO_LIMIT) == LASSO_NO_MEMORY && lasso_shared_len(&shared) == 3);
+    CHECK(lasso_shared_new_sized(&shared, 1, SIZE_MAX, 10) == LASSO_NO_MEMORY && lasso_shared_len(&shared) == 3);
     lasso_shared_free(&shared);
     return 0;
 }
@@ -336,7 +366,7 @@ static int check_last_byte(void)
 int main(void)
 {
     struct worker *workers = calloc(MOST_THREADS, sizeof *workers);
-    int wrong = workers == NULL || check_calls() || check_limit() || check_many() || check_lists();
+    int wrong = workers == NULL || check_calls() || check_limit() || check_freezing() || check_many() || check_lists();
     for (int round = 0; round < 20 && !wrong; round++)
         wrong = check_last_byte();
     for (int threads = 1; threads <= MOST_THREADS && !wrong; threads *= 2)

@@ -101,6 +101,35 @@ size_t interner_texts(struct interner *interner, size_t from, struct lasso_text 
     return got;
 }
 
+size_t interner_memory(struct interner *interner)
+{
+    size_t bytes = 0;
+    if (!interner->is_shared)
+        return lasso_memory(&interner->own);
+    return lasso_shared_memory_wait(&interner->shared, &bytes) == LASSO_DONE ? bytes : 0;
+}
+
+size_t interner_limit(struct interner *interner)
+{
+    size_t bytes = 0;
+    if (!interner->is_shared)
+        return lasso_limit(&interner->own);
+    return lasso_shared_limit_wait(&interner->shared, &bytes) == LASSO_DONE ? bytes : 0;
+}
+
+uint32_t interner_set_limit(struct interner *interner, size_t limit)
+{
+    return interner->is_shared ? lasso_shared_set_limit_wait(&interner->shared, limit) : lasso_set_limit(&interner->own, limit);
+}
+
+uint32_t interner_clone(struct interner *interner, struct lasso *clone)
+{
+    if (!interner->is_shared)
+        return lasso_clone(&interner->own, clone);
+    lasso_shared_see(&interner->shared);
+    return lasso_shared_copy(&interner->shared, clone);
+}
+
 void interner_free(struct interner *interner)
 {
     lasso_free(&interner->own);

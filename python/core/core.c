@@ -264,8 +264,7 @@ PyObject *core_texts(Core *core, PyObject *words)
     return list;
 }
 
-/* A limit as lasso.h has it. Returns -1 with an exception. */
-static int limit_of(PyObject *number, size_t *limit)
+int limit_of(PyObject *number, size_t *limit)
 {
     *limit = LASSO_NO_LIMIT;
     if (number == Py_None)
@@ -301,7 +300,7 @@ static PyObject *core_open(Core *core, PyObject *words)
     Py_RETURN_NONE;
 }
 
-static PyObject *core_clone(Core *core, PyObject *other)
+PyObject *core_clone(Core *core, PyObject *other)
 {
     if (!PyObject_TypeCheck(other, (PyTypeObject *)core_type))
         return PyErr_Format(PyExc_TypeError, "no interner to clone into");
@@ -312,7 +311,7 @@ static PyObject *core_clone(Core *core, PyObject *other)
         core_enter(core);
         core_enter(clone);
     } while (core->busy);
-    uint32_t status = lasso_clone(&core->interner.own, &clone->interner.own);
+    uint32_t status = interner_clone(&core->interner, &clone->interner.own);
     if (status != LASSO_DONE)
         return raise_status(status, -1);
     Py_RETURN_NONE;
@@ -343,24 +342,24 @@ PyObject *core_closed(Core *core, void *none)
     return PyBool_FromLong(!interner_is_live(&core->interner));
 }
 
-static PyObject *core_memory(Core *core, void *none)
+PyObject *core_memory(Core *core, void *none)
 {
     (void)none;
     core_enter(core);
-    return PyLong_FromSize_t(lasso_memory(&core->interner.own));
+    return PyLong_FromSize_t(interner_memory(&core->interner));
 }
 
-static PyObject *core_limit(Core *core, void *none)
+PyObject *core_limit(Core *core, void *none)
 {
     (void)none;
     core_enter(core);
-    size_t limit = lasso_limit(&core->interner.own);
+    size_t limit = interner_limit(&core->interner);
     if (limit == LASSO_NO_LIMIT)
         Py_RETURN_NONE;
     return PyLong_FromSize_t(limit);
 }
 
-static int core_set_limit(Core *core, PyObject *number, void *none)
+int core_set_limit(Core *core, PyObject *number, void *none)
 {
     size_t limit;
     (void)none;
@@ -371,7 +370,7 @@ static int core_set_limit(Core *core, PyObject *number, void *none)
     if (limit_of(number, &limit) < 0)
         return -1;
     core_enter(core);
-    uint32_t status = lasso_set_limit(&core->interner.own, limit);
+    uint32_t status = interner_set_limit(&core->interner, limit);
     if (status != LASSO_DONE)
         raise_status(status, -1);
     return status == LASSO_DONE ? 0 : -1;

@@ -43,6 +43,14 @@ uint32_t interner_rows(struct interner *interner, bool appends, const struct row
 uint32_t interner_text(struct interner *interner, uint32_t code, struct lasso_text *text);
 size_t interner_texts(struct interner *interner, size_t from, struct lasso_text *texts, size_t room);
 
+/* How many bytes the buckets take, and may take: 0 without an interner. They wait as long as another thread is inside a step. */
+size_t interner_memory(struct interner *interner);
+size_t interner_limit(struct interner *interner);
+uint32_t interner_set_limit(struct interner *interner, size_t limit);
+
+/* Copies the texts of now into another interner, of one thread, under the same codes. */
+uint32_t interner_clone(struct interner *interner, struct lasso *clone);
+
 void interner_free(struct interner *interner);
 
 /* An interner as Python holds it. A call that keeps the GIL needs no lock. A call that lets the GIL go holds `lock` and sets `busy`, and every
@@ -76,6 +84,9 @@ void core_dealloc(Core *core);
 
 /* Sets the exception of a status, which is not LASSO_DONE. A position below 0 is none. Returns NULL. */
 PyObject *raise_status(uint32_t status, Py_ssize_t position);
+
+/* A limit of Python's as lasso.h has it. Returns -1 with an exception. */
+int limit_of(PyObject *number, size_t *limit);
 
 /* Sets WrongLayout with this message and position. Returns -1. */
 int raise_layout(Py_ssize_t position, const char *message, ...);
@@ -119,6 +130,10 @@ PyObject *core_intern(Core *core, PyObject *item);
 PyObject *core_get(Core *core, PyObject *item);
 PyObject *core_texts(Core *core, PyObject *words);
 PyObject *core_closed(Core *core, void *none);
+PyObject *core_memory(Core *core, void *none);
+PyObject *core_limit(Core *core, void *none);
+int core_set_limit(Core *core, PyObject *number, void *none);
+PyObject *core_clone(Core *core, PyObject *other);
 PyObject *core_check_rows(Core *core, PyObject *words);
 PyObject *core_rows(Core *core, PyObject *words);
 PyObject *core_arrow_array(Core *core, PyObject *words);

@@ -13,10 +13,14 @@ static PyObject *seat_new(PyTypeObject *type, PyObject *words, PyObject *named)
 
 static PyObject *seat_open(Core *seat, PyObject *words)
 {
+    PyObject *number;
+    size_t limit;
     unsigned long long seed0, seed1;
-    if (!PyArg_ParseTuple(words, "KK", &seed0, &seed1))
+    if (!PyArg_ParseTuple(words, "OKK", &number, &seed0, &seed1) || limit_of(number, &limit) < 0)
         return NULL;
     uint32_t status = lasso_shared_new_seeded(&seat->interner.shared, seed0, seed1);
+    if (status == LASSO_DONE)
+        status = interner_set_limit(&seat->interner, limit);
     if (status != LASSO_DONE)
         return raise_status(status, -1);
     Py_RETURN_NONE;
@@ -59,12 +63,13 @@ static PyObject *seat_close(Core *seat, PyObject *none)
 }
 
 static PyMethodDef methods[] = {
-    {"open", (PyCFunction)seat_open, METH_VARARGS, "open($self, seed0, seed1, /)\n--\n\nMakes an interner without texts."},
+    {"open", (PyCFunction)seat_open, METH_VARARGS, "open($self, limit, seed0, seed1, /)\n--\n\nMakes an interner without texts, with a limit or None."},
     {"join", (PyCFunction)seat_join, METH_NOARGS, "join($self, /)\n--\n\nAnother handle of the same interner. Raises InternerClosed or OutOfMemory."},
     {"close", (PyCFunction)seat_close, METH_NOARGS, "close($self, /)\n--\n\nCloses the interner for all of its handles."},
     {"intern", (PyCFunction)core_intern, METH_O, "intern($self, text, /)\n--\n\nThe code of a text, which is appended if it is absent."},
     {"get", (PyCFunction)core_get, METH_O, "get($self, text, /)\n--\n\nThe code of a text, or None if it is absent."},
     {"texts", (PyCFunction)core_texts, METH_VARARGS, "texts($self, start=0, /)\n--\n\nThe texts from a code on, in the order of their codes."},
+    {"_clone", (PyCFunction)core_clone, METH_O, "Makes a copy of the texts of now in a Core."},
     {"_check_rows", (PyCFunction)core_check_rows, METH_VARARGS, "As Core._check_rows."},
     {"_rows", (PyCFunction)core_rows, METH_VARARGS, "As Core._rows; it lets the GIL go for each batch of 1,024 rows or 32 KiB."},
     {"_arrow_array", (PyCFunction)core_arrow_array, METH_VARARGS, "As Core._arrow_array."},
@@ -74,6 +79,8 @@ static PyMethodDef methods[] = {
 };
 
 static PyGetSetDef properties[] = {
+    {"memory", (getter)core_memory, NULL, "How many bytes the texts' buckets take.", NULL},
+    {"limit", (getter)core_limit, (setter)core_set_limit, "How many bytes they may take, or None. It can be set.", NULL},
     {"closed", (getter)core_closed, NULL, "Whether the interner was closed.", NULL},
     {NULL, NULL, NULL, NULL, NULL},
 };

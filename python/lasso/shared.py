@@ -28,16 +28,17 @@ class SharedInterner:
     threads, from 0.
 
     Each thread has a handle of its own, which is made when the thread uses the interner first, and freed when the thread ends. ``encode`` and
-    ``get_many`` let other threads run meanwhile, also those that encode into the same interner. There is no limit. ``seed`` is a number below 2^128 by
-    which texts are hashed, or None for a random one; no code depends on it. The memory is given back at the end of a ``with`` block, by ``close``,
-    or when the interner is garbage. A child that ``os.fork`` makes while another thread is in ``encode`` or ``get_many`` has it closed.
+    ``get_many`` let other threads run meanwhile, also those that encode into the same interner. ``limit`` is how many bytes the texts' buckets may
+    take, for all threads together; None is no limit. The first bucket has 4,096 bytes whatever the limit. ``seed`` is a number below 2^128 by which
+    texts are hashed, or None for a random one; no code depends on it. The memory is given back at the end of a ``with`` block, by ``close``, or when
+    the interner is garbage. A child that ``os.fork`` makes while another thread is in ``encode`` or ``get_many`` has it closed.
     """
 
     __slots__ = ("__dict__", "__weakref__", "_first", "_seats")
 
-    def __init__(self, *, seed: int | None = None) -> None:
+    def __init__(self, limit: int | None = None, *, seed: int | None = None) -> None:
         self._first = Seat()
-        self._first.open(*halves(seed))
+        self._first.open(limit, *halves(seed))
         self._seats = _Seats(self._first)
 
     def __enter__(self: _Kind) -> _Kind:
@@ -58,12 +59,26 @@ class SharedInterner:
 
     def close(self) -> None:
         """Gives the memory back, whichever thread calls it. A call of another thread ends as without it, or raises InternerClosed: each later one
-        does, but this one, and ``len``, which is 0."""
+        does, but this one, and ``len``, ``memory`` and ``limit``, which are 0."""
         self._first.close()
 
+    @property
+    def memory(self) -> int:
+        """How many bytes the texts' buckets take."""
+        return 0 if self.closed else self._seats.seat.memory
+
+    @property
+    def limit(self) -> int | None:
+        """How many bytes they may take, or None. It can be set. Below what they take only the room that is left in them is used."""
+        return 0 if self.closed else self._seats.seat.limit
+
+    @limit.setter
+    def limit(self, limit: int | None) -> None:
+        self._seats.seat.limit = limit
+
     def intern(self, text: str) -> int:
-        """The code of a text, which is appended if it is absent. Raises NotUtf8; for an absent text CodesExhausted or OutOfMemory, and nothing
-        is appended then."""
+        """The code of a text, which is appended if it is absent. Raises NotUtf8; for an absent text LimitReached, CodesExhausted or OutOfMemory,
+        and nothing is appended then."""
         return self._seats.seat.intern(text)
 
     def get(self, text: str) -> int | None:
@@ -104,9 +119,9 @@ class SharedInterner:
         return [None if code == NULL else code for code in codes]
 
     def snapshot(self) -> Interner:
-        """An Interner, for one thread at a time, with copies of the texts of now under the same codes."""
-        made = Interner()
-        encode_into(made, self.texts(), None, array("I"), True)
+        """An Interner, for one thread at a time, with copies of the texts of now under the same codes, and without a limit."""
+        made = Interner.__new__(Interner)
+        self._seats.seat._clone(made)
         return made
 
     def _dictionary_array(self, codes: array[int]) -> tuple[object, object]:
@@ -114,23 +129,24 @@ class SharedInterner:
             return interner._dictionary_array(codes)
 
     def copy(self: _Kind) -> _Kind:
-        """Another shared interner of the same class, with the texts of now, their codes and the attributes."""
-        made = _loaded(type(self), self.texts())
+        """Another shared interner of the same class, with the texts of now, their codes, the limit and the attributes."""
+        made = _loaded(type(self), self.texts(), self.limit)
         made.__dict__.update(self.__dict__)
         return made
 
     __copy__ = copy
 
     def __reduce__(self) -> tuple[Any, ...]:
-        """What pickle keeps: the class, the texts of now and attributes. It raises InternerClosed once the interner is closed."""
-        return _loaded, (type(self), self.texts()), self.__dict__ or None
+        """What pickle keeps: the class, the texts of now, the limit and attributes. It raises InternerClosed once the interner is closed."""
+        return _loaded, (type(self), self.texts(), self.limit), self.__dict__ or None
 
 
-def _loaded(kind: type[_Kind], texts: list[str]) -> _Kind:
-    """A shared interner of a class, with these texts under the codes of their order."""
+def _loaded(kind: type[_Kind], texts: list[str], limit: int | None) -> _Kind:
+    """A shared interner of a class, with these texts under the codes of their order, and with that limit."""
     made = kind.__new__(kind)
     SharedInterner.__init__(made)
     encode_into(made._seats.seat, texts, None, array("I"), True)
     if len(made) != len(texts):
         raise ValueError("a text comes twice, so that later ones would have other codes")
+    made.limit = limit
     return made

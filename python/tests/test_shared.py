@@ -21,7 +21,7 @@ from typing import Any
 import pytest
 from producers import Chunks, strings
 
-from lasso import NULL, Interner, InternerClosed, NotUtf8, SharedInterner, WrongLayout
+from lasso import NULL, Interner, InternerClosed, LimitReached, NotUtf8, SharedInterner, WrongLayout
 
 THREADS = 8
 
@@ -197,6 +197,60 @@ def test_numbers_texts_from_call_to_call(shared: SharedInterner) -> None:
     assert repr(shared) == "<SharedInterner: 5 texts>"
 
 
+def test_a_limit_counts_buckets_as_lasso_h_says() -> None:
+    with SharedInterner(14000) as shared:
+        assert (shared.limit, shared.memory) == (14000, 4096)
+        # 96 bytes are left of the first bucket, and none of the second, which has twice as many.
+        for text, memory in (("a" * 4000, 4096), ("b" * 100, 12288), ("c" * 8092, 12288)):
+            shared.intern(text)
+            assert shared.memory == memory
+        with pytest.raises(LimitReached):
+            shared.intern("d" * 1713)
+        shared.limit = 0
+        with pytest.raises(LimitReached) as caught:
+            shared.encode(["a" * 4000, "d" * 96, "e", "b" * 100])
+        assert (caught.value.position, shared.limit, shared.memory, len(shared)) == (2, 0, 12288, 4)
+        together(lambda: setattr(shared, "limit", 14000))
+        assert (shared.intern("e" * 1712), shared.limit, shared.memory) == (4, 14000, 14000)
+        shared.limit = None
+        assert (shared.intern("f" * 40000), shared.limit, shared.memory) == (5, None, 54000)
+    for wrong, error in ((-1, ValueError), (2**64, ValueError), ("1", TypeError)):
+        limit: Any = wrong
+        with pytest.raises(error):
+            SharedInterner(limit)
+    with SharedInterner(0) as shared:
+        assert (shared.limit, shared.memory, shared.intern("x" * 4096)) == (0, 4096, 0)
+        with pytest.raises(LimitReached):
+            shared.intern("y")
+
+
+def test_eight_threads_share_what_a_limit_leaves() -> None:
+    refused: list[list[str]] = [[] for _ in range(THREADS)]
+
+    def fill(shared: SharedInterner, number: int) -> None:
+        # A thread's texts have more than the limit's bytes.
+        words = random.Random(number)
+        for _ in range(450):
+            text = f"text {words.randrange(3000)} " + "x" * words.randrange(300)
+            try:
+                codes = shared.encode([text, text]) if words.random() < 0.5 else [shared.intern(text)]
+                assert all(shared[code] == text for code in codes)
+            except LimitReached:
+                refused[number].append(text)
+            assert shared.memory <= 50000
+
+    with SharedInterner(50000) as shared:
+        together(*(partial(fill, shared, number) for number in range(THREADS)))
+        taken, texts = shared.memory, shared.texts()
+        assert len("".join(texts)) <= taken <= 50000 and len(set(texts)) == len(texts)
+        assert all(refused)
+        assert all(taken + len(text) > 50000 for each in refused for text in each)
+        shared.limit = 0
+        together(*(partial(fill, shared, number) for number in range(THREADS)))
+        assert shared.memory == taken
+        assert shared.texts(0)[: len(texts)] == texts
+
+
 @pytest.mark.parametrize("large", [False, True])
 def test_takes_columns_of_arrow(shared: SharedInterner, large: bool) -> None:
     texts = ["red", None, "", "blue", None, "red", "grün", "blue", "red", None, "x" * 40000]
@@ -262,8 +316,12 @@ def test_is_copied_and_pickled_by_its_texts(shared: SharedInterner) -> None:
     for each in made:
         with each:
             assert (type(each), each.texts(), each.intern("new"), each.get("grün")) == (SharedInterner, shared.texts(), 4, 2)
+    shared.limit = 20000
+    for each in [shared.copy(), pickle.loads(pickle.dumps(shared))]:
+        with each:
+            assert (each.limit, each.texts()) == (20000, shared.texts())
     with shared.snapshot() as one:
-        assert (type(one), one.texts(), one.intern("new")) == (Interner, shared.texts(), 4)
+        assert (type(one), one.texts(), one.limit, one.intern("new")) == (Interner, shared.texts(), None, 4)
     assert len(shared) == 4
     with Named() as named:
         named.name = "colours"
@@ -294,6 +352,9 @@ def test_tells_that_it_is_closed() -> None:
     with pytest.raises(InternerClosed):
         shared[0]
     assert (shared.closed, len(shared), repr(shared)) == (True, 0, "<SharedInterner: closed>")
+    assert (shared.memory, shared.limit) == (0, 0)
+    with pytest.raises(InternerClosed):
+        shared.limit = 1
 
 
 def test_is_closed_while_others_go_on() -> None:

@@ -91,7 +91,9 @@ enum lasso_status {
     LASSO_NO_INTERNER = 12,      /* the handle holds no interner */
     LASSO_NO_SUCH_TEXT = 13,     /* the interner does not have the text */
     LASSO_BITMAP_TOO_SHORT = 14, /* a bitmap has no bit for a row */
-    LASSO_BUSY = 15              /* another thread is inside a step of a shared interner: try again */
+    LASSO_BUSY = 15,             /* another thread is inside a step of a shared interner: try again */
+    LASSO_OTHER_HANDLES = 16,    /* the shared interner has other handles */
+    LASSO_FROZEN = 17            /* the shared interner is frozen: no text is interned any more */
 };
 
 /*
@@ -109,7 +111,8 @@ enum lasso_status {
  *                          the bytes; texts and bytes are 0.
  * LASSO_BITMAP_TOO_SHORT:  at is the number of the first row without a bit, from 0; texts and bytes are 0.
  * LASSO_NO_MEMORY,
- * LASSO_NO_INTERNER:       all three are 0.
+ * LASSO_NO_INTERNER,
+ * LASSO_FROZEN:            all three are 0.
  *
  * The calls whose names begin with lasso_intern_batch, and lasso_shared_intern_batch, report something else: see there.
  */
@@ -548,12 +551,14 @@ struct lasso_shared {
 uint32_t lasso_shared_new(struct lasso_shared *shared);
 
 /*
- * lasso_shared_new for a caller that knows how much is to come: the list of texts does not grow before it has texts
- * texts.
+ * lasso_shared_new for a caller that knows how much is to come, or sets a limit at once: the list of texts does not
+ * grow before it has texts texts, the first bucket has bytes bytes, but at least one, and the buckets take at most
+ * limit bytes; the first one is there whatever the limit. lasso_shared_new has 50 texts, 4,096 bytes and
+ * LASSO_NO_LIMIT.
  *
  * Returns LASSO_DONE, or LASSO_NO_MEMORY, and then the handle is as it was.
  */
-uint32_t lasso_shared_new_sized(struct lasso_shared *shared, size_t texts);
+uint32_t lasso_shared_new_sized(struct lasso_shared *shared, size_t texts, size_t bytes, size_t limit);
 
 /*
  * lasso_shared_new for texts that strangers choose, as lasso_new_seeded: they are hashed with this seed of 128 bits,
@@ -563,8 +568,9 @@ uint32_t lasso_shared_new_sized(struct lasso_shared *shared, size_t texts);
  */
 uint32_t lasso_shared_new_seeded(struct lasso_shared *shared, uint64_t seed0, uint64_t seed1);
 
-/* lasso_shared_new_seeded with the capacity of lasso_shared_new_sized. */
-uint32_t lasso_shared_new_sized_seeded(struct lasso_shared *shared, size_t texts, uint64_t seed0, uint64_t seed1);
+/* lasso_shared_new_seeded with the capacity and the limit of lasso_shared_new_sized. */
+uint32_t lasso_shared_new_sized_seeded(struct lasso_shared *shared, size_t texts, size_t bytes, size_t limit,
+                                       uint64_t seed0, uint64_t seed1);
 
 /*
  * lasso_shared_new_seeded with SipHash-1-3 and two keys, as lasso_new_keyed.
@@ -573,8 +579,9 @@ uint32_t lasso_shared_new_sized_seeded(struct lasso_shared *shared, size_t texts
  */
 uint32_t lasso_shared_new_keyed(struct lasso_shared *shared, uint64_t key0, uint64_t key1);
 
-/* lasso_shared_new_keyed with the capacity of lasso_shared_new_sized. */
-uint32_t lasso_shared_new_sized_keyed(struct lasso_shared *shared, size_t texts, uint64_t key0, uint64_t key1);
+/* lasso_shared_new_keyed with the capacity and the limit of lasso_shared_new_sized. */
+uint32_t lasso_shared_new_sized_keyed(struct lasso_shared *shared, size_t texts, size_t bytes, size_t limit,
+                                      uint64_t key0, uint64_t key1);
 
 /*
  * Makes another handle of the same interner in other, for another thread. If other holds one, that one is freed after
@@ -592,10 +599,10 @@ uint32_t lasso_shared_join(struct lasso_shared *shared, struct lasso_shared *oth
  * as long as there is one. Copies are in buckets that all handles share, and that lasso_shared_memory counts. After
  * 4,096 calls a handle keeps 128 KiB of hints, by which it finds texts again without a lock.
  *
- * Returns LASSO_NOT_UTF8; LASSO_NO_INTERNER; LASSO_BUSY; for an absent text LASSO_NO_MEMORY, LASSO_LIMIT_REACHED if no
- * bucket has room for it and it has more bytes than the limit leaves, or LASSO_NO_CODE_LEFT; else LASSO_DONE. With
- * LASSO_NO_CODE_LEFT the text's bytes (or a new bucket) stay taken. With LASSO_BUSY they don't, as far as tests tell:
- * what is proved leaves it open.
+ * Returns LASSO_NOT_UTF8; LASSO_NO_INTERNER; LASSO_FROZEN, also for a present text; LASSO_BUSY; for an absent text
+ * LASSO_NO_MEMORY, LASSO_LIMIT_REACHED if no bucket has room for it and it has more bytes than the limit leaves, or
+ * LASSO_NO_CODE_LEFT; else LASSO_DONE. With LASSO_NO_CODE_LEFT the text's bytes (or a new bucket) stay taken. With
+ * LASSO_BUSY they don't, as far as tests tell: what is proved leaves it open.
  */
 uint32_t lasso_shared_intern(struct lasso_shared *shared, const uint8_t *text, size_t text_length, uint32_t *code);
 
@@ -608,9 +615,9 @@ uint32_t lasso_shared_intern(struct lasso_shared *shared, const uint8_t *text, s
  * bytes, offsets      read: as in lasso_encode.
  * codes               written. codes_length counts codes, one for each text; it may be greater.
  *
- * Returns LASSO_NO_INTERNER; LASSO_CODES_TOO_SHORT, or LASSO_OFFSET_PAST_BYTES if the first offset is past the bytes:
- * then no text is interned, and the report is all 0. Else what the first text gives that is refused or busy:
- * LASSO_OFFSETS_FALL, LASSO_OFFSET_PAST_BYTES, LASSO_NOT_UTF8, or as lasso_shared_intern; else LASSO_DONE.
+ * Returns LASSO_NO_INTERNER; LASSO_FROZEN; LASSO_CODES_TOO_SHORT, or LASSO_OFFSET_PAST_BYTES if the first offset is
+ * past the bytes: then no text is interned, and the report is all 0. Else what the first text gives that is refused or
+ * busy: LASSO_OFFSETS_FALL, LASSO_OFFSET_PAST_BYTES, LASSO_NOT_UTF8, or as lasso_shared_intern; else LASSO_DONE.
  */
 uint32_t lasso_shared_intern_batch(struct lasso_shared *shared,
                                    const uint8_t *bytes, size_t bytes_length,
@@ -685,6 +692,19 @@ size_t lasso_shared_texts(struct lasso_shared *shared, size_t from, struct lasso
 uint32_t lasso_shared_copy(struct lasso_shared *shared, struct lasso *lasso);
 
 /*
+ * Freezes the interner, if this is its last handle: no text is interned any more, and none is copied or moved. The
+ * handle sees the whole list, with the texts of handles that were freed before: lasso_shared_text and
+ * lasso_shared_texts lend all of it, and no code is added. Order the call after those of the freed handles, as by
+ * joining their threads. Later handles, which lasso_shared_join makes as before, are frozen too: so each thread may
+ * read by one of its own.
+ *
+ * Returns LASSO_NO_INTERNER; LASSO_OTHER_HANDLES, and then nothing has changed; else LASSO_DONE, also if the interner
+ * is frozen already. That LASSO_DONE comes only to the last handle, and that the list then has the texts of those that
+ * were freed, is tested, not proved.
+ */
+uint32_t lasso_shared_freeze(struct lasso_shared *shared);
+
+/*
  * How many texts the interner has, without lasso_shared_see. 0 without an interner. That it counts what other handles
  * added before is tested, not proved.
  */
@@ -702,7 +722,8 @@ size_t lasso_shared_len(struct lasso_shared *shared);
 uint32_t lasso_shared_memory(struct lasso_shared *shared, size_t *bytes);
 
 /*
- * Writes to *bytes how many bytes those buckets may take: LASSO_NO_LIMIT, or what lasso_shared_set_limit set last.
+ * Writes to *bytes how many bytes those buckets may take: what the interner was made with, or what
+ * lasso_shared_set_limit set last.
  *
  * Returns LASSO_NO_INTERNER, LASSO_BUSY, else LASSO_DONE.
  */

@@ -1,6 +1,6 @@
 -- What a call on a handle of a shared interner is about: the member that the handle holds, if any, with its pass and the
 -- list that it has seen.
-use Rattle.std.specs.Prelude.{◌≡◌, ◌⊎◌, ◌-◌, ◌^◌, ℕ, Bool, true, false, List, [], Option, None, Some, Result, Err}
+use Rattle.std.specs.Prelude.{◌≡◌, ◌⊎◌, ℕ, Bool, MatchBool, true, false, List, [], Option, None, Some, Result, Err}
 use mathlib.Core.List.{IsPrefix}
 use Rattle.lasso_parts.specs.Texts.{Text}
 use Rattle.lasso_log.specs.History.{opened}
@@ -11,18 +11,24 @@ use Rattle.lasso_c.specs.declared.error.CallError.TheVariants.{NoInterner}
 use Rattle.lasso_c.specs.Passes.{AppendsNone, CopiesCall, IsCallOf, IsQuiet, texts_of}
 use Rattle.lasso_c.specs.declared.seed.Seed.{Seed}
 use Rattle.lasso_c.specs.declared.shared.member.Member.{Member}
-use Rattle.lasso_c.specs.declared.status.TheConstants.{DONE, NOT_UTF8, NO_SUCH_CODE, NO_MEMORY, LIMIT_REACHED, NO_CODE_LEFT, NO_INTERNER, NO_SUCH_TEXT, BUSY}
+use Rattle.lasso_c.specs.declared.status.TheConstants.{DONE, NOT_UTF8, NO_SUCH_CODE, NO_MEMORY, LIMIT_REACHED, NO_CODE_LEFT, NO_INTERNER, NO_SUCH_TEXT, BUSY, FROZEN}
 
 -- what the hashers of the member's interner begin with, if there is one
 abbrev pub shared_seed : Option Member → Option Seed
 shared_seed None = None
 shared_seed (Some member) = Some member.shared.seed
 
--- the handle holds the first member of a new interner with this seed, whose first bucket has this size, and which has no limit
--- below the greatest number
-abbrev pub Begins : (size : ℕ) → Seed → Option Member → Type 0
-Begins size seed None = ⊥
-Begins size seed (Some member) = (member.pass.notes ≡ []) × (member.pass.of.opening ≡ opened [] size 0 (2 ^ 64 - 1)) × (member.shared.seed ≡ seed)
+-- whether the member's interner is frozen
+abbrev pub is_frozen : Option Member → Bool
+is_frozen None = false
+is_frozen (Some member) = member.shared.is_frozen
+
+-- the handle holds the first member of a new interner with this seed, whose first bucket has this size, and whose buckets take at most
+-- the limit's bytes
+abbrev pub Begins : (size limit : ℕ) → Seed → Option Member → Type 0
+Begins size limit seed None = ⊥
+Begins size limit seed (Some member) =
+    (member.pass.notes ≡ []) × (member.pass.of.opening ≡ opened [] size 0 limit) × (member.shared.seed ≡ seed) × (member.shared.is_frozen ≡ false)
 
 -- the member made one call of its pass, with this reply
 abbrev pub Calls : (before after : Option Member) → Question → Reply ℕ → Type 0
@@ -42,9 +48,10 @@ PutsNone text (Some before) (Some after) = AppendsNone text before.pass after.pa
 PutsNone text (Some before) None = ⊥
 PutsNone text None after = after ≡ None
 
--- the member is of this interner, with its seed, and has seen nothing yet
+-- the member is of this interner, with its seed, is frozen if that is, and has seen nothing yet
 abbrev pub BeginsBeside : (first second : Option Member) → Type 0
-BeginsBeside (Some first) (Some second) = (second.pass.of ≡ first.pass.of) × (second.pass.notes ≡ []) × (second.shared.seed ≡ first.shared.seed)
+BeginsBeside (Some first) (Some second) =
+    (second.pass.of ≡ first.pass.of) × (second.pass.notes ≡ []) × (second.shared.seed ≡ first.shared.seed) × (second.shared.is_frozen ≡ first.shared.is_frozen)
 BeginsBeside (Some first) None = ⊥
 BeginsBeside None second = ⊥
 
@@ -84,7 +91,8 @@ IsStatusOf (Some _) status others = others
 -- a status of interning bytes that are UTF-8 or not
 abbrev pub IsInternStatus : (utf8 : Bool) → Option Member → (status : ℕ) → Type 0
 IsInternStatus false held status = status ≡ NOT_UTF8
-IsInternStatus true held status = IsStatusOf held status ((status ≡ DONE) ⊎ (status ≡ NO_CODE_LEFT) ⊎ (status ≡ LIMIT_REACHED) ⊎ (status ≡ NO_MEMORY) ⊎ (status ≡ BUSY))
+IsInternStatus true held status =
+    IsStatusOf held status (MatchBool (is_frozen held) (status ≡ FROZEN) ((status ≡ DONE) ⊎ (status ≡ NO_CODE_LEFT) ⊎ (status ≡ LIMIT_REACHED) ⊎ (status ≡ NO_MEMORY) ⊎ (status ≡ BUSY)))
 
 -- a status of looking bytes up that are UTF-8 or not
 abbrev pub IsGetStatus : (utf8 : Bool) → Option Member → (status : ℕ) → Type 0

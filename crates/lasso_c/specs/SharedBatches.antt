@@ -1,5 +1,5 @@
 -- What interning the texts of a layout by calls of one pass is, and how it ends.
-use Rattle.std.specs.Prelude.{◌≡◌, ◌<◌, ◌+◌, ◌⊎◌, ℕ, List, [], ◌∷◌, length, slice_get, slice_index, nat_eq, if◌then◌else◌, Option, None, Some, Result, Ok, Err}
+use Rattle.std.specs.Prelude.{◌≡◌, ◌<◌, ◌+◌, ◌⊎◌, ℕ, MatchBool, List, [], ◌∷◌, length, slice_get, slice_index, nat_eq, if◌then◌else◌, Option, None, Some, Result, Ok, Err}
 use Rattle.lasso_parts.specs.Layout.{layout_texts}
 use Rattle.lasso_parts.specs.Texts.{Text}
 use Rattle.lasso_parts.specs.declared.util.LassoErrorKind.{LassoErrorKind}
@@ -12,7 +12,7 @@ use Rattle.lasso_c.specs.Status.{error_status}
 use Rattle.lasso_c.specs.declared.error.CallError.{CallError}
 use Rattle.lasso_c.specs.declared.error.LassoReport.{LassoReport}
 use Rattle.lasso_c.specs.declared.shared.member.Member.{Member}
-use Rattle.lasso_c.specs.declared.status.TheConstants.{DONE, NO_INTERNER, BUSY}
+use Rattle.lasso_c.specs.declared.status.TheConstants.{DONE, NO_INTERNER, BUSY, FROZEN}
 
 -- the pass interned these texts in order, each by a call of its own, and these are their codes. A call begins where the one before
 -- it ended
@@ -78,4 +78,6 @@ SharedBatchEnds greatest bytes offsets codes_before codes_after status report No
     (status ≡ NO_INTERNER) × (report ≡ record { texts = 0; bytes = 0; at = 0 }) × (codes_after ≡ codes_before) × (after ≡ None)
 SharedBatchEnds greatest bytes offsets codes_before codes_after status report (Some before) None = ⊥
 SharedBatchEnds greatest bytes offsets codes_before codes_after status report (Some before) (Some after) =
-    InternsBatch greatest bytes offsets report.texts status codes_before codes_after before.pass after.pass × (report ≡ shared_report report.texts status)
+    MatchBool before.shared.is_frozen
+    ((status ≡ FROZEN) × (report ≡ record { texts = 0; bytes = 0; at = 0 }) × (codes_after ≡ codes_before) × (after ≡ before))
+    (InternsBatch greatest bytes offsets report.texts status codes_before codes_after before.pass after.pass × (report ≡ shared_report report.texts status))

@@ -3,7 +3,7 @@ use Rattle.std.specs.Prelude.{ℕ, ◌≡◌, List, nat_eq, if◌then◌else◌,
 use Rattle.lasso_c.specs.declared.error.Sizes.{Sizes}
 use Rattle.lasso_c.specs.declared.error.LassoReport.{LassoReport}
 use Rattle.lasso_c.specs.declared.error.CallError.{CallError}
-use Rattle.lasso_c.specs.declared.status.TheConstants.{DONE, OFFSETS_FALL, OFFSET_PAST_BYTES, NOT_UTF8, NO_SUCH_CODE, TOO_MANY_BYTES, CODES_TOO_SHORT, OFFSETS_TOO_SHORT, BYTES_TOO_SHORT, NO_MEMORY, LIMIT_REACHED, NO_CODE_LEFT, NO_INTERNER, NO_SUCH_TEXT, BITMAP_TOO_SHORT, BUSY}
+use Rattle.lasso_c.specs.declared.status.TheConstants.{DONE, OFFSETS_FALL, OFFSET_PAST_BYTES, NOT_UTF8, NO_SUCH_CODE, TOO_MANY_BYTES, CODES_TOO_SHORT, OFFSETS_TOO_SHORT, BYTES_TOO_SHORT, NO_MEMORY, LIMIT_REACHED, NO_CODE_LEFT, NO_INTERNER, NO_SUCH_TEXT, BITMAP_TOO_SHORT, BUSY, OTHER_HANDLES, FROZEN}
 use Rattle.lasso_c.specs.declared.error.CallError.TheVariants.{OffsetsFall, OffsetPastBytes, NotUtf8, NoSuchCode, TooManyBytes, CodesTooShort, OffsetsTooShort, BytesTooShort, NoMemory, LimitReached, NoCodeLeft, NoInterner, NoSuchText, BitmapTooShort}
 
 -- a number of its own for each kind of refusal
@@ -78,4 +78,6 @@ status_text status =
     else if nat_eq status NO_SUCH_TEXT then codes "the interner does not have the text"
     else if nat_eq status BITMAP_TOO_SHORT then codes "a bitmap has no bit for a row"
     else if nat_eq status BUSY then codes "another thread is in the way"
+    else if nat_eq status OTHER_HANDLES then codes "the interner has other handles"
+    else if nat_eq status FROZEN then codes "the interner is frozen"
     else codes "not a status"

@@ -154,6 +154,8 @@ pub(crate) fn message_of(status: u32) -> &'static str
         NO_SUCH_TEXT => "the interner does not have the text",
         BITMAP_TOO_SHORT => "a bitmap has no bit for a row",
         BUSY => "another thread is in the way",
+        OTHER_HANDLES => "the interner has other handles",
+        FROZEN => "the interner is frozen",
         _ => "not a status",
     }
 }

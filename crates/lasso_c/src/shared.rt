@@ -12,9 +12,10 @@ ghost use Rattle.lasso_single.specs.Copies.{clone_size, read_of};
 ghost use Rattle.lasso_c.specs.Handles.{account_in, first_in, seed_in, texts_in};
 ghost use Rattle.lasso_c.specs.Interning.{refusal_at};
 ghost use Rattle.lasso_c.specs.Status.{error_status};
-ghost use Rattle.lasso_c.specs.Members.{BeginsBeside, Calls, Copies, IsCodeStatus, IsGetStatus, IsInternStatus, MakesNone, Meets, PutsNone, Sees, shared_seed, texts_seen};
+ghost use Rattle.lasso_c.specs.Members.{BeginsBeside, Calls, Copies, IsCodeStatus, IsGetStatus, IsInternStatus, MakesNone, Meets, PutsNone, Sees, is_frozen, shared_seed, texts_seen};
 
 pub mod batches;
+pub mod freezing;
 pub mod handle;
 mod interner;
 pub mod lending;
@@ -57,9 +58,9 @@ pub extern "C" fn lasso_shared_join(
 }
 
 /// Interns a text, and writes its code. An absent text is appended first, as a copy that lasts as long as the interner. It returns
-/// `NOT_UTF8`, `NO_INTERNER`, for an absent text `NO_MEMORY`, `LIMIT_REACHED` or `NO_CODE_LEFT`, and `BUSY` if another thread is
-/// inside a step. No text was appended then. With `NO_CODE_LEFT` the text's bytes (or a new bucket) stay
-/// taken, and with `BUSY` they may.
+/// `NOT_UTF8`, `NO_INTERNER`, `FROZEN`, for an absent text `NO_MEMORY`, `LIMIT_REACHED` or `NO_CODE_LEFT`, and `BUSY` if another thread
+/// is inside a step. No text was appended then. With `NO_CODE_LEFT` the text's bytes (or a new bucket) stay taken, and with `BUSY` they
+/// may.
 #[unsafe(no_mangle)]
 pub extern "C" fn lasso_shared_intern(shared: &mut LassoShared, text: &[u8], code: &mut u32) -> u32
     ensures status { IsInternStatus (is_utf8 text.now) shared.old.seat.value result }
@@ -68,10 +69,11 @@ pub extern "C" fn lasso_shared_intern(shared: &mut LassoShared, text: &[u8], cod
     ensures limited { result ≡ LIMIT_REACHED → Calls shared.old.seat.value shared.new.seat.value (Intern Copied text.now) (Interned (Err MemoryLimitReached)) }
     ensures wanting { result ≡ NO_MEMORY → Calls shared.old.seat.value shared.new.seat.value (Intern Copied text.now) (Interned (Err FailedAllocation)) }
     ensures busy { result ≡ BUSY → PutsNone text.now shared.old.seat.value shared.new.seat.value }
-    ensures kept { (result ≡ NOT_UTF8) ⊎ (result ≡ NO_INTERNER) → shared.new.seat.value ≡ shared.old.seat.value }
+    ensures kept { (result ≡ NOT_UTF8) ⊎ (result ≡ NO_INTERNER) ⊎ (result ≡ FROZEN) → shared.new.seat.value ≡ shared.old.seat.value }
     ensures code_kept { ¬ (result ≡ DONE) → code.new ≡ code.old }
     ensures seen { texts_seen shared.new.seat.value ≡ texts_seen shared.old.seat.value }
     ensures seed { shared_seed shared.new.seat.value ≡ shared_seed shared.old.seat.value }
+    ensures frozen { is_frozen shared.new.seat.value ≡ is_frozen shared.old.seat.value }
 {
     let Some(text) = text_of(text) else {
         return NOT_UTF8;
@@ -79,6 +81,9 @@ pub extern "C" fn lasso_shared_intern(shared: &mut LassoShared, text: &[u8], cod
     let Some(member) = shared.member() else {
         return NO_INTERNER;
     };
+    if member.is_frozen() {
+        return FROZEN;
+    }
     match member.intern(text) {
         None => BUSY,
         Some(Ok(key)) => {
@@ -101,6 +106,7 @@ pub extern "C" fn lasso_shared_get(shared: &mut LassoShared, text: &[u8], code: 
     ensures code_kept { ¬ (result ≡ DONE) → code.new ≡ code.old }
     ensures seen { texts_seen shared.new.seat.value ≡ texts_seen shared.old.seat.value }
     ensures seed { shared_seed shared.new.seat.value ≡ shared_seed shared.old.seat.value }
+    ensures frozen { is_frozen shared.new.seat.value ≡ is_frozen shared.old.seat.value }
 {
     let Some(text) = text_of(text) else {
         return NOT_UTF8;
@@ -135,6 +141,7 @@ pub extern "C" fn lasso_shared_resolve(
     ensures whole_kept { ¬ (result ≡ DONE) → whole.new ≡ whole.old }
     ensures seen { texts_seen shared.new.seat.value ≡ texts_seen shared.old.seat.value }
     ensures seed { shared_seed shared.new.seat.value ≡ shared_seed shared.old.seat.value }
+    ensures frozen { is_frozen shared.new.seat.value ≡ is_frozen shared.old.seat.value }
 {
     let Some(member) = shared.member() else {
         return NO_INTERNER;
@@ -156,6 +163,7 @@ pub extern "C" fn lasso_shared_see(shared: &mut LassoShared) -> u32
     ensures none { shared.old.seat.value ≡ None → result ≡ NO_INTERNER }
     ensures done { IsSome shared.old.seat.value → result ≡ DONE }
     ensures seed { shared_seed shared.new.seat.value ≡ shared_seed shared.old.seat.value }
+    ensures frozen { is_frozen shared.new.seat.value ≡ is_frozen shared.old.seat.value }
 {
     let Some(member) = shared.member() else {
         return NO_INTERNER;
@@ -175,6 +183,7 @@ pub extern "C" fn lasso_shared_meet(shared: &mut LassoShared, other: &mut LassoS
     ensures kept { ¬ (result ≡ DONE) → shared.new.seat.value ≡ shared.old.seat.value }
     ensures other_kept { other.new.seat.value ≡ other.old.seat.value }
     ensures seed { shared_seed shared.new.seat.value ≡ shared_seed shared.old.seat.value }
+    ensures frozen { is_frozen shared.new.seat.value ≡ is_frozen shared.old.seat.value }
 {
     let Some(met) = other.member() else {
         return NO_INTERNER;
@@ -193,6 +202,7 @@ pub extern "C" fn lasso_shared_len(shared: &mut LassoShared) -> usize
     ensures none { shared.old.seat.value ≡ None → (result ≡ 0) × (shared.new.seat.value ≡ None) }
     ensures seen { texts_seen shared.new.seat.value ≡ texts_seen shared.old.seat.value }
     ensures seed { shared_seed shared.new.seat.value ≡ shared_seed shared.old.seat.value }
+    ensures frozen { is_frozen shared.new.seat.value ≡ is_frozen shared.old.seat.value }
 {
     let Some(member) = shared.member() else {
         return 0;

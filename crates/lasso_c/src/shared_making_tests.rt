@@ -3,6 +3,7 @@ use crate::handle::Lasso;
 use crate::lending::LassoText;
 use crate::shared::handle::LassoShared;
 use crate::shared::lending::lasso_shared_text;
+use crate::shared::limits::{lasso_shared_limit, lasso_shared_memory};
 use crate::shared::making::{
     lasso_shared_new, lasso_shared_new_keyed, lasso_shared_new_seeded, lasso_shared_new_sized,
     lasso_shared_new_sized_keyed, lasso_shared_new_sized_seeded,
@@ -17,42 +18,44 @@ use std::alloc::Global;
 use std::process::Abort;
 use std::test::Fail;
 
-// A way to make a shared interner: with room for texts, and with a seed or keys.
+// A way to make a shared interner: with room for texts, a first bucket of some bytes and a limit, and with a seed or keys.
 #[derive(Clone, Copy)]
 enum Maker {
     Usual,
-    Sized(usize),
+    Sized([usize; 3]),
     Seeded(u64, u64),
-    SizedSeeded(usize, u64, u64),
+    SizedSeeded([usize; 3], u64, u64),
     Keyed(u64, u64),
-    SizedKeyed(usize, u64, u64),
+    SizedKeyed([usize; 3], u64, u64),
 }
 
 fn make(alloc: Global, shared: &mut LassoShared, maker: Maker) -> u32 {
     match maker {
         Maker::Usual => lasso_shared_new(alloc, shared),
-        Maker::Sized(texts) => lasso_shared_new_sized(alloc, shared, texts),
+        Maker::Sized([texts, bytes, limit]) => {
+            lasso_shared_new_sized(alloc, shared, texts, bytes, limit)
+        }
         Maker::Seeded(one, other) => lasso_shared_new_seeded(alloc, shared, one, other),
-        Maker::SizedSeeded(texts, one, other) => {
-            lasso_shared_new_sized_seeded(alloc, shared, texts, one, other)
+        Maker::SizedSeeded([texts, bytes, limit], one, other) => {
+            lasso_shared_new_sized_seeded(alloc, shared, texts, bytes, limit, one, other)
         }
         Maker::Keyed(one, other) => lasso_shared_new_keyed(alloc, shared, one, other),
-        Maker::SizedKeyed(texts, one, other) => {
-            lasso_shared_new_sized_keyed(alloc, shared, texts, one, other)
+        Maker::SizedKeyed([texts, bytes, limit], one, other) => {
+            lasso_shared_new_sized_keyed(alloc, shared, texts, bytes, limit, one, other)
         }
     }
 }
 
 static MAKERS: [Maker; 9] = [
     Maker::Usual,
-    Maker::Sized(0),
-    Maker::Sized(100_000),
+    Maker::Sized([0, 0, 100]),
+    Maker::Sized([100_000, 65536, usize::MAX]),
     Maker::Seeded(0, 0),
     Maker::Seeded(7, u64::MAX),
-    Maker::SizedSeeded(1, u64::MAX, 7),
+    Maker::SizedSeeded([1, 100, 100], u64::MAX, 7),
     Maker::Keyed(0, 0),
     Maker::Keyed(7, u64::MAX),
-    Maker::SizedKeyed(1000, u64::MAX, 7),
+    Maker::SizedKeyed([1000, 1, 1000], u64::MAX, 7),
 ];
 
 // Interns the text, which has to have this code then. Out of memory the test ends.
@@ -69,6 +72,36 @@ fn intern(
         return Err(Fail::from("out of memory"));
     }
     is_so_at(rt, (status, code) == (0, want), row);
+    Ok(())
+}
+
+// What the buckets of a new interner take, and may take.
+#[test]
+fn a_first_bucket_has_its_bytes_whatever_the_limit(rt: HostRuntime) -> Result<(), Fail> {
+    let alloc: Global = rt.alloc();
+    let mut shared = LassoShared::none(alloc);
+    let mut row = 0usize;
+    for (maker, want) in [
+        (Maker::Usual, (4096, usize::MAX)),
+        (Maker::Seeded(1, 2), (4096, usize::MAX)),
+        (Maker::Keyed(1, 2), (4096, usize::MAX)),
+        (Maker::Sized([9, 0, 0]), (1, 0)),
+        (Maker::Sized([0, 10, 5]), (10, 5)),
+        (Maker::SizedSeeded([9, 100, 1000], 1, 2), (100, 1000)),
+        (
+            Maker::SizedKeyed([9, 65536, usize::MAX], 1, 2),
+            (65536, usize::MAX),
+        ),
+    ] {
+        row = row.saturating_add(1);
+        if make(alloc, &mut shared, maker) != 0 {
+            return Err(Fail::from("out of memory"));
+        }
+        let (mut taken, mut limit) = (77, 77);
+        is_so_at(&rt, lasso_shared_memory(&mut shared, &mut taken) == 0, row);
+        is_so_at(&rt, lasso_shared_limit(&mut shared, &mut limit) == 0, row);
+        is_so_at(&rt, (taken, limit) == want, row);
+    }
     Ok(())
 }
 
@@ -143,9 +176,12 @@ fn an_interner_too_large_for_memory_is_refused(rt: HostRuntime) -> Result<(), Fa
     }
     intern(&rt, &mut shared, b"red", 0, 1)?;
     for maker in [
-        Maker::Sized(usize::MAX),
-        Maker::SizedSeeded(usize::MAX, 7, 7),
-        Maker::SizedKeyed(usize::MAX, 7, 7),
+        Maker::Sized([usize::MAX, 1, usize::MAX]),
+        Maker::Sized([1, usize::MAX, usize::MAX]),
+        Maker::SizedSeeded([usize::MAX, 1, usize::MAX], 7, 7),
+        Maker::SizedSeeded([1, usize::MAX, 10], 7, 7),
+        Maker::SizedKeyed([usize::MAX, 1, usize::MAX], 7, 7),
+        Maker::SizedKeyed([1, usize::MAX, 10], 7, 7),
     ] {
         is_so(&rt, make(alloc, &mut shared, maker) == 9, "the status");
         is_so(&rt, lasso_shared_len(&mut shared) == 1, "what is held");

@@ -2,6 +2,7 @@
 //! by hand. `examples/c/shared.c` has those of several threads.
 use crate::lending::LassoText;
 use crate::shared::batches::lasso_shared_intern_batch;
+use crate::shared::freezing::lasso_shared_freeze;
 use crate::shared::handle::LassoShared;
 use crate::shared::lending::{lasso_shared_text, lasso_shared_texts};
 use crate::shared::making::lasso_shared_new;
@@ -30,6 +31,8 @@ enum Step {
     Resolves(usize, u32, (u32, &'static [u8], usize)),
     // the handle sees the list: this status
     Sees(usize, u32),
+    // its interner is frozen: this status
+    Freezes(usize, u32),
     // lending the text of the code has this status and lends this text, "none" if there is none
     Lends(usize, u32, (u32, &'static [u8])),
     // interning the texts of these bytes and offsets by the first, with room for this number of codes, ends so
@@ -101,6 +104,8 @@ fn take(alloc: Global, [first, second]: &mut [LassoShared; 2], step: &Step) -> S
         Step::Resolves(_, code, want) => resolves(second, code, want),
         Step::Sees(0, want) => is_status(lasso_shared_see(first), want),
         Step::Sees(_, want) => is_status(lasso_shared_see(second), want),
+        Step::Freezes(0, want) => is_status(lasso_shared_freeze(first), want),
+        Step::Freezes(_, want) => is_status(lasso_shared_freeze(second), want),
         Step::Lends(0, code, want) => lends(first, code, want),
         Step::Lends(_, code, want) => lends(second, code, want),
         Step::Batch(bytes, offsets, room, want) => batch(first, bytes, offsets, room, want),
@@ -207,6 +212,44 @@ static TWO_INTERNERS: [Step; 12] = [
 #[test]
 fn a_handle_lets_go_of_what_it_held(rt: HostRuntime) -> Result<(), Fail> {
     walk(&rt, &TWO_INTERNERS)
+}
+
+// The second handle adds texts, is let go, and the first one freezes the interner: it lends them all.
+static FROZEN: [Step; 29] = [
+    Step::Freezes(0, 12),
+    Step::Makes(0),
+    Step::Interns(0, b"red", (0, 0)),
+    Step::Joins(0, 0),
+    Step::Interns(1, b"blue", (0, 1)),
+    Step::Freezes(0, 16),
+    Step::Lends(0, 0, (4, b"none")),
+    Step::Freezes(1, 16),
+    Step::Batch(b"red", &[0, 3], 4, (0, (1, 0, 0), &[0])),
+    Step::Interns(1, b"green", (0, 2)),
+    Step::Frees(1),
+    Step::Freezes(0, 0),
+    Step::Counts(0, 3),
+    Step::Lends(0, 0, (0, b"red")),
+    Step::Lends(0, 1, (0, b"blue")),
+    Step::Lends(0, 2, (0, b"green")),
+    Step::Lends(0, 3, (4, b"none")),
+    Step::Finds(0, b"green", (0, 2)),
+    Step::Finds(0, b"pink", (13, 77)),
+    Step::Resolves(0, 1, (0, b"blue", 4)),
+    Step::Interns(0, b"red", (17, 77)),
+    Step::Interns(0, b"\xc3", (3, 77)),
+    Step::Batch(b"red", &[0, 3], 4, (17, (0, 0, 0), &[])),
+    Step::Joins(0, 0),
+    Step::Freezes(1, 0),
+    Step::Interns(1, b"pink", (17, 77)),
+    Step::Lends(1, 2, (0, b"green")),
+    Step::Counts(1, 3),
+    Step::Makes(0),
+];
+
+#[test]
+fn the_last_handle_freezes_its_interner(rt: HostRuntime) -> Result<(), Fail> {
+    walk(&rt, &FROZEN)
 }
 
 static NO_INTERNER: [Step; 8] = [

@@ -32,3 +32,7 @@ pub const NO_SUCH_TEXT: u32 = 13;
 pub const BITMAP_TOO_SHORT: u32 = 14;
 /// Another thread is inside a step of the interner that handles share: try again.
 pub const BUSY: u32 = 15;
+/// The interner has other handles.
+pub const OTHER_HANDLES: u32 = 16;
+/// The interner is frozen.
+pub const FROZEN: u32 = 17;

@@ -218,7 +218,7 @@ fn tells_why_an_interner_refuses_a_text(rt: HostRuntime) {
 }
 
 // What each status means.
-static MEANINGS: [(u32, &[u8]); 18] = [
+static MEANINGS: [(u32, &[u8]); 20] = [
     (0, b"done"),
     (1, b"an offset is below the one before it"),
     (2, b"an offset lies past the bytes"),
@@ -235,7 +235,9 @@ static MEANINGS: [(u32, &[u8]); 18] = [
     (13, b"the interner does not have the text"),
     (14, b"a bitmap has no bit for a row"),
     (15, b"another thread is in the way"),
-    (16, b"not a status"),
+    (16, b"the interner has other handles"),
+    (17, b"the interner is frozen"),
+    (18, b"not a status"),
     (u32::MAX, b"not a status"),
 ];
 

@@ -23,6 +23,8 @@
 //! 7. *Signals and forks.* The library must not be called in a signal handler, nor in the forked
 //!    child of a process with threads. Safe Rust does neither.
 
+use crate::error::or_panic;
+use crate::foreign_shared::Users;
 use crate::iter::TextList;
 use crate::{LassoError, LassoErrorKind, LassoResult};
 use std::cell::UnsafeCell;
@@ -291,16 +293,23 @@ impl Drop for Handle {
 /// An interner of the library that changes no more, for any number of threads.
 ///
 /// The text of a position comes without a lock, from a table of all texts. The position of a text
-/// takes the lock.
+/// takes a lock.
 pub(crate) struct SharedHandle {
-    // Nothing here calls it but `lasso_get`, and `lasso_free` when it is dropped.
-    handle: Mutex<Handle>,
+    owner: Owner,
     texts: Box<[LassoText]>,
 }
 
-// SAFETY: only `new` writes the table. It leads to bytes that nobody writes before this value is
-// dropped, since `lasso_get` is a reading call (4), made by one thread at a time, under the lock
-// (2). So what threads share without the lock they only read.
+/// What has the texts.
+enum Owner {
+    // Nothing here calls it but `lasso_get`, and `lasso_free` when it is dropped.
+    One(Mutex<Handle>),
+    // They are frozen.
+    Many(Users),
+}
+
+// SAFETY: only the constructors write the table. It leads to bytes that nobody writes before this
+// value is dropped: `lasso_get` is a reading call (4), made by one thread at a time, under the lock
+// (2), and texts of `Users` stay. So what threads share without a lock they only read.
 unsafe impl Sync for SharedHandle {}
 // SAFETY: the same, and the handle may be dropped in any thread.
 unsafe impl Send for SharedHandle {}
@@ -310,15 +319,28 @@ impl SharedHandle {
     pub(crate) fn new(handle: Handle) -> Self {
         Self {
             texts: handle.lend_all(),
-            handle: Mutex::new(handle),
+            owner: Owner::One(Mutex::new(handle)),
+        }
+    }
+
+    /// Takes the handles of a frozen interner over.
+    pub(crate) fn of_many(users: Users) -> Self {
+        Self {
+            texts: users.lend_all(),
+            owner: Owner::Many(users),
         }
     }
 
     /// The code of a text, or `None` if it is absent.
     #[inline]
     pub(crate) fn get(&self, text: &str) -> Option<u32> {
-        let handle = self.handle.lock().unwrap_or_else(PoisonError::into_inner);
-        handle.get(text)
+        match &self.owner {
+            Owner::One(handle) => handle
+                .lock()
+                .unwrap_or_else(PoisonError::into_inner)
+                .get(text),
+            Owner::Many(users) => or_panic(users.get(text)),
+        }
     }
 }
 

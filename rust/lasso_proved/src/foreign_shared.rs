@@ -13,7 +13,7 @@ use crate::error::or_panic;
 use crate::foreign::{outcome, unexpected, LassoText, Seed};
 use crate::iter::TextList;
 use crate::seats::{Place, Seats, SEATS};
-use crate::LassoResult;
+use crate::{Capacity, LassoResult, MemoryLimits};
 use std::ffi::c_void;
 use std::panic::RefUnwindSafe;
 use std::sync::{Mutex, MutexGuard, PoisonError};
@@ -27,14 +27,31 @@ struct Shared {
 }
 
 extern "C" {
-    fn lasso_shared_new_seeded(shared: *mut Shared, seed0: u64, seed1: u64) -> u32;
+    fn lasso_shared_new_sized_seeded(
+        shared: *mut Shared,
+        texts: usize,
+        bytes: usize,
+        limit: usize,
+        seed0: u64,
+        seed1: u64,
+    ) -> u32;
     fn lasso_shared_join(shared: *mut Shared, other: *mut Shared) -> u32;
     fn lasso_shared_intern(shared: *mut Shared, text: *const u8, len: usize, code: *mut u32)
         -> u32;
     fn lasso_shared_get(shared: *mut Shared, text: *const u8, len: usize, code: *mut u32) -> u32;
     fn lasso_shared_see(shared: *mut Shared) -> u32;
     fn lasso_shared_text(shared: *mut Shared, code: u32, text: *mut LassoText) -> u32;
+    fn lasso_shared_texts(
+        shared: *mut Shared,
+        from: usize,
+        texts: *mut LassoText,
+        room: usize,
+    ) -> usize;
     fn lasso_shared_len(shared: *mut Shared) -> usize;
+    fn lasso_shared_memory(shared: *mut Shared, bytes: *mut usize) -> u32;
+    fn lasso_shared_limit(shared: *mut Shared, bytes: *mut usize) -> u32;
+    fn lasso_shared_set_limit(shared: *mut Shared, limit: usize) -> u32;
+    fn lasso_shared_freeze(shared: *mut Shared) -> u32;
     fn lasso_shared_free(shared: *mut Shared);
 }
 
@@ -55,18 +72,15 @@ impl User {
         live: false,
     });
 
-    /// The code of a text, which is appended if it is absent.
+    /// The status of a call with the handle, which is made again as long as another thread is inside
+    /// a step.
     #[inline]
-    fn intern(&mut self, text: &str) -> LassoResult<u32> {
-        let mut code = 0;
+    fn wait(&mut self, mut call: impl FnMut(&mut Shared) -> u32) -> u32 {
         loop {
-            // SAFETY: a handle that the caller alone has, a text, and a variable (1, 2).
-            let status =
-                unsafe { lasso_shared_intern(&mut self.0, text.as_ptr(), text.len(), &mut code) };
-            if status != BUSY {
-                return outcome(status).map(|()| code);
+            match call(&mut self.0) {
+                BUSY => thread::yield_now(),
+                status => return status,
             }
-            thread::yield_now();
         }
     }
 }
@@ -96,14 +110,22 @@ pub(crate) struct Users {
 impl RefUnwindSafe for Users {}
 
 impl Users {
-    /// An interner without texts, which hashes by the seed. The only error is `FailedAllocation`.
-    pub(crate) fn new(seed: Seed) -> LassoResult<Self> {
+    /// An interner without texts, with this capacity and limit, which hashes by the seed. The only
+    /// error is `FailedAllocation`.
+    pub(crate) fn new(capacity: Capacity, limits: MemoryLimits, seed: Seed) -> LassoResult<Self> {
         let users = Self {
             seats: (0..=SEATS).map(|_| Seat(Mutex::new(User::NONE))).collect(),
         };
         // SAFETY: a handle of this function's (1, 2).
         let status = unsafe {
-            lasso_shared_new_seeded(&mut lock(&users.seats[SEATS]).0, seed.0, seed.1)
+            lasso_shared_new_sized_seeded(
+                &mut lock(&users.seats[SEATS]).0,
+                capacity.strings(),
+                capacity.bytes().get(),
+                limits.max_memory_usage(),
+                seed.0,
+                seed.1,
+            )
         };
         outcome(status)?;
         Ok(users)
@@ -125,48 +147,86 @@ impl Users {
     }
 
     /// The code of a text, which is appended if it is absent.
-    pub(crate) fn intern(&self, text: &str) -> LassoResult<u32> {
-        self.user()?.intern(text)
-    }
-
-    /// The code of a text, which is appended if it is absent; or `None` if it `may` not be, which is
-    /// asked while the thread's handle is locked.
     #[inline]
-    pub(crate) fn intern_if(
-        &self,
-        text: &str,
-        may: impl FnOnce() -> bool,
-    ) -> LassoResult<Option<u32>> {
-        let mut user = self.user()?;
-        if may() {
-            user.intern(text).map(Some)
-        } else {
-            Ok(None)
-        }
-    }
-
-    /// Waits until each call that now has a handle's lock has ended.
-    pub(crate) fn wait_for_calls(&self) {
-        for seat in self.seats.iter() {
-            drop(lock(seat));
-        }
+    pub(crate) fn intern(&self, text: &str) -> LassoResult<u32> {
+        let (bytes, len, mut code) = (text.as_ptr(), text.len(), 0);
+        // SAFETY: a handle under its lock, a text, and a variable (1, 2).
+        let intern =
+            |user: &mut Shared| unsafe { lasso_shared_intern(user, bytes, len, &mut code) };
+        let status = self.user()?.wait(intern);
+        outcome(status).map(|()| code)
     }
 
     /// The code of a text, or `None` if it is absent.
     #[inline]
     pub(crate) fn get(&self, text: &str) -> LassoResult<Option<u32>> {
-        let (mut user, mut code) = (self.user()?, 0);
-        loop {
-            // SAFETY: a handle under its lock, a text, and a variable (1, 2).
-            let status =
-                unsafe { lasso_shared_get(&mut user.0, text.as_ptr(), text.len(), &mut code) };
-            match status {
-                DONE => return Ok(Some(code)),
-                NO_SUCH_TEXT => return Ok(None),
-                BUSY => thread::yield_now(),
-                other => unexpected(other),
-            }
+        let (bytes, len, mut code) = (text.as_ptr(), text.len(), 0);
+        // SAFETY: a handle under its lock, a text, and a variable (1, 2).
+        let get = |user: &mut Shared| unsafe { lasso_shared_get(user, bytes, len, &mut code) };
+        match self.user()?.wait(get) {
+            DONE => Ok(Some(code)),
+            NO_SUCH_TEXT => Ok(None),
+            other => unexpected(other),
         }
+    }
+
+    /// How many bytes the buckets take.
+    pub(crate) fn memory(&self) -> usize {
+        let mut bytes = 0;
+        // SAFETY: a handle under its lock, and a variable (1, 2).
+        self.done(|user| unsafe { lasso_shared_memory(user, &mut bytes) });
+        bytes
+    }
+
+    /// How many bytes the buckets may take.
+    pub(crate) fn limit(&self) -> usize {
+        let mut bytes = 0;
+        // SAFETY: a handle under its lock, and a variable (1, 2).
+        self.done(|user| unsafe { lasso_shared_limit(user, &mut bytes) });
+        bytes
+    }
+
+    /// Sets how many bytes the buckets may take.
+    pub(crate) fn set_limit(&self, limit: usize) {
+        // SAFETY: a handle under its lock (1, 2).
+        self.done(|user| unsafe { lasso_shared_set_limit(user, limit) });
+    }
+
+    /// Makes a call with the thread's handle that has no other end than to be done.
+    fn done(&self, call: impl FnMut(&mut Shared) -> u32) {
+        match or_panic(self.user()).wait(call) {
+            DONE => (),
+            other => unexpected(other),
+        }
+    }
+
+    /// Frees all handles but the first, which then freezes the interner: each handle that is made
+    /// later sees all texts, and none interns.
+    pub(crate) fn freeze(mut self) -> Self {
+        for seat in &mut self.seats[..SEATS] {
+            *seat = Seat(Mutex::new(User::NONE));
+        }
+        // SAFETY: a handle under its lock (1, 2).
+        let status = unsafe { lasso_shared_freeze(&mut lock(&self.seats[SEATS]).0) };
+        match status {
+            DONE => self,
+            other => unexpected(other),
+        }
+    }
+
+    /// All texts of an interner that is frozen, lent.
+    pub(crate) fn lend_all(&self) -> Box<[LassoText]> {
+        let mut first = lock(&self.seats[SEATS]);
+        // SAFETY: a handle under its lock (1, 2).
+        let mut texts = vec![LassoText::NONE; unsafe { lasso_shared_len(&mut first.0) }];
+        // SAFETY: a handle under its lock, and a slice of this function's, filled with good texts
+        // (1, 2).
+        let lent = unsafe { lasso_shared_texts(&mut first.0, 0, texts.as_mut_ptr(), texts.len()) };
+        assert!(
+            lent == texts.len(),
+            "liblasso has lent too few texts: {lent}"
+        );
+        texts.into_boxed_slice()
     }
 }
 

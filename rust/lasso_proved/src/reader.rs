@@ -7,11 +7,12 @@ use std::collections::hash_map::RandomState;
 use std::hash::BuildHasher;
 use std::marker::PhantomData;
 
-/// The texts and keys of a [`Rodeo`](crate::Rodeo), which change no more. It finds the keys of
-/// texts and the texts of keys.
+/// The texts and keys of a [`Rodeo`](crate::Rodeo) or a [`ThreadedRodeo`](crate::ThreadedRodeo),
+/// which change no more. It finds the keys of texts and the texts of keys.
 ///
 /// Threads may share it. The text of a key is found without a lock; the key of a text takes a lock,
-/// so threads that look for keys wait for each other.
+/// so threads that look for keys wait for each other: those of a `ThreadedRodeo`'s reader if they
+/// are more than 32.
 ///
 /// ```rust
 /// use lasso_proved::Rodeo;

@@ -1,7 +1,7 @@
 //! The interner that threads share.
 
 use crate::error::or_panic;
-use crate::foreign::{Handle, Seed, SharedHandle};
+use crate::foreign::{Seed, SharedHandle};
 use crate::foreign_shared::Users;
 use crate::iter::TextList;
 use crate::rodeo::{key_of, text_of, LAST_POSITION};
@@ -14,8 +14,7 @@ use std::fmt;
 use std::hash::BuildHasher;
 use std::marker::PhantomData;
 use std::ops::Index;
-use std::sync::atomic::{AtomicUsize, Ordering};
-use std::sync::{Mutex, MutexGuard, PoisonError};
+use std::sync::{Mutex, PoisonError};
 
 /// An interner that threads share by reference: each distinct text once, and a small key for each.
 ///
@@ -24,7 +23,7 @@ use std::sync::{Mutex, MutexGuard, PoisonError};
 /// [`with_seed`](Self::with_seed).
 ///
 /// Calls of different threads go on at once. Only an absent text takes a lock of the whole interner,
-/// and only if a limit was set or the key type has fewer keys than the library.
+/// and only if the key type has fewer keys than the library.
 ///
 /// ```rust
 /// use lasso_proved::ThreadedRodeo;
@@ -39,30 +38,10 @@ use std::sync::{Mutex, MutexGuard, PoisonError};
 /// ```
 pub struct ThreadedRodeo<K = Spur, S = RandomState> {
     pub(crate) users: Users,
-    first: usize,
-    limit: AtomicUsize,
-    // Whoever holds it alone appends a text that may be refused.
-    counted: Mutex<Counted>,
+    // Whoever holds it appends a text, if the key type may have no key for it.
+    last_keys: Mutex<()>,
     hasher: S,
     key: PhantomData<fn(K) -> K>,
-}
-
-/// How many bytes the texts have, counted up to a position.
-#[derive(Default)]
-struct Counted {
-    texts: usize,
-    bytes: usize,
-}
-
-impl Counted {
-    /// The bytes of all texts of now.
-    fn up_to_now(&mut self, texts: &Users) -> usize {
-        while let Some(text) = texts.text(self.texts) {
-            self.texts += 1;
-            self.bytes += text.len();
-        }
-        self.bytes
-    }
 }
 
 impl<K: Key> ThreadedRodeo<K, RandomState> {
@@ -71,8 +50,7 @@ impl<K: Key> ThreadedRodeo<K, RandomState> {
         Self::with_capacity(Capacity::default())
     }
 
-    /// An interner without texts. The bytes of the capacity are the least that a limit counts, and no
-    /// memory is taken for them.
+    /// An interner without texts.
     pub fn with_capacity(capacity: Capacity) -> Self {
         Self::with_capacity_and_memory_limits(capacity, MemoryLimits::default())
     }
@@ -140,10 +118,8 @@ impl<K: Key, S: BuildHasher> ThreadedRodeo<K, S> {
         seed: Seed,
     ) -> Self {
         Self {
-            users: or_panic(Users::new(seed)),
-            first: capacity.bytes().get(),
-            limit: AtomicUsize::new(memory_limits.max_memory_usage()),
-            counted: Mutex::default(),
+            users: or_panic(Users::new(capacity, memory_limits, seed)),
+            last_keys: Mutex::default(),
             hasher: hash_builder,
             key: PhantomData,
         }
@@ -178,34 +154,28 @@ impl<K: Key, S: BuildHasher> ThreadedRodeo<K, S> {
     /// ```
     pub fn try_get_or_intern<T: AsRef<str>>(&self, val: T) -> LassoResult<K> {
         let text = val.as_ref();
-        let has_all = K::try_from_usize(LAST_POSITION).is_some();
-        let is_free = || has_all && self.max_memory_usage() == usize::MAX;
-        if is_free() {
-            // A limit that is set meanwhile waits for this call, or is seen here.
-            if let Some(code) = self.users.intern_if(text, is_free)? {
-                return Ok(key_of(code));
-            }
+        if K::try_from_usize(LAST_POSITION).is_some() {
+            return self.users.intern(text).map(key_of);
         }
         match self.users.get(text)? {
             Some(code) => Ok(key_of(code)),
-            None => self.intern_or_refuse(text),
+            None => self.intern_if_key_left(text),
         }
     }
 
-    /// Interns a text that was absent, unless there is no key or the limit has no room for it.
+    /// Interns a text that was absent, unless the key type has no key for it.
     #[cold]
-    fn intern_or_refuse(&self, text: &str) -> LassoResult<K> {
-        let mut counted = self.lock_counted();
+    fn intern_if_key_left(&self, text: &str) -> LassoResult<K> {
+        let _last_keys = self
+            .last_keys
+            .lock()
+            .unwrap_or_else(PoisonError::into_inner);
         // Another thread may have interned it meanwhile.
         if let Some(code) = self.users.get(text)? {
             return Ok(key_of(code));
         }
         if K::try_from_usize(self.len()).is_none() {
             return Err(LassoError::new(LassoErrorKind::KeySpaceExhaustion));
-        }
-        let most = self.max_memory_usage().max(self.first);
-        if text.len() > most.saturating_sub(counted.up_to_now(&self.users)) {
-            return Err(LassoError::new(LassoErrorKind::MemoryLimitReached));
         }
         self.users.intern(text).map(key_of)
     }
@@ -290,9 +260,8 @@ impl<K, S> ThreadedRodeo<K, S> {
         self.len()
     }
 
-    /// Sets how many bytes the texts may have. With fewer than they have now each absent text of at
-    /// least one byte is refused. It waits for calls of other threads that append a text, so that
-    /// none is appended past the limit after it.
+    /// Sets how many bytes the buckets of texts may take. With fewer than they take now no bucket is
+    /// added, and only the room that is left in them is used.
     ///
     /// ```rust
     /// use lasso_proved::{MemoryLimits, ThreadedRodeo};
@@ -303,26 +272,17 @@ impl<K, S> ThreadedRodeo<K, S> {
     /// assert!(rodeo.try_get_or_intern("x".repeat(4096)).is_ok());
     /// ```
     pub fn set_memory_limits(&self, memory_limits: MemoryLimits) {
-        // Whoever counts before it appends waits for this lock.
-        let _counted = self.lock_counted();
-        self.limit
-            .store(memory_limits.max_memory_usage(), Ordering::SeqCst);
-        // The others may have seen that there was no limit.
-        self.users.wait_for_calls();
+        self.users.set_limit(memory_limits.max_memory_usage());
     }
 
-    /// How many bytes the texts have, or those of the capacity if that is more.
+    /// How many bytes the buckets of texts take. The first one has the bytes of the capacity.
     pub fn current_memory_usage(&self) -> usize {
-        self.lock_counted().up_to_now(&self.users).max(self.first)
+        self.users.memory()
     }
 
-    fn lock_counted(&self) -> MutexGuard<'_, Counted> {
-        self.counted.lock().unwrap_or_else(PoisonError::into_inner)
-    }
-
-    /// How many bytes the texts may have. The bytes of the capacity are always there.
+    /// How many bytes the buckets of texts may take. The first one is there whatever the limit.
     pub fn max_memory_usage(&self) -> usize {
-        self.limit.load(Ordering::SeqCst)
+        self.users.limit()
     }
 
     /// The keys and texts of now, in the order of their keys.
@@ -335,26 +295,11 @@ impl<K, S> ThreadedRodeo<K, S> {
         Strings::new(&self.users)
     }
 
-    /// Makes it an interner that interns no more, with the same texts under the same keys. They are
-    /// copied.
-    ///
-    /// # Panics
-    ///
-    /// Out of memory.
+    /// Makes it an interner that interns no more, with the same texts under the same keys. They stay
+    /// where they are.
     #[must_use]
     pub fn into_reader(self) -> RodeoReader<K, S> {
-        // The bytes of the capacity take no memory here either.
-        let bytes = self.lock_counted().up_to_now(&self.users);
-        let mut handle = or_panic(Handle::with_room(
-            self.len(),
-            bytes,
-            usize::MAX,
-            Seed::random(),
-        ));
-        for text in self.strings() {
-            or_panic(handle.intern(text));
-        }
-        RodeoReader::new(SharedHandle::new(handle), self.hasher)
+        RodeoReader::new(SharedHandle::of_many(self.users.freeze()), self.hasher)
     }
 
     /// Copies the texts into one piece of memory, and lets the interner go. What is made resolves
@@ -371,7 +316,7 @@ impl Default for ThreadedRodeo {
     }
 }
 
-/// Shows the texts, and the bytes that they have and may have.
+/// Shows the texts, and the bytes that their buckets take and may take.
 impl<K, S> fmt::Debug for ThreadedRodeo<K, S> {
     fn fmt(&self, f: &mut fmt::Formatter<'_>) -> fmt::Result {
         f.debug_struct("ThreadedRodeo")

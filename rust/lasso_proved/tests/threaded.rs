@@ -61,6 +61,7 @@ fn each_constructor_makes_an_empty_interner() {
         ThreadedRodeo::with_capacity_memory_limits_and_hasher(capacity, limits, RandomState::new()),
     ];
     let none = usize::MAX;
+    assert_eq!(limited(100, 10).current_memory_usage(), 100);
     for (rodeo, limit) in made
         .iter()
         .zip([none, none, none, 5000, 5000, none, none, 5000])
@@ -140,7 +141,14 @@ fn get_or_intern_panics_at_the_limit() {
 }
 
 #[test]
-fn the_limit_counts_the_bytes_of_texts() {
+#[should_panic(expected = "out of memory")]
+fn a_capacity_that_no_memory_has() {
+    limited(usize::MAX, usize::MAX);
+}
+
+// Each text fills the bucket that is made for it.
+#[test]
+fn the_limit_counts_the_bytes_of_buckets() {
     let rodeo = limited(10, 10);
     let first = rodeo.get_or_intern("0123456789");
     for text in ["x", "a text of more than ten bytes"] {
@@ -168,6 +176,30 @@ fn the_limit_counts_the_bytes_of_texts() {
     assert!(rodeo.try_get_or_intern("x").is_err() && rodeo.try_get_or_intern("").is_ok());
 }
 
+// As `lasso.h` says how buckets grow: the first one of 4096 bytes takes 4000, a second one of twice as many is made for the
+// next 100, and the limit leaves 1712 for a third.
+#[test]
+fn what_is_left_in_buckets_is_used_whatever_the_limit() {
+    let rodeo = ThreadedRodeo::<Spur>::with_memory_limits(MemoryLimits::new(14_000));
+    let text = |byte: &str, length| byte.repeat(length);
+    for (byte, length, usage) in [("a", 4000, 4096), ("b", 100, 12_288), ("c", 8092, 12_288)] {
+        rodeo.get_or_intern(text(byte, length));
+        assert_eq!(rodeo.current_memory_usage(), usage);
+    }
+    assert!(rodeo.try_get_or_intern(text("d", 1713)).is_err());
+    rodeo.set_memory_limits(MemoryLimits::new(0));
+    assert!(rodeo.try_get_or_intern(text("d", 97)).is_err());
+    assert!(rodeo.try_get_or_intern(text("d", 96)).is_ok());
+    assert!(rodeo.try_get_or_intern(text("e", 1)).is_err());
+    assert_eq!(
+        (rodeo.current_memory_usage(), rodeo.max_memory_usage()),
+        (12_288, 0)
+    );
+    rodeo.set_memory_limits(MemoryLimits::new(14_000));
+    assert!(rodeo.try_get_or_intern(text("e", 1712)).is_ok());
+    assert_eq!(rodeo.current_memory_usage(), 14_000);
+}
+
 #[test]
 fn threads_share_what_a_limit_leaves() {
     for limit in [4096, 10_000, 30_001] {
@@ -187,13 +219,14 @@ fn threads_share_what_a_limit_leaves() {
             }
             refused
         });
-        let used: usize = rodeo.strings().map(str::len).sum();
-        assert_eq!(rodeo.current_memory_usage(), used);
-        assert!(used <= limit && refused.iter().any(|its| !its.is_empty()));
+        let texts: usize = rodeo.strings().map(str::len).sum();
+        let used = rodeo.current_memory_usage();
+        assert!(texts <= used && used <= limit && refused.iter().any(|its| !its.is_empty()));
         assert!(refused.iter().flatten().all(|length| used + length > limit));
     }
 }
 
+// A text of four bytes fills the bucket that is made for it, since that is more than twice the first one's byte.
 #[test]
 fn nothing_passes_a_limit_that_was_set() {
     for limit in [usize::MAX, 1 << 40].repeat(10) {
@@ -209,7 +242,7 @@ fn nothing_passes_a_limit_that_was_set() {
             (number..)
                 .step_by(4)
                 .take(500)
-                .take_while(|text| rodeo.try_get_or_intern(text.to_string()).is_ok())
+                .take_while(|text| rodeo.try_get_or_intern(format!("{text:04}")).is_ok())
                 .count()
         });
         assert_eq!(texts[0], rodeo.len());
@@ -333,11 +366,45 @@ fn it_is_frozen_under_the_same_keys() {
     let resolver: RodeoResolver<MicroSpur> = rodeo.into_resolver();
     assert!(resolver.strings().eq(texts()));
     assert!(ThreadedRodeo::default().into_reader().is_empty());
-    // A capacity that no memory has.
-    let large = limited(usize::MAX, usize::MAX);
-    let red = large.get_or_intern("red");
-    assert_eq!(large.into_reader().resolve(&red), "red");
     assert!(ThreadedRodeo::default().into_resolver().is_empty());
+}
+
+/// A reader has the texts where they were, those of threads that have ended too, and 64 threads read it.
+#[test]
+fn a_frozen_interner_is_read_in_64_threads() {
+    for threads in [0, 1, 40] {
+        let rodeo: ThreadedRodeo<Spur> = ["red"].into_iter().collect();
+        let interned = at_once(threads.max(1), |number| {
+            (0..20 * threads)
+                .map(|step| text_of(number * 7 + step, 40))
+                .map(|text| (rodeo.get_or_intern(&text), text))
+                .collect::<Vec<_>>()
+        });
+        let places: Vec<_> = rodeo.strings().map(str::as_ptr).collect();
+        let last = rodeo.get_or_intern_static("last");
+        let reader = rodeo.into_reader();
+        assert_eq!(
+            (reader.len(), reader.resolve(&last)),
+            (places.len() + 1, "last")
+        );
+        assert!(reader
+            .strings()
+            .map(str::as_ptr)
+            .zip(places)
+            .all(|(is, was)| is == was));
+        at_once(MANY, |_| {
+            for (this, text) in interned.iter().flatten() {
+                assert_eq!(reader.get(text), Some(*this));
+                assert_eq!(reader.resolve(this), text);
+            }
+            assert_eq!(
+                (reader.get("red"), reader.get("last")),
+                (Some(key(0)), Some(last))
+            );
+            assert_eq!((reader.get("absent"), reader.contains("")), (None, false));
+        });
+        assert!(reader.into_resolver().strings().last() == Some("last"));
+    }
 }
 
 #[test]

@@ -2,7 +2,7 @@
 ghost use Rattle.std.specs.Prelude.{◌≡◌, ◌<◌, ◌+◌, ◌^◌, MatchResult, Ok, get_or, length};
 ghost use Rattle.lasso_parts.specs.Layout.{greatest_offset};
 ghost use Rattle.lasso_log.specs.Replies.{Copied, Intern, Interned};
-ghost use Rattle.lasso_c.specs.Members.{shared_seed, texts_seen};
+ghost use Rattle.lasso_c.specs.Members.{is_frozen, shared_seed, texts_seen};
 ghost use Rattle.lasso_c.specs.Passes.{IsCallOf};
 ghost use Rattle.lasso_c.specs.SharedBatches.{InternsAt, InternsBatch, IsRefused, RefusesAt, SharedBatchEnds, shared_report};
 
@@ -12,7 +12,7 @@ use crate::layout::text_between;
 use crate::offsets::{count, number};
 use crate::shared::handle::LassoShared;
 use crate::shared::member::Member;
-use crate::status::{BUSY, DONE, NO_INTERNER};
+use crate::status::{BUSY, DONE, FROZEN, NO_INTERNER};
 use lasso_parts::keys::Key;
 use lasso_parts::offsets::Offset;
 
@@ -24,9 +24,9 @@ struct Ending {
 }
 
 /// Interns the texts of a layout in order, up to the first that is refused, and writes the codes of those before it. The report says
-/// how many these are, and also where the refused one is. It returns `NO_INTERNER`; `CODES_TOO_SHORT` and interns none if a code of
-/// each text has no room; `BUSY` if another thread is inside a step: the texts before that one stay; and else what the refused text
-/// gives: `OFFSETS_FALL`, `OFFSET_PAST_BYTES` or `NOT_UTF8` for its layout, or a refusal of `lasso_shared_intern`.
+/// how many these are, and also where the refused one is. It returns `NO_INTERNER`; `FROZEN`; `CODES_TOO_SHORT` and interns none if a
+/// code of each text has no room; `BUSY` if another thread is inside a step: the texts before that one stay; and else what the refused
+/// text gives: `OFFSETS_FALL`, `OFFSET_PAST_BYTES` or `NOT_UTF8` for its layout, or a refusal of `lasso_shared_intern`.
 #[unsafe(no_mangle)]
 pub extern "C" fn lasso_shared_intern_batch(
     shared: &mut LassoShared,
@@ -38,6 +38,7 @@ pub extern "C" fn lasso_shared_intern_batch(
     ensures outcome { SharedBatchEnds greatest_offset bytes.now offsets.now codes.old codes.new result report.new shared.old.seat.value shared.new.seat.value }
     ensures seen { texts_seen shared.new.seat.value ≡ texts_seen shared.old.seat.value }
     ensures seed { shared_seed shared.new.seat.value ≡ shared_seed shared.old.seat.value }
+    ensures frozen { is_frozen shared.new.seat.value ≡ is_frozen shared.old.seat.value }
 {
     let Some(member) = shared.member() else {
         return tell(
@@ -48,6 +49,15 @@ pub extern "C" fn lasso_shared_intern_batch(
             report,
         );
     };
+    if member.is_frozen() {
+        return tell(
+            Ending {
+                done: 0,
+                status: FROZEN,
+            },
+            report,
+        );
+    }
     tell(intern_layout(member, bytes, offsets, codes), report)
 }
 
@@ -76,6 +86,7 @@ fn intern_layout<O: Offset>(
     ensures batch { InternsBatch O.GREATEST bytes.now (O.numbers offsets.now) result.done result.status codes.old codes.new member.old.pass member.new.pass }
     ensures list { member.new.list ≡ member.old.list }
     ensures seed { member.new.shared.seed ≡ member.old.shared.seed }
+    ensures frozen { member.new.shared.is_frozen ≡ member.old.shared.is_frozen }
 {
     let rows = count(offsets).saturating_sub(1);
     if let Err(refusal) = first_fault::<O>(bytes, first_offset(offsets), rows, &[], codes.len()) {
@@ -120,6 +131,7 @@ fn code_at<O: Offset>(
         (λ status. RefusesAt O.GREATEST bytes.now (O.numbers offsets.now) at status member.old.pass member.new.pass) }
     ensures list { member.new.list ≡ member.old.list }
     ensures seed { member.new.shared.seed ≡ member.old.shared.seed }
+    ensures frozen { member.new.shared.is_frozen ≡ member.old.shared.is_frozen }
 {
     let (from, to) = (number(offsets, at), number(offsets, at + 1));
     let text = match text_between::<O>(bytes, at, from, to) {
@@ -136,6 +148,7 @@ fn intern_text(member: &mut Member, text: &str, at: usize) -> Result<u32, u32>
         (λ status. IsRefused text.now at status member.old.pass member.new.pass) }
     ensures list { member.new.list ≡ member.old.list }
     ensures seed { member.new.shared.seed ≡ member.old.shared.seed }
+    ensures frozen { member.new.shared.is_frozen ≡ member.old.shared.is_frozen }
 {
     match member.intern(text) {
         None => Err(BUSY),

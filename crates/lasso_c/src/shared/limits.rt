@@ -1,7 +1,7 @@
 //! The memory limit of a shared interner, and how much of it is taken.
 ghost use Rattle.std.specs.Prelude.{◌≡◌};
 ghost use Rattle.lasso_log.specs.Replies.{Done, MaxUsage, Number, SetLimit, Usage};
-ghost use Rattle.lasso_c.specs.Members.{Calls, IsTriedStatus, MakesNone, shared_seed, texts_seen};
+ghost use Rattle.lasso_c.specs.Members.{Calls, IsTriedStatus, MakesNone, is_frozen, shared_seed, texts_seen};
 
 use crate::shared::handle::LassoShared;
 use crate::status::{BUSY, DONE, NO_INTERNER};
@@ -17,6 +17,7 @@ pub extern "C" fn lasso_shared_memory(shared: &mut LassoShared, bytes: &mut usiz
     ensures bytes_kept { ¬ (result ≡ DONE) → bytes.new ≡ bytes.old }
     ensures seen { texts_seen shared.new.seat.value ≡ texts_seen shared.old.seat.value }
     ensures seed { shared_seed shared.new.seat.value ≡ shared_seed shared.old.seat.value }
+    ensures frozen { is_frozen shared.new.seat.value ≡ is_frozen shared.old.seat.value }
 {
     let Some(member) = shared.member() else {
         return NO_INTERNER;
@@ -39,6 +40,7 @@ pub extern "C" fn lasso_shared_limit(shared: &mut LassoShared, bytes: &mut usize
     ensures bytes_kept { ¬ (result ≡ DONE) → bytes.new ≡ bytes.old }
     ensures seen { texts_seen shared.new.seat.value ≡ texts_seen shared.old.seat.value }
     ensures seed { shared_seed shared.new.seat.value ≡ shared_seed shared.old.seat.value }
+    ensures frozen { is_frozen shared.new.seat.value ≡ is_frozen shared.old.seat.value }
 {
     let Some(member) = shared.member() else {
         return NO_INTERNER;
@@ -60,6 +62,7 @@ pub extern "C" fn lasso_shared_set_limit(shared: &mut LassoShared, limit: usize)
     ensures kept { result ≡ NO_INTERNER → shared.new.seat.value ≡ shared.old.seat.value }
     ensures seen { texts_seen shared.new.seat.value ≡ texts_seen shared.old.seat.value }
     ensures seed { shared_seed shared.new.seat.value ≡ shared_seed shared.old.seat.value }
+    ensures frozen { is_frozen shared.new.seat.value ≡ is_frozen shared.old.seat.value }
 {
     let Some(member) = shared.member() else {
         return NO_INTERNER;

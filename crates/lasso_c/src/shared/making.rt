@@ -1,5 +1,5 @@
 //! Makers of shared interners: of given capacity, with a seed or keys.
-ghost use Rattle.std.specs.Prelude.{◌≡◌, IsSome, Some};
+ghost use Rattle.std.specs.Prelude.{◌≡◌, ◌-◌, ◌^◌, IsSome, Some, max};
 ghost use Rattle.lasso_c.specs.Members.{Begins};
 ghost use Rattle.lasso_c.specs.Seeds.{keyed_seed, text_seed};
 
@@ -15,31 +15,36 @@ use std::alloc::Global;
 #[unsafe(no_mangle)]
 pub extern "C" fn lasso_shared_new(alloc: Global, shared: &mut LassoShared) -> u32
     // On success
-    ensures made { result ≡ DONE → Begins 4096 (text_seed 0 0) shared.new.seat.value }
+    ensures made { result ≡ DONE → Begins 4096 (2 ^ 64 - 1) (text_seed 0 0) shared.new.seat.value }
 
     // On failure
     ensures refused { ¬ (result ≡ DONE) → result ≡ NO_MEMORY }
     ensures kept { ¬ (result ≡ DONE) → shared.new.seat.value ≡ shared.old.seat.value }
 {
-    make(alloc, shared, Capacity::default(), Seed::fixed())
+    let usual = Capacity::default();
+    make(alloc, shared, usual, usize::MAX, Seed::fixed())
 }
 
-/// `lasso_shared_new` with room for `texts` texts before the list of texts grows. It returns `NO_MEMORY` out of memory, and the handle
-/// is as it was then.
+/// `lasso_shared_new` with room for `texts` texts before the list of texts grows, and a first bucket of `bytes` bytes, at least one. The
+/// buckets take at most `limit` bytes, but the first one is there whatever the limit. It returns `NO_MEMORY` out of memory, and the
+/// handle is as it was then.
 #[unsafe(no_mangle)]
 pub extern "C" fn lasso_shared_new_sized(
     alloc: Global,
     shared: &mut LassoShared,
     texts: usize,
+    bytes: usize,
+    limit: usize,
 ) -> u32
     // On success
-    ensures made { result ≡ DONE → Begins 4096 (text_seed 0 0) shared.new.seat.value }
+    ensures made { result ≡ DONE → Begins (max bytes 1) limit (text_seed 0 0) shared.new.seat.value }
 
     // On failure
     ensures refused { ¬ (result ≡ DONE) → result ≡ NO_MEMORY }
     ensures kept { ¬ (result ≡ DONE) → shared.new.seat.value ≡ shared.old.seat.value }
 {
-    make(alloc, shared, Capacity::for_strings(texts), Seed::fixed())
+    let capacity = Capacity::new(texts, bytes.max(1));
+    make(alloc, shared, capacity, limit, Seed::fixed())
 }
 
 /// `lasso_shared_new` for texts that strangers choose: it hashes them with this seed, which nobody else may know. It returns
@@ -52,14 +57,14 @@ pub extern "C" fn lasso_shared_new_seeded(
     seed1: u64,
 ) -> u32
     // On success
-    ensures made { result ≡ DONE → Begins 4096 (text_seed seed0 seed1) shared.new.seat.value }
+    ensures made { result ≡ DONE → Begins 4096 (2 ^ 64 - 1) (text_seed seed0 seed1) shared.new.seat.value }
 
     // On failure
     ensures refused { ¬ (result ≡ DONE) → result ≡ NO_MEMORY }
     ensures kept { ¬ (result ≡ DONE) → shared.new.seat.value ≡ shared.old.seat.value }
 {
     let usual = Capacity::default();
-    make(alloc, shared, usual, Seed::text(seed0, seed1))
+    make(alloc, shared, usual, usize::MAX, Seed::text(seed0, seed1))
 }
 
 /// `lasso_shared_new_seeded` of the capacity that `lasso_shared_new_sized` has.
@@ -68,18 +73,20 @@ pub extern "C" fn lasso_shared_new_sized_seeded(
     alloc: Global,
     shared: &mut LassoShared,
     texts: usize,
+    bytes: usize,
+    limit: usize,
     seed0: u64,
     seed1: u64,
 ) -> u32
     // On success
-    ensures made { result ≡ DONE → Begins 4096 (text_seed seed0 seed1) shared.new.seat.value }
+    ensures made { result ≡ DONE → Begins (max bytes 1) limit (text_seed seed0 seed1) shared.new.seat.value }
 
     // On failure
     ensures refused { ¬ (result ≡ DONE) → result ≡ NO_MEMORY }
     ensures kept { ¬ (result ≡ DONE) → shared.new.seat.value ≡ shared.old.seat.value }
 {
-    let room = Capacity::for_strings(texts);
-    make(alloc, shared, room, Seed::text(seed0, seed1))
+    let room = Capacity::new(texts, bytes.max(1));
+    make(alloc, shared, room, limit, Seed::text(seed0, seed1))
 }
 
 /// `lasso_shared_new` for texts that strangers choose: it hashes them with two keys, by SipHash-1-3. It returns `NO_MEMORY` out of
@@ -92,13 +99,14 @@ pub extern "C" fn lasso_shared_new_keyed(
     key1: u64,
 ) -> u32
     // On success
-    ensures made { result ≡ DONE → Begins 4096 (keyed_seed key0 key1) shared.new.seat.value }
+    ensures made { result ≡ DONE → Begins 4096 (2 ^ 64 - 1) (keyed_seed key0 key1) shared.new.seat.value }
 
     // On failure
     ensures refused { ¬ (result ≡ DONE) → result ≡ NO_MEMORY }
     ensures kept { ¬ (result ≡ DONE) → shared.new.seat.value ≡ shared.old.seat.value }
 {
-    make(alloc, shared, Capacity::default(), Seed::keyed(key0, key1))
+    let keys = Seed::keyed(key0, key1);
+    make(alloc, shared, Capacity::default(), usize::MAX, keys)
 }
 
 /// `lasso_shared_new_keyed` of the capacity that `lasso_shared_new_sized` has.
@@ -107,27 +115,36 @@ pub extern "C" fn lasso_shared_new_sized_keyed(
     alloc: Global,
     shared: &mut LassoShared,
     texts: usize,
+    bytes: usize,
+    limit: usize,
     key0: u64,
     key1: u64,
 ) -> u32
     // On success
-    ensures made { result ≡ DONE → Begins 4096 (keyed_seed key0 key1) shared.new.seat.value }
+    ensures made { result ≡ DONE → Begins (max bytes 1) limit (keyed_seed key0 key1) shared.new.seat.value }
 
     // On failure
     ensures refused { ¬ (result ≡ DONE) → result ≡ NO_MEMORY }
     ensures kept { ¬ (result ≡ DONE) → shared.new.seat.value ≡ shared.old.seat.value }
 {
-    let sized = Capacity::for_strings(texts);
-    make(alloc, shared, sized, Seed::keyed(key0, key1))
+    let sized = Capacity::new(texts, bytes.max(1));
+    make(alloc, shared, sized, limit, Seed::keyed(key0, key1))
 }
 
-// Makes an interner with room for `capacity`, and its first handle. The handle is as it was out of memory.
-fn make(alloc: Global, shared: &mut LassoShared, capacity: Capacity, seed: Seed) -> u32
-    ensures made { result ≡ DONE → Begins capacity.bytes seed shared.new.seat.value }
+// Makes an interner with room for `capacity`, whose buckets take at most `limit` bytes, and its first handle. The handle is as it was
+// out of memory.
+fn make(
+    alloc: Global,
+    shared: &mut LassoShared,
+    capacity: Capacity,
+    limit: usize,
+    seed: Seed,
+) -> u32
+    ensures made { result ≡ DONE → Begins capacity.bytes limit seed shared.new.seat.value }
     ensures refused { ¬ (result ≡ DONE) → result ≡ NO_MEMORY }
     ensures kept { ¬ (result ≡ DONE) → shared.new.seat.value ≡ shared.old.seat.value }
 {
-    match Member::new(alloc, capacity, seed) {
+    match Member::new(alloc, capacity, limit, seed) {
         Some(member) => hold(alloc, shared, member),
         None => NO_MEMORY,
     }

@@ -1,5 +1,5 @@
 //! A member of a shared interner: what one handle holds.
-ghost use Rattle.std.specs.Prelude.{◌≡◌, ◌-◌, ◌^◌, [], IfOk, IfSome, IsFalse, IsNone, IsTrue, None, Some, length, option_map, slice_get};
+ghost use Rattle.std.specs.Prelude.{◌≡◌, ◌-◌, [], IfOk, IfSome, IsFalse, IsNone, IsTrue, None, Some, false, length, option_map, slice_get, true};
 ghost use mathlib.Core.List.{IsPrefix};
 ghost use Rattle.lasso_single.specs.Copies.{clone_size, read_of};
 ghost use Rattle.lasso_log.specs.History.{opened};
@@ -33,13 +33,14 @@ pub struct Member {
 }
 
 impl Member {
-    // The first member of a new interner with room for `capacity`, or none out of memory.
-    pub(crate) fn new(alloc: Global, capacity: Capacity, seed: Seed) -> Option<Member>
-        ensures opening { IfSome result (λ m. m.pass.of.opening ≡ opened [] capacity.bytes 0 (2 ^ 64 - 1)) }
+    // The first member of a new interner with room for `capacity`, whose buckets take at most `limit` bytes, or none out of memory.
+    pub(crate) fn new(alloc: Global, capacity: Capacity, limit: usize, seed: Seed) -> Option<Member>
+        ensures opening { IfSome result (λ m. m.pass.of.opening ≡ opened [] capacity.bytes 0 limit) }
         ensures notes { IfSome result (λ m. m.pass.notes ≡ []) }
         ensures seed { IfSome result (λ m. m.shared.seed ≡ seed) }
+        ensures frozen { IfSome result (λ m. m.shared.is_frozen ≡ false) }
     {
-        let shared = SharedInterner::new(alloc, capacity, seed)?;
+        let shared = SharedInterner::new(alloc, capacity, limit, seed)?;
         Some(Member::of(alloc, shared))
     }
 
@@ -48,6 +49,7 @@ impl Member {
         ensures of { IfSome result (λ m. m.pass.of ≡ self.now.pass.of) }
         ensures notes { IfSome result (λ m. m.pass.notes ≡ []) }
         ensures seed { IfSome result (λ m. m.shared.seed ≡ self.now.shared.seed) }
+        ensures frozen { IfSome result (λ m. m.shared.is_frozen ≡ self.now.shared.is_frozen) }
     {
         let shared = self.shared.again()?;
         Some(Member::of(alloc, shared))
@@ -91,6 +93,7 @@ impl Member {
         ensures busy { IsNone result → AppendsNone text.now self.old.pass self.new.pass }
         ensures list { self.new.list ≡ self.old.list }
         ensures seed { self.new.shared.seed ≡ self.old.shared.seed }
+        ensures frozen { self.new.shared.is_frozen ≡ self.old.shared.is_frozen }
     {
         self.count();
         self.shared.rodeo.intern_now_as(&mut self.pass, text)
@@ -102,6 +105,7 @@ impl Member {
         ensures busy { IsNone result → IsQuiet self.old.pass self.new.pass }
         ensures list { self.new.list ≡ self.old.list }
         ensures seed { self.new.shared.seed ≡ self.old.shared.seed }
+        ensures frozen { self.new.shared.is_frozen ≡ self.old.shared.is_frozen }
     {
         self.count();
         self.shared.rodeo.get_now_as(&mut self.pass, text)
@@ -114,6 +118,7 @@ impl Member {
         ensures kept { IsFalse result → (whole.new ≡ whole.old) × (room.new ≡ room.old) }
         ensures list { self.new.list ≡ self.old.list }
         ensures seed { self.new.shared.seed ≡ self.old.shared.seed }
+        ensures frozen { self.new.shared.is_frozen ≡ self.old.shared.is_frozen }
     {
         match self.shared.rodeo.try_resolve_as(&mut self.pass, key) {
             None => false,
@@ -129,8 +134,33 @@ impl Member {
         ensures quiet { IsQuiet self.old.pass self.new.pass }
         ensures list { self.new.list.notes ≡ self.new.pass.notes }
         ensures seed { self.new.shared.seed ≡ self.old.shared.seed }
+        ensures frozen { self.new.shared.is_frozen ≡ self.old.shared.is_frozen }
     {
         self.list = self.shared.rodeo.seen_list_as(&mut self.pass);
+    }
+
+    // Whether the interner is frozen.
+    pub(crate) fn is_frozen(&self) -> bool
+        ensures { result ≡ self.now.shared.is_frozen }
+    {
+        self.shared.is_frozen
+    }
+
+    // Freezes the interner, and sees its list, unless it has other members and is not frozen yet. Returns whether it is frozen then.
+    pub(crate) fn freeze(&mut self) -> bool
+        ensures quiet { IsTrue result → IsQuiet self.old.pass self.new.pass }
+        ensures list { IsTrue result → self.new.list.notes ≡ self.new.pass.notes }
+        ensures frozen { IsTrue result → self.new.shared.is_frozen ≡ true }
+        ensures already { self.old.shared.is_frozen ≡ true → IsTrue result }
+        ensures kept { IsFalse result → self.new ≡ self.old }
+        ensures seed { self.new.shared.seed ≡ self.old.shared.seed }
+    {
+        if !self.shared.is_frozen && !self.shared.is_sole() {
+            return false;
+        }
+        self.see();
+        self.shared.is_frozen = true;
+        true
     }
 
     // Sees what the other has seen, if it is a member of the same interner, and the list as it is.
@@ -139,6 +169,7 @@ impl Member {
         ensures other { other.now.pass.of ≡ self.old.pass.of → IsPrefix other.now.pass.notes self.new.pass.notes }
         ensures list { self.new.list.notes ≡ self.new.pass.notes }
         ensures seed { self.new.shared.seed ≡ self.old.shared.seed }
+        ensures frozen { self.new.shared.is_frozen ≡ self.old.shared.is_frozen }
     {
         self.pass.meet_if_same(&other.pass);
         self.see();
@@ -174,6 +205,7 @@ impl Member {
         ensures busy { IsNone result → IsQuiet self.old.pass self.new.pass }
         ensures list { self.new.list ≡ self.old.list }
         ensures seed { self.new.shared.seed ≡ self.old.shared.seed }
+        ensures frozen { self.new.shared.is_frozen ≡ self.old.shared.is_frozen }
     {
         self.shared
             .rodeo
@@ -186,6 +218,7 @@ impl Member {
         ensures busy { IsNone result → IsQuiet self.old.pass self.new.pass }
         ensures list { self.new.list ≡ self.old.list }
         ensures seed { self.new.shared.seed ≡ self.old.shared.seed }
+        ensures frozen { self.new.shared.is_frozen ≡ self.old.shared.is_frozen }
     {
         self.shared.rodeo.max_memory_usage_now_as(&mut self.pass)
     }
@@ -196,6 +229,7 @@ impl Member {
         ensures busy { IsFalse result → self.new.pass ≡ self.old.pass }
         ensures list { self.new.list ≡ self.old.list }
         ensures seed { self.new.shared.seed ≡ self.old.shared.seed }
+        ensures frozen { self.new.shared.is_frozen ≡ self.old.shared.is_frozen }
     {
         let limits = MemoryLimits::new(limit);
         self.shared
@@ -208,6 +242,7 @@ impl Member {
         ensures call { IsCallOf self.old.pass self.new.pass Len (Number result) }
         ensures list { self.new.list ≡ self.old.list }
         ensures seed { self.new.shared.seed ≡ self.old.shared.seed }
+        ensures frozen { self.new.shared.is_frozen ≡ self.old.shared.is_frozen }
     {
         self.shared.rodeo.len_as(&mut self.pass)
     }

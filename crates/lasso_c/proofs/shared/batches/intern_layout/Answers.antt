@@ -10,7 +10,7 @@ returns-in-Err-clause-batch g c =
     c.first_offset.ensures (omega arith) c.in-Err.ensures (refl, c.status_of.ensures, refl, refl)
 
 pub loop-at-init : goal.loop-at-init
-loop-at-init g c = (none_so_far g.O.Offset.GREATEST c.args.bytes.now (g.O.Offset.numbers c.args.offsets.now) c.args.codes.now c.args.member.now.pass, refl, refl)
+loop-at-init g c = (none_so_far g.O.Offset.GREATEST c.args.bytes.now (g.O.Offset.numbers c.args.offsets.now) c.args.codes.now c.args.member.now.pass, refl, refl, refl)
 
 pub loop-at-preserved : goal.loop-at-preserved
 loop-at-preserved g c =
@@ -21,6 +21,7 @@ loop-at-preserved g c =
           c.loop-at.invariant.0 c.in-Ok.ensures.reply (omega arith) (omega (arith, room)),
       c.code_at.ensures.list ∙ c.loop-at.invariant.1,
       c.code_at.ensures.seed ∙ c.loop-at.invariant.2,
+      c.code_at.ensures.frozen ∙ c.loop-at.invariant.3,
     )
 
 pub returns-in-Err-code_at-clause-batch : goal.returns-in-Err-code_at-clause-batch
