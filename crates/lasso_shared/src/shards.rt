@@ -26,6 +26,7 @@ mod put;
 pub mod shard;
 mod store;
 pub mod tag;
+mod together;
 
 use crate::shards::shard::{BoxedShard, BoxedTally};
 use lasso_lock::locks::{TaggedMutex, TaggedRwLock};

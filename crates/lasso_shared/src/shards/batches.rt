@@ -36,11 +36,15 @@ impl<K: Key, S: BuildHasher + Drop> Shards<K, S> {
         if pass.hints_serve() {
             return self.intern_each(rt, pass, texts, keys);
         }
+        if texts.is_empty() {
+            return Ok(());
+        }
         let mut ahead = self.nothing_ahead();
-        for i in 0..texts.len() {
-            self.look_ahead(rt, pass, &texts[i..], &mut ahead);
-            let key = self.intern_next(rt, pass, texts[i], &mut ahead)?;
-            keys.push_reserved(key);
+        let mut done = 0;
+        while done < texts.len() {
+            self.look_ahead(rt, pass, &texts[done..], &mut ahead);
+            let next = self.intern_some(rt, pass, texts, done, &mut ahead, keys)?;
+            done = next;
         }
         Ok(())
     }
