@@ -1,4 +1,5 @@
 //! Interning and looking up the texts of a list, one after another, with a look ahead at many of them at a time.
+//! Many new texts are appended under one hold of the spine.
 //!
 //! If hints find most texts when the list comes, each is taken as a single call takes it.
 ghost use Rattle.std.specs.Prelude.{◌≡◌, ◌+◌, ◌<◌, ◌≤◌, ◌⊎◌, length, map, OnOk, OnErr, IfErr, vec_len};

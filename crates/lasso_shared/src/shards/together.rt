@@ -5,8 +5,8 @@
 //! and its position goes into the index.
 //!
 //! Who waits for the spine may hold a shard, so one that holds the spine must not wait for a shard. It tries to lock it
-//! a few times, and else ends the hold. So it does before an index grows, which takes long. The next text is then
-//! interned as if alone.
+//! a few times, and else ends the hold. So it does before an index grows or cells are made, which takes long. The next
+//! text is then interned as if alone.
 ghost use Rattle.std.specs.Prelude.{◌≡◌, ◌≢◌, ◌+◌, ◌-◌, ◌<◌, ◌≤◌, [], List, length, map, Err, IfOk, IfErr, IfSome, IsNone, OnErr, vec_len};
 ghost use Rattle.std.specs.Vec.{vec_capacity};
 ghost use base.Fml.{Incl};
@@ -140,7 +140,8 @@ impl<K: Key, S: BuildHasher + Drop> Shards<K, S> {
     }
 
     // Interns a text whose shard the caller has locked. The spine is locked too. It returns `None`, with no event, if the
-    // shard's index has to grow first.
+    // shard's index has to grow first, or if the cells ahead are not made: each text asks for them, so that no other one
+    // waits for its cell for ever.
     fn intern_in<R: Wait>(
         &self,
         rt: &R,
@@ -162,6 +163,9 @@ impl<K: Key, S: BuildHasher + Drop> Shards<K, S> {
     {
         if let Some(key) = self.find(shard, pass, hash, text) {
             return Some(Ok(key));
+        }
+        if self.log.find_ahead(pass).is_none() {
+            return None;
         }
         if !self.is_current(tally, shard, pass, number_of(hash)) {
             return None;
