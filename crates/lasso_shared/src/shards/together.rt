@@ -262,11 +262,14 @@ impl<K: Key, S: BuildHasher + Drop> Shards<K, S> {
         ensures refused { IfErr result (λ error. StopsFurther K.key_at self.now.log pass.old pass.new (map (λ t. t.now) texts.now) from keys.old.items keys.new.items error) }
     {
         for i in from..texts.len() {
-            match self.intern_next_at_once(rt, tally, pass, texts[i], ahead) {
-                None => return Ok(i),
-                Some(Ok(key)) => keys.push_reserved(key),
-                Some(Err(error)) => return Err(error),
-            }
+            let Some(reply) = self.intern_next_at_once(rt, tally, pass, texts[i], ahead) else {
+                return Ok(i);
+            };
+            let key = match reply {
+                Ok(key) => key,
+                Err(error) => return Err(error),
+            };
+            keys.push_reserved(key);
         }
         Ok(texts.len())
     }

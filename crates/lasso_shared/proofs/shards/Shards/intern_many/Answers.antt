@@ -1,4 +1,4 @@
-use Rattle.std.proofs.Common.{◌++◌, ◌∷◌, List, [], sym, ◌∙◌, subst, arith, rules}
+use Rattle.std.proofs.Common.{◌++◌, ◌∷◌, List, [], refl, sym, ◌∙◌, subst, arith, rules}
 use Rattle.lasso_parts.specs.Texts.{Text}
 use Rattle.lasso_single.proofs.KeyLists.{texts_more, texts_split}
 use Rattle.lasso_shared.specs.PassCalls.{HasInterned}
@@ -9,8 +9,8 @@ pub loop-i-preserved : goal.loop-i-preserved
 loop-i-preserved g c =
     let log = c.args.self.now.log in
     let i = c.loop-i.invariant in
-    let told = c.in-Some-Ok.ensures in
-    let key = c.in-Some-Ok.key in
+    let told = c.in-Some.ensures in
+    let key = c.in-Ok.key in
     let first = c.loop-i.pass in
     let now = c.intern_next_at_once.new.pass in record {
       ahead = told.of;
@@ -20,15 +20,15 @@ loop-i-preserved g c =
       room = omega (arith, i.room, c.push_reserved.ensures.len, c.push_reserved.ensures.capacity, c.loop-i-test.true);
       interned = λ first begun h.
           subst (λ (ts : List Text). HasInterned g.K.Key.key_at log first now ts begun c.push_reserved.new.self.items) (sym (texts_more c.args.texts.now c.loop-i.i _ c.loop-i-test.true))
-          (interned_more g.K.Key.key_at log first c.loop-i.pass now _ _ key begun c.loop-i.keys.items c.push_reserved.new.self.items (i.interned first begun h) told.same told.call c.push_reserved.ensures.items);
+          (interned_more g.K.Key.key_at log first c.loop-i.pass now _ _ key begun c.loop-i.keys.items c.push_reserved.new.self.items (i.interned first begun h) told.same (rw c.in-Ok.is at told.call) c.push_reserved.ensures.items);
     }
 
-pub returns-in-None-clause-interned : goal.returns-in-None-clause-interned
-returns-in-None-clause-interned g c = λ first begun h.
-    let told = c.in-None.ensures in
+pub returns-in_default-clause-interned : goal.returns-in_default-clause-interned
+returns-in_default-clause-interned g c = λ first begun h.
+    let told = c.in_default.ensures in
     seen_more g.K.Key.key_at c.args.self.now.log first c.loop-i.pass c.intern_next_at_once.new.pass _ begun c.loop-i.keys.items (c.loop-i.invariant.interned first begun h) told.same (told.none refl)
 
-pub returns-in-Some-Err-clause-refused : goal.returns-in-Some-Err-clause-refused
-returns-in-Some-Err-clause-refused g c = λ first begun h.
-    let told = c.in-Some-Err.ensures in
-    refused_next g.K.Key.key_at c.args.self.now.log first c.loop-i.pass c.intern_next_at_once.new.pass _ _ _ _ c.in-Some-Err.error begun c.loop-i.keys.items (texts_split c.args.texts.now c.loop-i.i _ c.loop-i-test.true) (c.loop-i.invariant.interned first begun h) told.call
+pub returns-in-Err-clause-refused : goal.returns-in-Err-clause-refused
+returns-in-Err-clause-refused g c = λ first begun h.
+    let told = c.in-Some.ensures in
+    refused_next g.K.Key.key_at c.args.self.now.log first c.loop-i.pass c.intern_next_at_once.new.pass _ _ _ _ c.in-Err.error begun c.loop-i.keys.items (texts_split c.args.texts.now c.loop-i.i _ c.loop-i-test.true) (c.loop-i.invariant.interned first begun h) (rw c.in-Err.is at told.call)
