@@ -18,8 +18,8 @@ returns-in_err-key-clause-refused g c =
     let p = err_from_is_err_and c.from_residual-in_err-key.result c.from_residual-in_err-key.ensures.1 in
     let here : c.in_ok-done.done ≡ c.args.from = omega (arith, c.in_ok-done.ensures.done, c.if-from-done.false) in
     rw (p.1, p.2) (λ first begun h.
-      let ran = subst (λ (n : ℕ). HasInterned g.K.Key.key_at log first c.intern_run.new.pass (take n all) begun c.intern_run.new.keys.items) here (c.in_ok-done.ensures.interned first begun h) in
-      refused_next g.K.Key.key_at log first c.intern_run.new.pass c.intern_next.new.pass _ _ _ _ c.in_err-key.field-0.0 begun c.intern_run.new.keys.items (texts_split c.args.texts.now c.args.from _ c.requires.from) ran c.in_err-key.ensures.call)
+    let ran = subst (λ (n : ℕ). HasInterned g.K.Key.key_at log first c.intern_run.new.pass (take n all) begun c.intern_run.new.keys.items) here (c.in_ok-done.ensures.interned first begun h) in
+    refused_next g.K.Key.key_at log first c.intern_run.new.pass c.intern_next.new.pass _ _ _ _ c.in_err-key.field-0.0 begun c.intern_run.new.keys.items (texts_split c.args.texts.now c.args.from _ c.requires.from) ran c.in_err-key.ensures.call)
 
 pub returns-clause-interned : goal.returns-clause-interned
 returns-clause-interned g c = λ first begun h.
