@@ -20,3 +20,4 @@ pub mod Built
 pub mod ReadList
 pub mod Copied
 pub mod Now
+pub mod Together

@@ -1,10 +1,11 @@
 -- Calls of a pass, as contracts say them: by what is seen of the pass before and after.
-use Rattle.std.specs.Prelude.{ℕ, List, Option}
+use Rattle.std.specs.Prelude.{ℕ, List, [], take, Option}
 use Rattle.lasso_parts.specs.Texts.{Text}
 use Rattle.lasso_parts.specs.declared.util.LassoErrorKind.{LassoErrorKind}
 use Rattle.lasso_log.specs.Calls.{IsCall}
+use Rattle.lasso_log.specs.Notes.{Since}
 use Rattle.lasso_log.specs.Replies.{Question, Reply}
-use Rattle.lasso_log.specs.Views.{InternerId, PassView, seen}
+use Rattle.lasso_log.specs.Views.{InternerId, IsSamePass, PassView, seen}
 use Rattle.lasso_shared.specs.Batches.{AddsInterned, AddsGot, StopsAtText}
 
 -- one call of the pass at this interner, from what the pass had seen before to what it has seen after
@@ -18,6 +19,25 @@ PassInterns key_at of before after texts old new = AddsInterned key_at of.openin
 -- so were the first texts, and the call of the next one was refused with this error, as `StopsAtText`
 abbrev pub PassStopsAt : {K : Type 0} → (ℕ → Option K) → InternerId → (before after : PassView) → List Text → (old new : List K) → LassoErrorKind → Type 0
 PassStopsAt key_at of before after texts old new error = StopsAtText key_at of.opening (seen before) (seen after) before.number texts old new error
+
+-- the pass was `first` when it began with the texts, has interned them in order, as `mid`, and has then seen more without an event:
+-- `keys` is `begun` with their keys after it
+pub record HasInterned {K : Type 0} (key_at : ℕ → Option K) (of : InternerId) (first now : PassView) (texts : List Text) (begun keys : List K) : Type 0 where
+  pub mid : PassView
+  pub was : IsSamePass mid first
+  pub added : PassInterns key_at of first mid texts begun keys
+  pub same : IsSamePass now mid
+  pub since : Since mid.number mid.notes now.notes []
+
+-- if it had interned the texts before position `from`, then it has interned those before `done`
+abbrev pub InternsFurther : {K : Type 0} → (ℕ → Option K) → InternerId → (before after : PassView) → List Text → (from done : ℕ) → (old new : List K) → Type 0
+InternsFurther {K} key_at of before after texts from done old new =
+    (first : PassView) (begun : List K) → HasInterned key_at of first before (take from texts) begun old → HasInterned key_at of first after (take done texts) begun new
+
+-- if it had interned these, then it has interned some, and was refused the next one
+abbrev pub StopsFurther : {K : Type 0} → (ℕ → Option K) → InternerId → (before after : PassView) → List Text → (from : ℕ) → (old new : List K) → LassoErrorKind → Type 0
+StopsFurther {K} key_at of before after texts from old new error =
+    (first : PassView) (begun : List K) → HasInterned key_at of first before (take from texts) begun old → PassStopsAt key_at of first after texts begun new error
 
 -- calls of the pass that looked the texts up in order, as `AddsGot`: `new` is `old` with what they returned after it
 abbrev pub PassGets : {K : Type 0} → (ℕ → Option K) → InternerId → (before after : PassView) → List Text → (old new : List (Option K)) → Type 0

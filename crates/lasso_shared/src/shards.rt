@@ -2,9 +2,9 @@
 //!
 //! A text is of one shard, by its hash. A shard's index is exact for a history that the shard has seen. So it
 //! is for each history that begins with that one and has no more texts of the shard, which the spine's number
-//! of them shows. A thread that holds a shard's lock may lock the spine; one that holds the spine's locks no
-//! shard. A thread that adds a bucket holds the spine's lock and locks a third, that of what is owned of the
-//! buckets (`holdings` of the log's memory), under which no other is locked.
+//! of them shows. A thread that holds a shard's lock may lock the spine; one that holds the spine's may try to
+//! lock a shard, but never waits for one. A thread that adds a bucket holds the spine's lock and locks a third,
+//! that of what is owned of the buckets (`holdings` of the log's memory), under which no other is locked.
 ghost use Rattle.std.specs.Prelude.{◌≡◌, ◌<◌, ℕ, length, Some, slice_get};
 ghost use Rattle.lasso_log.specs.SharedBuckets.{names_with_book};
 ghost use Rattle.lasso_log.specs.Views.{InternerId};
@@ -26,6 +26,7 @@ mod put;
 pub mod shard;
 mod store;
 pub mod tag;
+mod together;
 
 use crate::shards::shard::{BoxedShard, BoxedTally};
 use lasso_lock::locks::{TaggedMutex, TaggedRwLock};

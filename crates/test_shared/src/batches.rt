@@ -2,7 +2,7 @@
 //! by one, as calls that take one text do.
 use crate::checks::{runs_as, runs_in_two};
 use Step::{ByNew, ByOne, ByOther, Counts, Finds, IsLimited, Limits, Lists, Reads};
-use lasso_parts::keys::{Key, Spur};
+use lasso_parts::keys::{Key, MicroSpur, Spur};
 use lasso_parts::util::{FixedState, LassoErrorKind};
 use std::hash::BuildHasher;
 use std::test::*;
@@ -96,6 +96,62 @@ fn batches_of_texts_of_each_length(rt: HostRuntime) -> Result<(), Fail> {
         ByNew(Call::Sums(2 * SIZE, 2 * SIZE)),
     ];
     runs_each_length(&rt, Maker::Full(2 * SIZE), &STEPS)
+}
+
+// Some texts of the list come again in it, and some are present.
+#[test]
+fn many_new_texts_with_doubles(rt: HostRuntime) -> Result<(), Fail> {
+    static STEPS: [Step; 5] = [
+        ByOne(TakesAll(Texts(&["p", "q"]), Are(&[0, 1]), None)),
+        ByOther(TakesAll(
+            Texts(&[
+                "a", "b", "", "a", "q", "c", "d", "e", "f", "", "g", "h", "b", "i", "j", "p", "k",
+            ]),
+            Are(&[2, 3, 4, 2, 1, 5, 6, 7, 8, 4, 9, 10, 3, 11, 12, 0, 13]),
+            None,
+        )),
+        Lists(Texts(&[
+            "p", "q", "a", "b", "", "c", "d", "e", "f", "g", "h", "i", "j", "k",
+        ])),
+        ByNew(Call::Sums(usize::MAX, 13)),
+        Counts(14),
+    ];
+    runs_both::<Spur, FixedState, _>(&rt, Maker::Sized(50, 13, usize::MAX), &STEPS)
+}
+
+// Of many new texts the limit refuses the first whose byte has no room. The empty text needs none.
+#[test]
+fn many_new_texts_past_the_limit(rt: HostRuntime) -> Result<(), Fail> {
+    static STEPS: [Step; 5] = [
+        ByOne(TakesAll(
+            Texts(&[
+                "a", "b", "c", "d", "e", "f", "g", "h", "i", "j", "a", "", "k", "l", "m",
+            ]),
+            Are(&[0, 1, 2, 3, 4, 5, 6, 7, 8, 9, 0, 10]),
+            Some(LassoErrorKind::MemoryLimitReached),
+        )),
+        Lists(Texts(&["a", "b", "c", "d", "e", "f", "g", "h", "i", "j", ""])),
+        Finds("k", None),
+        ByNew(Call::Sums(10, 10)),
+        Counts(11),
+    ];
+    runs_both::<Spur, FixedState, _>(&rt, Maker::Full(10), &STEPS)
+}
+
+// 255 texts have a key.
+#[test]
+fn many_new_texts_past_the_last_key(rt: HostRuntime) -> Result<(), Fail> {
+    static STEPS: [Step; 4] = [
+        ByOne(TakesAll(Numbers(0, 250), From(0), None)),
+        ByOther(TakesAll(
+            Numbers(245, 300),
+            Are(&[245, 246, 247, 248, 249, 250, 251, 252, 253, 254]),
+            Some(LassoErrorKind::KeySpaceExhaustion),
+        )),
+        Finds("00255", None),
+        Counts(255),
+    ];
+    runs_both::<MicroSpur, FixedState, _>(&rt, Maker::Sized(50, 4, usize::MAX), &STEPS)
 }
 
 // Two threads intern both lists, each beginning with another one.

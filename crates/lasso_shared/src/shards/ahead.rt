@@ -29,8 +29,8 @@ use std::sync::Wait;
 /// What is known of the texts that come next: a list that was seen, and guesses at their positions in it.
 #[derive(Drop)]
 pub(super) struct Ahead<K: Key> {
-    list: KnownList<K>,
-    guesses: Guesses,
+    pub(super) list: KnownList<K>,
+    pub(super) guesses: Guesses,
 }
 
 impl<K: Key, S: BuildHasher + Drop> Shards<K, S> {
@@ -114,13 +114,14 @@ impl<K: Key, S: BuildHasher + Drop> Shards<K, S> {
         ahead.guesses.begin(&self.hasher, texts);
         ahead.guesses.ask_hints(pass);
         self.guess_in_shards(rt, &mut ahead.guesses);
+        ahead.guesses.count_missing();
         ahead.list = self.log.known_list(pass);
         self.look_at_guesses(&ahead.list, texts, &mut ahead.guesses);
     }
 
     // The key of the text, if it is at the guess.
     #[inline(always)]
-    fn key_guessed(
+    pub(super) fn key_guessed(
         &self,
         pass: &mut Pass<K>,
         list: &KnownList<K>,

@@ -1,4 +1,5 @@
 //! Interning and looking up the texts of a list, one after another, with a look ahead at many of them at a time.
+//! Many new texts are appended under one hold of the spine.
 //!
 //! If hints find most texts when the list comes, each is taken as a single call takes it.
 ghost use Rattle.std.specs.Prelude.{◌≡◌, ◌+◌, ◌<◌, ◌≤◌, ◌⊎◌, length, map, OnOk, OnErr, IfErr, vec_len};
@@ -36,11 +37,15 @@ impl<K: Key, S: BuildHasher + Drop> Shards<K, S> {
         if pass.hints_serve() {
             return self.intern_each(rt, pass, texts, keys);
         }
+        if texts.is_empty() {
+            return Ok(());
+        }
         let mut ahead = self.nothing_ahead();
-        for i in 0..texts.len() {
-            self.look_ahead(rt, pass, &texts[i..], &mut ahead);
-            let key = self.intern_next(rt, pass, texts[i], &mut ahead)?;
-            keys.push_reserved(key);
+        let mut done = 0;
+        while done < texts.len() {
+            self.look_ahead(rt, pass, &texts[done..], &mut ahead);
+            let next = self.intern_some(rt, pass, texts, done, &mut ahead, keys)?;
+            done = next;
         }
         Ok(())
     }

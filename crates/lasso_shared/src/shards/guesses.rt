@@ -18,6 +18,9 @@ use std::hash::BuildHasher;
 /// How many texts are guessed at together: each has a bit in a set of them.
 pub(super) const TOGETHER: usize = 64;
 
+// From this number of texts on that were found nowhere, new ones are appended together.
+const MANY: usize = 8;
+
 /// A guess at the position of a text with this hash, or none.
 #[derive(Clone, Copy)]
 pub(super) struct Guess {
@@ -69,6 +72,8 @@ pub(super) struct Guesses {
     taken: usize,
     // Whether prefetching is skipped for this batch.
     are_left_out: bool,
+    // How many texts were found nowhere.
+    missing: usize,
 }
 
 impl Guesses {
@@ -80,6 +85,7 @@ impl Guesses {
             size: 0,
             taken: 0,
             are_left_out: false,
+            missing: 0,
         }
     }
 
@@ -106,6 +112,30 @@ impl Guesses {
         self.are_left_out
     }
 
+    /// The guess at the next text, if the texts that were looked ahead at have one more.
+    #[inline(always)]
+    pub(super) fn next(&self) -> Option<Guess> {
+        if self.are_left_out || self.are_taken() {
+            return None;
+        }
+        Some(self.each[self.taken % TOGETHER])
+    }
+
+    /// Counts the next text as taken.
+    #[inline(always)]
+    pub(super) fn pass_over(&mut self) {
+        self.taken = self.taken.wrapping_add(1);
+    }
+
+    /// Whether the next text was found nowhere, as enough others of the batch.
+    #[inline(always)]
+    pub(super) fn are_new(&self) -> bool {
+        match self.next() {
+            Some(guess) => guess.position.is_none() && self.missing >= MANY,
+            None => false,
+        }
+    }
+
     /// Takes the guess at the next text.
     #[inline(always)]
     pub(super) fn take(&mut self) -> Guess {
@@ -123,6 +153,7 @@ impl Guesses {
         self.size = size;
         self.taken = 0;
         self.are_left_out = false;
+        self.missing = 0;
     }
 
     /// Asks the hints of the pass.
@@ -134,6 +165,17 @@ impl Guesses {
             guess.position = pass.ask_hint(guess.hash);
             guess.is_hint = guess.position.is_some();
         }
+    }
+
+    /// Counts the texts without a guess.
+    pub(super) fn count_missing(&mut self) {
+        let mut missing = 0usize;
+        for place in 0..self.size.min(TOGETHER) {
+            if self.each[place].position.is_none() {
+                missing = missing.wrapping_add(1);
+            }
+        }
+        self.missing = missing;
     }
 
     /// The places of the texts without a guess, by the number of their shard: a bit for each place.

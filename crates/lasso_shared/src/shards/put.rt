@@ -106,7 +106,7 @@ impl<K: Key, S: BuildHasher + Drop> Shards<K, S> {
 
     // Appends the text. The shard must be whole for what the pass has seen, and the spine must have seen that list. If the key
     // type has no key for the position, the cell is given back.
-    fn append_at<R: Wait>(
+    pub(super) fn append_at<R: Wait>(
         &self,
         rt: &R,
         tally: &mut Tally<K, S>,

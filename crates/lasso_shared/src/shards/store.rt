@@ -36,7 +36,7 @@ impl<K: Key, S: BuildHasher + Drop> Shards<K, S> {
     // Takes `bytes` bytes, at least one, with the spine locked: in a bucket that has room for them, or else in
     // a new one. A refusal adds no event. If the limit refuses, it does so at a step at which the list is as
     // long as the spine's.
-    fn reserve_or_charge<R: Wait>(
+    pub(super) fn reserve_or_charge<R: Wait>(
         &self,
         rt: &R,
         tally: &mut Tally<K, S>,
