@@ -116,7 +116,7 @@ fn many_new_texts_with_doubles(rt: HostRuntime) -> Result<(), Fail> {
         ByNew(Call::Sums(usize::MAX, 13)),
         Counts(14),
     ];
-    runs_both::<Spur, FixedState, _>(&rt, Maker::Sized(50, 13, usize::MAX), &STEPS)
+    runs_both::<Spur, FixedState>(&rt, Maker::Sized(50, 13, usize::MAX), &STEPS)
 }
 
 // Of many new texts the limit refuses the first whose byte has no room. The empty text needs none.
@@ -135,7 +135,7 @@ fn many_new_texts_past_the_limit(rt: HostRuntime) -> Result<(), Fail> {
         ByNew(Call::Sums(10, 10)),
         Counts(11),
     ];
-    runs_both::<Spur, FixedState, _>(&rt, Maker::Full(10), &STEPS)
+    runs_both::<Spur, FixedState>(&rt, Maker::Full(10), &STEPS)
 }
 
 // 255 texts have a key.
@@ -151,7 +151,7 @@ fn many_new_texts_past_the_last_key(rt: HostRuntime) -> Result<(), Fail> {
         Finds("00255", None),
         Counts(255),
     ];
-    runs_both::<MicroSpur, FixedState, _>(&rt, Maker::Sized(50, 4, usize::MAX), &STEPS)
+    runs_both::<MicroSpur, FixedState>(&rt, Maker::Sized(50, 4, usize::MAX), &STEPS)
 }
 
 // Two threads intern both lists, each beginning with another one.
