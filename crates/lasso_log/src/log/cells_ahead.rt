@@ -18,7 +18,7 @@ use std::marker::Model;
 use std::sync::Wait;
 
 // Sixteen cells are asked for, from the length on. The last one lies this far past the first.
-const AHEAD: u64 = 15;
+pub(super) const AHEAD: u64 = 15;
 
 /// Shows that the cells of the next sixteen positions are made, past the list of a history that was seen:
 /// each is in the chunk of the first of them or in that of the last. It takes 8 bytes, the list's length. A

@@ -11,7 +11,7 @@ ghost use base.Fml.{Incl};
 ghost use Rattle.lasso_log.specs.Eras.{life};
 ghost use Rattle.lasso_log.specs.Chunks.{IsCellAt, era_named};
 
-use crate::log::cells_ahead::CellsAhead;
+use crate::log::cells_ahead::{AHEAD, CellsAhead};
 use crate::log::kept_cell::KeptCell;
 use crate::log::note::{Change, Note};
 use crate::log::pass::Pass;
@@ -111,8 +111,9 @@ impl<K: Key> Spine<K> {
 }
 
 impl<K: Key> Log<K> {
-    /// Keeps one cell more for a text to come, until it is appended or given back. It fails only out of
-    /// memory (`FailedAllocation`), which it also returns for position 2^64 - 1. Nothing changes then.
+    /// Keeps one cell more for a text to come, until it is appended or given back. The cells of the fifteen
+    /// positions after it are made too, for a caller that looked at those ahead before this text came. It fails
+    /// only out of memory (`FailedAllocation`), which it also returns for position 2^64 - 1. Nothing changes then.
     pub fn reserve_next(&self, alloc: Global, spine: &mut Spine<K>) -> LassoResult<KeptCell<K>>
         requires { spine.old.of ≡ self.now }
         ensures cell { IfOk result (λ cell. cell ≡ self.now) }
@@ -127,6 +128,8 @@ impl<K: Key> Log<K> {
             return Err(LassoError::new(LassoErrorKind::FailedAllocation));
         }
         self.memory.chunks.make_chunk(alloc, position)?;
+        let end = position.saturating_add(AHEAD);
+        self.memory.chunks.make_chunk(alloc, end)?;
         spine.kept += 1;
         Ok(KeptCell::new(self.snapshot()))
     }
