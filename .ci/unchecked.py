@@ -31,14 +31,14 @@ def without_checks(text):
 
 def build_object(crate, target, change):
     """Compiles the tests of the crate in this folder into the object file. `change` is the file of a script, and words for it, that calls `stand_in`
-    with the words after these. Returns what rt said if there is no such file then, or None."""
+    with the words after these. Returns what rt said and its status if there is no such file then, or None."""
     def script(compiler):
         return SCRIPT.format(python=sys.executable, change=change, target=target, compiler=compiler)
 
     with open(f"{target}.said", "w+", encoding="utf-8", errors="replace") as said:
-        run_try(script, ["--test", "--steps", "1"], cwd=crate, stdin=subprocess.DEVNULL, stdout=said, stderr=said)
+        status = run_try(script, ["--test", "--steps", "1"], cwd=crate, stdin=subprocess.DEVNULL, stdout=said, stderr=said)
         said.seek(0)
-        return None if os.path.exists(target) else said.read()
+        return None if os.path.exists(target) else f"{said.read()}rt ended with status {status}\n"
 
 
 def stand_in(change, target, compiler, *words):

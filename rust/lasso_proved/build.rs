@@ -40,34 +40,38 @@ fn link_archive(folder: &Path) -> Result<(), String> {
     let folder = folder
         .canonicalize()
         .map_err(|error| format!("The folder {shown:?} can't be read: {error}"))?;
-    // cargo takes each line that is printed for an order.
-    if folder.to_string_lossy().contains('\n') {
-        return Err(format!("The folder {folder:?} has a line feed in its name"));
-    }
-    let file = folder.join("liblasso.a");
-    if !file.is_file() {
+    // cargo takes each line that is printed for an order, and cuts the blanks at its end.
+    let name = folder
+        .to_str()
+        .filter(|name| !name.contains('\n') && name.trim_end() == *name)
+        .ok_or_else(|| format!("cargo can't be told the folder {folder:?}"))?;
+    if !folder.join("liblasso.a").is_file() {
         return Err(format!("The folder {shown:?} has no liblasso.a"));
     }
-    println!("cargo:rerun-if-changed={}", file.display());
-    println!("cargo:rustc-link-search=native={}", folder.display());
+    println!("cargo:rerun-if-changed={name}/liblasso.a");
+    println!("cargo:rustc-link-search=native={name}");
     println!("cargo:rustc-link-lib=static=lasso");
     Ok(())
 }
 
-/// The words that pkg-config prints: blanks end them, unless a backslash is before a blank.
-fn words_of(text: &str) -> Vec<String> {
-    let mut words = vec![String::new()];
-    let mut letters = text.chars();
-    while let Some(letter) = letters.next() {
+/// The words that pkg-config prints: blanks end them, unless a backslash is before a blank. Of a letter that is not
+/// ASCII each byte has one.
+fn words_of(text: &[u8]) -> Vec<String> {
+    let mut words = vec![Vec::new()];
+    let mut bytes = text.iter().copied();
+    while let Some(byte) = bytes.next() {
         let last = words.len() - 1;
-        match letter {
-            '\\' => words[last].extend(letters.next()),
-            _ if letter.is_whitespace() => words.push(String::new()),
-            _ => words[last].push(letter),
+        match byte {
+            b'\\' => words[last].extend(bytes.next()),
+            _ if byte.is_ascii_whitespace() => words.push(Vec::new()),
+            _ => words[last].push(byte),
         }
     }
     words.retain(|word| !word.is_empty());
     words
+        .iter()
+        .map(|word| String::from_utf8_lossy(word).into_owned())
+        .collect()
 }
 
 /// Links what lasso.pc names: the installed library, or the file that `make c` has built. Another
@@ -87,7 +91,7 @@ fn link_by_pkg_config() -> Result<(), String> {
             told.trim()
         ));
     }
-    let words = words_of(&String::from_utf8_lossy(&output.stdout));
+    let words = words_of(&output.stdout);
     // cargo takes each line that is printed for an order.
     if let Some(word) = words.iter().find(|word| word.contains('\n')) {
         return Err(format!("{command} names {word:?}, which has a line feed"));
