@@ -181,6 +181,24 @@ fn refuses(
     is_so(rt, kept_cells(rt, shards) == 0, "the cells");
 }
 
+// A call that does not wait makes the cells after its text's too: a call that looked at sixteen ahead before many of
+// these finds its own.
+#[test]
+fn cells_are_made_past_a_text_that_did_not_wait(rt: HostRuntime) -> Result<(), Fail> {
+    let shards: Shards<Spur, FixedState> = Shards::open(rt.alloc(), FixedState::new(), OPENED)?;
+    let mut pass = shards.log.pass();
+    for (position, text) in items_of(rt.alloc(), Numbers(0, 300))?.iter().enumerate() {
+        let reply = shards.intern_now(&mut pass, text).map(numbered);
+        is_so(
+            &rt,
+            matches!(reply, Some(Ok(number)) if number == position),
+            text,
+        );
+        is_so(&rt, shards.log.cells() >= position as u64 + 16, "the cells");
+    }
+    Ok(())
+}
+
 // All 255 keys are used up by static texts. No refused text keeps a cell.
 #[test]
 fn a_refused_text_gives_its_slot_back(rt: HostRuntime) -> Result<(), Fail> {
