@@ -102,7 +102,7 @@ def _library() -> tuple[Path, Path]:
 def _variable(name: str) -> str:
     """A folder that lasso.pc names."""
     try:
-        run = subprocess.run(["pkg-config", f"--variable={name}", "lasso"], stdout=subprocess.PIPE, stderr=subprocess.STDOUT, text=True, errors="replace", check=False)
+        run = subprocess.run(["pkg-config", f"--variable={name}", "lasso"], stdout=subprocess.PIPE, stderr=subprocess.STDOUT, text=True, errors="surrogateescape", check=False)
         found, said = run.stdout.strip() if run.returncode == 0 else "", run.stdout
     except OSError as fault:
         found, said = "", str(fault)
