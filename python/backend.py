@@ -38,8 +38,8 @@ def build_wheel(wheel_directory: str, config_settings: Any = None, metadata_dire
 
 def build_editable(wheel_directory: str, config_settings: Any = None, metadata_directory: Any = None) -> str:
     """The same for ``pip install -e``: a wheel that leads to this folder, in which the extension module is built."""
-    # Python runs a line of a .pth file that begins with `import`.
-    if not str(HERE).isprintable():
+    # Python runs a line of a .pth file that begins with `import`, and cuts blanks at the end of one.
+    if not str(HERE).isprintable() or str(HERE).endswith(" "):
         sys.exit(f"{str(HERE)!r}: no .pth file can name such a folder")
     build_core(HERE / "lasso" / CORE)
     return _write(wheel_directory, "py3-none-any", {"lasso.pth": f"{HERE}\n".encode()})
@@ -102,7 +102,7 @@ def _library() -> tuple[Path, Path]:
 def _variable(name: str) -> str:
     """A folder that lasso.pc names."""
     try:
-        run = subprocess.run(["pkg-config", f"--variable={name}", "lasso"], stdout=subprocess.PIPE, stderr=subprocess.STDOUT, text=True, errors="replace", check=False)
+        run = subprocess.run(["pkg-config", f"--variable={name}", "lasso"], stdout=subprocess.PIPE, stderr=subprocess.STDOUT, text=True, errors="surrogateescape", check=False)
         found, said = run.stdout.strip() if run.returncode == 0 else "", run.stdout
     except OSError as fault:
         found, said = "", str(fault)

@@ -48,9 +48,10 @@ int main(void)
             wrong |= workers[k].codes[n] != workers[0].codes[n];
     /* Which text has code 0 depends on the order of the threads. */
     wrong = wrong || lasso_shared_text_now(&shared, 0, &text) != LASSO_DONE;
-    if (!wrong)
+    if (!wrong) {
         printf("%zu texts, each with one code; code 0 is %.*s\n", lasso_shared_len(&shared), (int)text.length, (const char *)text.bytes);
-    else
+        wrong = fflush(stdout) != 0;
+    } else
         fputs("no memory, no thread, or a text with two codes\n", stderr);
     for (int k = 0; k < THREADS; k++)
         lasso_shared_free(&workers[k].handle);

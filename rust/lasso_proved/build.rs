@@ -55,8 +55,8 @@ fn link_archive(folder: &Path) -> Result<(), String> {
 }
 
 /// The words that pkg-config prints: blanks end them, unless a backslash is before a blank. Of a letter that is not
-/// ASCII each byte has one.
-fn words_of(text: &[u8]) -> Vec<String> {
+/// ASCII each byte has one. None, if a word is not UTF-8: cargo can't be told it.
+fn words_of(text: &[u8]) -> Option<Vec<String>> {
     let mut words = vec![Vec::new()];
     let mut bytes = text.iter().copied();
     while let Some(byte) = bytes.next() {
@@ -69,8 +69,8 @@ fn words_of(text: &[u8]) -> Vec<String> {
     }
     words.retain(|word| !word.is_empty());
     words
-        .iter()
-        .map(|word| String::from_utf8_lossy(word).into_owned())
+        .into_iter()
+        .map(|word| String::from_utf8(word).ok())
         .collect()
 }
 
@@ -91,7 +91,8 @@ fn link_by_pkg_config() -> Result<(), String> {
             told.trim()
         ));
     }
-    let words = words_of(&output.stdout);
+    let words = words_of(&output.stdout)
+        .ok_or_else(|| format!("{command} names a folder that is not UTF-8"))?;
     // cargo takes each line that is printed for an order.
     if let Some(word) = words.iter().find(|word| word.contains('\n')) {
         return Err(format!("{command} names {word:?}, which has a line feed"));
