@@ -278,9 +278,9 @@ pub fn steps_of(alloc: Global, case: Case, steps: &[Step]) -> LassoResult<Vec<St
 pub enum Maker {
     /// With the default capacity and without a limit.
     Default,
-    /// Of room for so many texts, a first bucket of so many bytes, at least one, and under this limit.
+    /// With room for this number of texts, a first bucket of this number of bytes, at least one, and this limit.
     Sized(usize, usize, usize),
-    /// With a first bucket of so many bytes, which are also its limit.
+    /// With a first bucket of this number of bytes, which is also its limit.
     Full(usize),
     /// Of the items of the list.
     Items(List),
