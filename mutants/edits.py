@@ -20,6 +20,8 @@ KNOWN_EVERYWHERE = ("Some", "Ok", "Err", "Vec", "String", "Box", "Option")
 EDITED = re.compile(r"(src|specs|proofs)/[\w/+-]+\.(rt|antt)")
 EXAMPLES = "lasso_shared"
 KEYS = ("file", "function", "old", "new", "proof", "test", "case", "example", "gate", "ends")
+# The form of what names a crate, a function or a file: with another name a path would lead out of the copy that is tried.
+FORMS = {"function": r"[\w:+]+", "proof": r"\w+", "test": r"\w+ [\w:]+", "case": r"\w+ \w+", "example": r"\w+ \w+"}
 # What has to refuse a mutant that the gate gives to the prover.
 BY_A_GOAL, BY_THE_PROVER = "a goal", "the prover"
 GATE = re.compile(rf"(\w+)(?:, ({BY_A_GOAL}|{BY_THE_PROVER}))?")
@@ -80,10 +82,11 @@ def edit_of(crate, name, lines):
         raise Unfit(f"{crate}/{name} is no mutant")
     if not EDITED.fullmatch(values["file"][0]):
         raise Unfit(f"{crate}/{name}: this is no file of a crate: {values['file'][0]}")
+    for key, form in FORMS.items():
+        if not all(re.fullmatch(form, words) for words in values[key]):
+            raise Unfit(f"{crate}/{name}: a line `{key}:` has other words: {', '.join(values[key])}")
     function = f"{crate}::{values['function'][0]}" if values["function"] else ""
     tests, cases, examples = ([tuple(words.split(" ")) for words in values[kind]] for kind in ("test", "case", "example"))
-    if any(len(words) != 2 for words in tests + cases + examples):
-        raise Unfit(f"{crate}/{name}: a test, a case and an example have two words each")
     gate = gate_of(f"{crate}/{name}", values["gate"], bool(tests or cases))
     if values["ends"] not in ([], ["never"]) or values["ends"] and not tests and not cases:
         raise Unfit(f"{crate}/{name}: a line `ends:` says `never`, of a mutant with a test or a case")
