@@ -82,11 +82,11 @@ struct List {
     shards: Vec<Shard>,
     latch: Latch,
     spine: UnsafeCell<Spine>,
-    cells: UnsafeCell<Vec<Cell>>,
+    cells: Box<[UnsafeCell<Cell>]>,
     /// How many cells may be read.
     len: AtomicUsize,
     /// The bucket that all threads share.
-    bucket: UnsafeCell<Vec<u8>>,
+    bucket: Box<[UnsafeCell<u8>]>,
     used: AtomicUsize,
 }
 
@@ -160,15 +160,16 @@ impl List {
                 len: 0,
                 counts: [0; SHARDS],
             }),
-            cells: UnsafeCell::new(vec![none; texts]),
+            cells: (0..texts).map(|_| UnsafeCell::new(none)).collect(),
             len: AtomicUsize::new(0),
-            bucket: UnsafeCell::new(vec![1; bytes]),
+            bucket: (0..bytes).map(|_| UnsafeCell::new(1)).collect(),
             used: AtomicUsize::new(0),
         }
     }
 
     fn cell(&self, at: usize) -> &Cell {
-        unsafe { &(&*self.cells.get())[at] }
+        // Nobody writes a cell once its position is known.
+        unsafe { &*self.cells[at].get() }
     }
 
     /// The text's position, or its free slot. The shard is locked.
@@ -214,20 +215,17 @@ impl List {
         {
             at = now;
         }
-        unsafe {
-            let bucket = &mut *self.bucket.get();
-            assert!(at + text.len() <= bucket.len());
-            let start = bucket.as_mut_ptr().add(at);
-            ptr::copy_nonoverlapping(text.as_ptr(), start, text.len());
-            start
-        }
+        let start = self.bucket[at..at + text.len()].as_ptr() as *mut u8;
+        // Nobody else has these bytes.
+        unsafe { ptr::copy_nonoverlapping(text.as_ptr(), start, text.len()) };
+        start
     }
 
     /// Appends a text. The spine is locked.
     fn append(&self, cell: Cell) -> usize {
         let spine = unsafe { &mut *self.spine.get() };
         let at = spine.len;
-        unsafe { (&mut *self.cells.get())[at] = cell };
+        unsafe { *self.cells[at].get() = cell };
         spine.len += 1;
         spine.counts[shard_of(cell.hash)] += 1;
         self.len.swap(at + 1, AcqRel);
