@@ -93,9 +93,10 @@ fn link_by_pkg_config() -> Result<(), String> {
     }
     let words = words_of(&output.stdout)
         .ok_or_else(|| format!("{command} names a folder that is not UTF-8"))?;
-    // cargo takes each line that is printed for an order.
-    if let Some(word) = words.iter().find(|word| word.contains('\n')) {
-        return Err(format!("{command} names {word:?}, which has a line feed"));
+    // cargo takes each line that is printed for an order, and cuts the blanks at its end.
+    let is_told = |word: &str| !word.contains('\n') && word.trim_end() == word;
+    if let Some(word) = words.iter().find(|word| !is_told(word)) {
+        return Err(format!("{command} names {word:?}, which cargo can't be told"));
     }
     // The loader doesn't look into such a folder, and an rpath reaches no program of another crate.
     let unknown = words.iter().find_map(|word| word.strip_prefix("-Wl,-rpath,"));
