@@ -53,11 +53,12 @@ def ran(words, seconds=None, **options):
 
 
 def said_of(words, **options):
-    """What a command writes, which has to end well; all of it is shown if it does not."""
-    status, said = ran(words, **options)
-    if status:
-        sys.exit(f"{said}{' '.join(words)} ended with status {status}")
-    return said
+    """What a command writes to standard output. It has to end well; all that it said is shown if it does not."""
+    done = subprocess.run(words, stdin=subprocess.DEVNULL, capture_output=True, check=False, **options)
+    written, more = (part.decode("utf-8", "replace") for part in (done.stdout, done.stderr))
+    if done.returncode:
+        sys.exit(f"{written}{more}{' '.join(words)} ended with status {done.returncode}")
+    return written
 
 
 def read(path, errors="strict"):
