@@ -4,16 +4,18 @@ from __future__ import annotations
 
 import threading
 from array import array
-from collections.abc import Iterable, Iterator
+from collections.abc import Callable, Iterable, Iterator
 from types import TracebackType
 from typing import Any, TypeVar
 
 from lasso._core import Seat
 from lasso.codes import NULL, Codes
+from lasso.errors import InternerClosed
 from lasso.interner import Interner, halves
 from lasso.sources import ArrowArray, ArrowStream, ArrowStrings, encode_into
 
 _Kind = TypeVar("_Kind", bound="SharedInterner")
+_Number = TypeVar("_Number")
 
 
 class _Seats(threading.local):
@@ -65,12 +67,12 @@ class SharedInterner:
     @property
     def memory(self) -> int:
         """How many bytes the texts' buckets take."""
-        return 0 if self.closed else self._seats.seat.memory
+        return self._of_seat(lambda seat: seat.memory)
 
     @property
     def limit(self) -> int | None:
         """How many bytes they may take, or None. It can be set. Below what they take only the room that is left in them is used."""
-        return 0 if self.closed else self._seats.seat.limit
+        return self._of_seat(lambda seat: seat.limit)
 
     @limit.setter
     def limit(self, limit: int | None) -> None:
@@ -89,10 +91,10 @@ class SharedInterner:
         return text in self._seats.seat
 
     def __getitem__(self, code: int) -> str:
-        return self._first[code] if self.closed else self._seats.seat[code]
+        return self._seats.seat[code]
 
     def __len__(self) -> int:
-        return 0 if self.closed else len(self._seats.seat)
+        return self._of_seat(len)
 
     def texts(self, start: int = 0) -> list[str]:
         """The texts from a code on, up to those of now, in the order of their codes. Raises ValueError for a code below 0."""
@@ -123,6 +125,13 @@ class SharedInterner:
         made = Interner.__new__(Interner)
         self._seats.seat._clone(made)
         return made
+
+    def _of_seat(self, number: Callable[[Seat], _Number]) -> _Number | int:
+        """A number of the thread's handle, or 0 once the interner is closed. Another thread may close it at any time."""
+        try:
+            return number(self._seats.seat)
+        except InternerClosed:
+            return 0
 
     def _dictionary_array(self, codes: array[int]) -> tuple[object, object]:
         with self.snapshot() as interner:

@@ -357,6 +357,21 @@ def test_tells_that_it_is_closed() -> None:
         shared.limit = 1
 
 
+def test_is_closed_while_another_thread_makes_its_first_call() -> None:
+    class Late(SharedInterner):
+        """It seems open for a moment longer, as to a thread that has looked just before."""
+
+        closed = False
+
+    shared = Late()
+    shared.intern("a")
+    shared.close()
+    for call in (lambda: len(shared), lambda: shared.memory, lambda: shared.limit):
+        together(lambda: [0].index(call() or 0))
+    with pytest.raises(InternerClosed):
+        together(lambda: shared[0])
+
+
 def test_is_closed_while_others_go_on() -> None:
     rows = [f"text {row}" for row in range(20000)]
     for kind in (list, Columns):
