@@ -23,7 +23,8 @@ use std::sync::{Mutex, PoisonError};
 /// [`with_seed`](Self::with_seed).
 ///
 /// Calls of different threads go on at once. Only an absent text takes a lock of the whole interner,
-/// and only if the key type has fewer keys than the library.
+/// and only if the key type has fewer keys than the library. A thread's first call takes memory for a handle;
+/// a call that returns no error panics if there is none.
 ///
 /// ```rust
 /// use lasso_proved::ThreadedRodeo;
@@ -140,7 +141,8 @@ impl<K: Key, S: BuildHasher> ThreadedRodeo<K, S> {
     /// # Errors
     ///
     /// An absent text is refused if no key is left, then if the limit has no room for it, and if
-    /// memory is out. The interner is as it was then. A present text is never refused.
+    /// memory is out. The interner is as it was then. A present text is refused only if a thread's first
+    /// call has no memory for its handle.
     ///
     /// ```rust
     /// use lasso_proved::{MicroSpur, ThreadedRodeo};
