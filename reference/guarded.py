@@ -31,8 +31,8 @@ class Pages:
     def new(self):
         """Maps the pages."""
         base = SYSTEM.mmap(None, self.size + 2 * PAGE, mmap.PROT_READ | mmap.PROT_WRITE, mmap.MAP_PRIVATE | mmap.MAP_ANONYMOUS, -1, 0)
-        SYSTEM.mprotect(base, PAGE, 0)
-        SYSTEM.mprotect(base + PAGE + self.size, PAGE, 0)
+        if any(SYSTEM.mprotect(page, PAGE, 0) for page in (base, base + PAGE + self.size)):
+            raise OSError(ctypes.get_errno(), "a buffer has no page after it that can't be touched")
         return base + PAGE
 
     def content(self):
