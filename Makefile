@@ -14,8 +14,8 @@ JOINED = out/liblasso.a
 # The same without proof, in a folder that make install and make c don't read.
 UNPROVED = out/unproved/liblasso.a
 # A name with other letters would reach make, and the shell, as more than a name; no source has one.
-SOURCES = crates.txt $(shell LC_ALL=C find crates -type f \( -path '*/src/*' -o -path '*/specs/*' -o -path '*/proofs/*' \) \
-	-not -path '*/out/*' -not -path '*[!A-Za-z0-9_./+-]*')
+SOURCES = crates.txt HANDLES $(shell LC_ALL=C find crates -type f \( -path '*/src/*' -o -path '*/specs/*' -o -path '*/proofs/*' \) \
+	-not -path '*/out/*' -not -path '*[!A-Za-z0-9_./+-]*') $(if $(filter-out 0,$(.SHELLSTATUS)),listed)
 
 # Of what rt says, which crate is proved and how far it is (sed reads and writes line by line; awk need not). Where rt
 # is told how many jobs to run, it does not name the crate.
@@ -49,7 +49,7 @@ define offer
 		"pkg-config: PKG_CONFIG_PATH=$$PWD/$(1) pkg-config --cflags --libs lasso"
 endef
 
-.PHONY: help try try-c run codes c check test verify docs fmt bench examples reference all install uninstall deb clean input crate toolchain python
+.PHONY: listed help try try-c run codes c check test verify docs fmt bench examples reference all install uninstall deb clean input crate toolchain python
 
 #: make                              this list
 help:
@@ -198,6 +198,10 @@ fmt: toolchain
 #: make clean                        removes what was proved and built in this folder; what rt ci keeps stays
 clean:
 	rm -rf out crates/*/out crates/*/out.log crates/*/out.failed crates/*/out.begun
+
+# Where find failed, a program that was built before could be older than a source that is not listed.
+listed:
+	@echo "find can't list the sources below crates" >&2; exit 1
 
 # The file can be read, or the command ends before anything is built.
 input:

@@ -1,6 +1,7 @@
 """Runs a program over streams that go as a case says."""
 import os
 import pty
+import re
 import select
 import subprocess
 import tempfile
@@ -14,6 +15,10 @@ FOLDER = "a folder"
 # Outputs that are no files.
 FULL = "a full device"
 GONE = "a pipe that nobody reads"
+
+# The words of cases/shim.c, of which a run has those of its case alone.
+with open(os.path.join(os.path.dirname(os.path.abspath(__file__)), "shim.c"), encoding="utf-8") as _source:
+    WORDS = set(re.findall(r'"([A-Z_]+)"', _source.read()))
 
 # How long an answer to typed input may take.
 PATIENCE = max(10, int(os.environ.get("CASE_SECONDS", "60")) // 6)
@@ -165,7 +170,7 @@ def run(path, case, shim, seconds, before=()):
     """Runs the program for the case, by the words of another one if some are given."""
     with tempfile.TemporaryDirectory() as room:
         streams = Streams(case, room)
-        environment = dict(os.environ)
+        environment = {name: word for name, word in os.environ.items() if name not in WORDS}
         trace = os.open(os.path.join(room, "trace"), os.O_WRONLY | os.O_CREAT | os.O_APPEND)
         if case.words or any(wanted is not None for wanted in (case.calls, case.reads, case.threads)):
             # In a longer path the loader would take a blank or a colon for the end of a library's name.

@@ -50,7 +50,7 @@ int main(void)
     wrong = wrong || lasso_shared_text_now(&shared, 0, &text) != LASSO_DONE;
     if (!wrong) {
         printf("%zu texts, each with one code; code 0 is %.*s\n", lasso_shared_len(&shared), (int)text.length, (const char *)text.bytes);
-        wrong = fflush(stdout) != 0;
+        wrong = fflush(stdout) != 0 || ferror(stdout);
     } else
         fputs("no memory, no thread, or a text with two codes\n", stderr);
     for (int k = 0; k < THREADS; k++)

@@ -5,9 +5,9 @@ The workers and this program see the folders by the same names. OUT gets, for ea
 `dictionaries/NAME`, that column's distinct lines, and `codes/NAME`, the codes of its lines in OUT/dictionary: the distinct lines of all parts in
 the order of the parts' names. Dictionaries are merged FAN at a time, then those that come of it, until one is left. Each task is one run of
 `lasso_codes`: the program at `$LASSO_CODES`, or else the repository's, which the workers see by the same name too. Names are in the order that
-`LC_ALL=C` gives them; one that begins with a dot is refused, since `cat OUT/codes/*` would pass over it. A task that fails ends the
-program with what `lasso_codes` said; a task whose worker is lost is done again by another one, and ends the program if it is lost more often
-than the scheduler's `allowed-failures`.
+`LC_ALL=C` gives them, so that `(LC_ALL=C; cat OUT/dictionary OUT/codes/*) | lasso_codes join` is the column of all lines; a name that begins with
+a dot is refused, since it would pass over that. A task that fails ends the program with what `lasso_codes` said; a task whose worker is lost is
+done again by another one, and ends the program if it is lost more often than the scheduler's `allowed-failures`.
 """
 import contextlib
 import os
@@ -106,7 +106,8 @@ if __name__ == "__main__":
     if len(sys.argv) != 4:
         sys.exit("usage: encode.py SCHEDULER PARTS OUT")
     try:
-        main(sys.argv[1], Path(sys.argv[2]), Path(sys.argv[3]))
+        # Of a part `-` in the folder `.` cat would read its input.
+        main(sys.argv[1], Path(sys.argv[2]).absolute(), Path(sys.argv[3]).absolute())
     except (OSError, RuntimeError) as fault:
         sys.exit(str(fault))
     except KilledWorker as fault:

@@ -11,10 +11,9 @@ import random
 import sys
 import tempfile
 import time
-from pathlib import Path
 from typing import Any
 
-from osgeo import gdal, ogr
+from osgeo import _ogr, gdal, ogr
 
 from lasso import NULL, Interner
 
@@ -28,7 +27,8 @@ class Layer:
         self.layer = layer
 
     def __arrow_c_stream__(self, requested_schema: object = None) -> object:
-        library = ctypes.CDLL(next(line.split()[-1] for line in Path("/proc/self/maps").read_text(encoding="utf-8").splitlines() if "libgdal" in line))
+        # The module is linked with GDAL, and has its calls too.
+        library = ctypes.CDLL(_ogr.__file__)
         library.OGR_L_GetArrowStream.argtypes = [ctypes.c_void_p, ctypes.c_void_p, ctypes.c_void_p]
         library.OGR_L_GetArrowStream.restype = ctypes.c_bool
         capsule = ctypes.pythonapi.PyCapsule_New

@@ -58,7 +58,6 @@ impl fmt::Display for RunFault {
 
     fn fmt<W: fmt::Write>(&self, f: &mut fmt::Formatter<W>) -> fmt::Result {
         match self {
-            RunFault::Refused(line, error) if *line == 0 => write!(f, "{error}"),
             RunFault::Refused(line, error) => write!(f, "line {line}: {error}"),
             RunFault::NotText(line) => write!(f, "line {line}: not UTF-8"),
             RunFault::Usage => write!(f, "usage: lasso_lines [--limit N] [--workers N]"),
