@@ -331,6 +331,11 @@ impl SharedHandle {
         }
     }
 
+    /// Whether threads shared the interner before it was frozen.
+    pub(crate) fn is_of_many(&self) -> bool {
+        matches!(self.owner, Owner::Many(_))
+    }
+
     /// The code of a text, or `None` if it is absent.
     #[inline]
     pub(crate) fn get(&self, text: &str) -> Option<u32> {

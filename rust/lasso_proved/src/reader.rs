@@ -66,9 +66,14 @@ impl<K, S> RodeoReader<K, S> {
         &self.hasher
     }
 
-    /// Copies the texts into one piece of memory, and lets the rest go. What is made resolves keys.
+    /// Makes it what only resolves keys, as the interner's own `into_resolver` does: it copies the texts
+    /// of a [`Rodeo`](crate::Rodeo), and those of a [`ThreadedRodeo`](crate::ThreadedRodeo) stay where
+    /// they are.
     #[must_use]
     pub fn into_resolver(self) -> RodeoResolver<K> {
+        if self.handle.is_of_many() {
+            return RodeoResolver::with_handle(self.handle);
+        }
         RodeoResolver::with_texts(self.strings())
     }
 }

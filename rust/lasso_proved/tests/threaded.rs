@@ -4,7 +4,7 @@ mod support;
 
 use lasso_proved::{
     Capacity, Key, LassoErrorKind, MemoryLimits, MicroSpur, MiniSpur, Rodeo, RodeoReader,
-    RodeoResolver, Spur, ThreadedRodeo,
+    RodeoResolver, Spur, Strings, ThreadedRodeo,
 };
 use std::collections::hash_map::RandomState;
 use std::collections::HashSet;
@@ -404,6 +404,35 @@ fn a_frozen_interner_is_read_in_64_threads() {
             assert_eq!((reader.get("absent"), reader.contains("")), (None, false));
         });
         assert!(reader.into_resolver().strings().last() == Some("last"));
+    }
+}
+
+/// Short and long texts of threads that have ended are where they were.
+#[test]
+fn freezing_copies_no_text() {
+    fn places(texts: Strings<'_, Spur>) -> Vec<*const u8> {
+        texts.map(str::as_ptr).collect()
+    }
+    for freeze in [
+        |rodeo: ThreadedRodeo| rodeo.into_resolver(),
+        |rodeo: ThreadedRodeo| {
+            let were = places(rodeo.strings());
+            let reader = rodeo.into_reader();
+            assert_eq!(places(reader.strings()), were);
+            reader.into_resolver()
+        },
+    ] {
+        let rodeo = ThreadedRodeo::default();
+        at_once(8, |number| {
+            for length in LENGTHS {
+                rodeo.get_or_intern(text_of(number, length));
+            }
+        });
+        let texts: Vec<String> = rodeo.strings().map(String::from).collect();
+        let were = places(rodeo.strings());
+        let resolver = freeze(rodeo);
+        assert_eq!(places(resolver.strings()), were);
+        at_once(MANY, |_| assert!(resolver.strings().eq(&texts)));
     }
 }
 
