@@ -31,8 +31,7 @@ impl<K> Serialize for RodeoResolver<K> {
 impl<'de, K: Key, S: BuildHasher + Default> Deserialize<'de> for Rodeo<K, S> {
     fn deserialize<D: Deserializer<'de>>(deserializer: D) -> Result<Self, D::Error> {
         let texts = Vec::<String>::deserialize(deserializer)?;
-        let bytes = NonZeroUsize::new(texts.iter().map(String::len).sum());
-        let capacity = Capacity::new(texts.len(), bytes.unwrap_or(Capacity::default().bytes()));
+        let capacity = room_for(texts.iter());
         let mut rodeo = Self::try_made(capacity, MemoryLimits::default(), S::default())
             .map_err(Error::custom)?;
         for (position, text) in texts.iter().enumerate() {
@@ -45,6 +44,13 @@ impl<'de, K: Key, S: BuildHasher + Default> Deserialize<'de> for Rodeo<K, S> {
         }
         Ok(rodeo)
     }
+}
+
+/// Room for just these texts.
+fn room_for<'a>(texts: impl ExactSizeIterator<Item = &'a String>) -> Capacity {
+    let count = texts.len();
+    let bytes = NonZeroUsize::new(texts.map(String::len).sum());
+    Capacity::new(count, bytes.unwrap_or(Capacity::default().bytes()))
 }
 
 /// As a `Rodeo` is read.
@@ -79,7 +85,9 @@ where
         let keys = HashMap::<String, K>::deserialize(deserializer)?;
         let mut texts: Vec<_> = keys.iter().collect();
         texts.sort_unstable_by_key(|(_, key)| key.into_usize());
-        let rodeo = Self::with_hasher(S::default());
+        let capacity = room_for(keys.keys());
+        let rodeo = Self::try_made(capacity, MemoryLimits::default(), S::default())
+            .map_err(Error::custom)?;
         for (position, (text, key)) in texts.into_iter().enumerate() {
             if key.into_usize() != position {
                 return Err(Error::custom(format_args!(

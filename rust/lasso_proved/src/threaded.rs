@@ -79,12 +79,12 @@ impl<K: Key> ThreadedRodeo<K, RandomState> {
     /// assert_eq!(rodeo.get_or_intern("red").into_usize(), 0);
     /// ```
     pub fn with_seed(seed0: u64, seed1: u64) -> Self {
-        Self::seeded(
+        or_panic(Self::try_seeded(
             Capacity::default(),
             MemoryLimits::default(),
             RandomState::new(),
             Seed(seed0, seed1),
-        )
+        ))
     }
 }
 
@@ -109,21 +109,30 @@ impl<K: Key, S: BuildHasher> ThreadedRodeo<K, S> {
         memory_limits: MemoryLimits,
         hash_builder: S,
     ) -> Self {
-        Self::seeded(capacity, memory_limits, hash_builder, Seed::random())
+        or_panic(Self::try_made(capacity, memory_limits, hash_builder))
     }
 
-    fn seeded(
+    /// The same with an error in place of the panic, which is `FailedAllocation`.
+    pub(crate) fn try_made(
         capacity: Capacity,
-        memory_limits: MemoryLimits,
-        hash_builder: S,
+        limits: MemoryLimits,
+        hasher: S,
+    ) -> LassoResult<Self> {
+        Self::try_seeded(capacity, limits, hasher, Seed::random())
+    }
+
+    fn try_seeded(
+        capacity: Capacity,
+        limits: MemoryLimits,
+        hasher: S,
         seed: Seed,
-    ) -> Self {
-        Self {
-            users: or_panic(Users::new(capacity, memory_limits, seed)),
+    ) -> LassoResult<Self> {
+        Ok(Self {
+            users: Users::new(capacity, limits, seed)?,
             last_keys: Mutex::default(),
-            hasher: hash_builder,
+            hasher,
             key: PhantomData,
-        }
+        })
     }
 
     /// The key of a text. An absent text is copied into the interner first.
@@ -336,8 +345,10 @@ impl<K, S> fmt::Debug for ThreadedRodeo<K, S> {
 /// If a text is refused.
 impl<Str: AsRef<str>, K: Key, S: BuildHasher + Default> FromIterator<Str> for ThreadedRodeo<K, S> {
     fn from_iter<T: IntoIterator<Item = Str>>(iter: T) -> Self {
-        let mut rodeo = Self::with_hasher(S::default());
-        rodeo.extend(iter);
+        let texts = iter.into_iter();
+        let capacity = Capacity::for_items(texts.size_hint().0);
+        let mut rodeo = Self::with_capacity_and_hasher(capacity, S::default());
+        rodeo.extend(texts);
         rodeo
     }
 }

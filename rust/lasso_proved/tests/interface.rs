@@ -110,7 +110,9 @@ fn interners_become_readers_and_resolvers() {
     read_all(freeze(Box::new(Box::new(Rodeo::default()))));
     read_all(freeze(ThreadedRodeo::default()));
     resolve_all(resolver_of(freeze(Box::new(ThreadedRodeo::default()))));
-    boxed().map(|interner| read_all(freeze(interner)));
+    for interner in boxed() {
+        read_all(freeze(interner));
+    }
     resolve_all(resolver_of(freeze(Rodeo::default())));
     resolve_all(resolver_of(Box::new(freeze(Rodeo::default()))));
     for mut interner in boxed() {

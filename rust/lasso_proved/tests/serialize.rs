@@ -202,6 +202,19 @@ fn a_threaded_interner_is_a_map_of_texts_to_keys() {
 }
 
 #[test]
+fn what_is_read_has_one_bucket_of_its_bytes() {
+    let long = "x".repeat(5000);
+    let texts = ["red", "", &long];
+    assert_eq!(read::<Rodeo>(&texts).unwrap().current_memory_usage(), 5003);
+    let entries = MapDeserializer::new(texts.into_iter().zip(1u32..));
+    let rodeo: Result<ThreadedRodeo, Error> = ThreadedRodeo::deserialize(entries);
+    let rodeo = rodeo.unwrap();
+    assert_eq!(rodeo.current_memory_usage(), 5003);
+    assert_eq!(rodeo.get_or_intern("green").into_usize(), 3);
+    assert!(rodeo.strings().eq(texts.into_iter().chain(["green"])));
+}
+
+#[test]
 fn a_text_that_comes_twice_is_refused_but_by_a_resolver() {
     let doubled = ["red", "blue", "red", "green"];
     assert_eq!(

@@ -20,7 +20,7 @@ use std::ops::Index;
 impl<Str: AsRef<str>, K: Key, S: BuildHasher + Default> FromIterator<Str> for Rodeo<K, S> {
     fn from_iter<T: IntoIterator<Item = Str>>(iter: T) -> Self {
         let texts = iter.into_iter();
-        let capacity = Capacity::for_strings(texts.size_hint().0);
+        let capacity = Capacity::for_items(texts.size_hint().0);
         let mut rodeo = Self::with_capacity_and_hasher(capacity, S::default());
         rodeo.extend(texts);
         rodeo
