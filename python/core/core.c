@@ -32,6 +32,7 @@ void core_after_fork(Core *core)
             each->interner.shared = (struct lasso_shared)LASSO_SHARED_NONE;
         }
         each->busy = each->closes = false;
+        each->freezer = NULL;
         each->forks = forks;
         /* Whoever had it is in the parent. */
         PyThread_acquire_lock(each->lock, NOWAIT_LOCK);
@@ -39,28 +40,49 @@ void core_after_fork(Core *core)
     } while ((each = each->next) != core);
 }
 
+static void wait_for(PyThread_type_lock lock)
+{
+    Py_BEGIN_ALLOW_THREADS
+    PyThread_acquire_lock(lock, WAIT_LOCK);
+    PyThread_release_lock(lock);
+    Py_END_ALLOW_THREADS
+}
+
+void core_wait(Core *core)
+{
+    while (core->busy)
+        wait_for(core->lock);
+}
+
 void core_enter(Core *core)
 {
     core_after_fork(core);
-    while (core->busy) {
-        Py_BEGIN_ALLOW_THREADS
-        PyThread_acquire_lock(core->lock, WAIT_LOCK);
-        PyThread_release_lock(core->lock);
-        Py_END_ALLOW_THREADS
-    }
+    while (core->busy || core->freezer != NULL)
+        wait_for(core->busy ? core->lock : core->freezer->lock);
 }
 
-void core_without_gil(Core *core, void (*call)(void *), void *with)
+void core_take(Core *core)
 {
+    core_enter(core);
     PyThread_acquire_lock(core->lock, WAIT_LOCK);
     core->busy = true;
-    Py_BEGIN_ALLOW_THREADS
-    call(with);
-    Py_END_ALLOW_THREADS
+}
+
+void core_give(Core *core)
+{
     core->busy = false;
     PyThread_release_lock(core->lock);
     if (core->closes)
         interner_free(&core->interner);
+}
+
+void core_without_gil(Core *core, void (*call)(void *), void *with)
+{
+    core_take(core);
+    Py_BEGIN_ALLOW_THREADS
+    call(with);
+    Py_END_ALLOW_THREADS
+    core_give(core);
 }
 
 PyObject *raise_status(uint32_t status, Py_ssize_t position)

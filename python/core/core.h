@@ -14,6 +14,7 @@
 /* An interner of one thread at a time, or a handle of one that threads share. The other of the two holds none. */
 struct interner {
     bool is_shared;
+    bool is_frozen; /* of the handle that froze it */
     struct lasso own;
     struct lasso_shared shared;
 };
@@ -58,13 +59,14 @@ void interner_free(struct interner *interner);
  * ever ends: its interner is left, and its handles hold none.
  *
  * A handle of a shared interner is used by one thread. All handles of it are in a ring, so that any thread can close them: one that is busy is
- * freed at the end of its call. */
+ * freed at the end of its call. Of one that is being frozen no call begins. */
 typedef struct core {
     PyObject ob_base;
     struct interner interner;
     PyThread_type_lock lock;
     bool busy;
     bool closes;
+    struct core *freezer; /* the handle that freezes the interner now, and holds its own lock for that long, or NULL */
     unsigned forks; /* how many forks there were when it was entered last */
     struct core *next, *previous;
 } Core;
@@ -72,10 +74,17 @@ typedef struct core {
 /* Leaves an interner that a call of the parent's was in, if the process was forked since it was entered last. Every call begins so. */
 void core_after_fork(Core *core);
 
-/* Waits until no other thread is in a call that let the GIL go. Until the GIL is let go next, the interner is the caller's. */
+/* Waits until no other thread is in a call that let the GIL go. */
+void core_wait(Core *core);
+
+/* Waits for that, and until no thread freezes the interner. Until the GIL is let go next, the interner is the caller's. */
 void core_enter(Core *core);
 
-/* Runs `call` without the GIL. The caller has entered. */
+/* Enters, and keeps other threads from entering, though the GIL is let go, until core_give. */
+void core_take(Core *core);
+void core_give(Core *core);
+
+/* Takes the interner, runs `call` without the GIL, and gives the interner back. */
 void core_without_gil(Core *core, void (*call)(void *), void *with);
 
 /* What both types make and let go. */

@@ -33,7 +33,7 @@ static PyObject *seat_join(Core *seat, PyObject *none)
     (void)none;
     if (other == NULL)
         return NULL;
-    core_after_fork(seat);
+    core_enter(seat);
     uint32_t status = lasso_shared_join(&seat->interner.shared, &other->interner.shared);
     if (status != LASSO_DONE) {
         Py_DECREF(other);
@@ -62,10 +62,59 @@ static PyObject *seat_close(Core *seat, PyObject *none)
     Py_RETURN_NONE;
 }
 
+/* Frees every other handle of an interner that no call uses, freezes it by the last one, and makes the others again: a frozen one lends all texts. */
+static uint32_t freeze_ring(Core *seat)
+{
+    Core *each;
+    for (each = seat->next; each != seat; each = each->next)
+        lasso_shared_free(&each->interner.shared);
+    uint32_t status = lasso_shared_freeze(&seat->interner.shared);
+    if (status != LASSO_DONE)
+        return status;
+    seat->interner.is_frozen = true;
+    for (each = seat->next; each != seat; each = each->next) {
+        if (lasso_shared_join(&seat->interner.shared, &each->interner.shared) != LASSO_DONE)
+            status = LASSO_NO_MEMORY;
+    }
+    return status;
+}
+
+/* Freezes the interner, once no handle of it is in a call that let the GIL go. Until then no call begins, and no handle joins this one. */
+static PyObject *seat_freeze(Core *seat, PyObject *none)
+{
+    Core *each, *next;
+    (void)none;
+    core_take(seat);
+    for (each = seat->next; each != seat; each = each->next)
+        each->freezer = seat;
+    for (each = seat->next; each != seat; each = next) {
+        Py_INCREF(each);
+        core_wait(each);
+        next = each->next;
+        Py_DECREF(each);
+    }
+    uint32_t status = seat->closes ? LASSO_NO_INTERNER : freeze_ring(seat);
+    for (each = seat->next; each != seat; each = each->next)
+        each->freezer = NULL;
+    core_give(seat);
+    if (status != LASSO_DONE)
+        return raise_status(status, -1);
+    Py_RETURN_NONE;
+}
+
+static PyObject *seat_frozen(Core *seat, void *none)
+{
+    (void)none;
+    return PyBool_FromLong(seat->interner.is_frozen);
+}
+
 static PyMethodDef methods[] = {
     {"open", (PyCFunction)seat_open, METH_VARARGS, "open($self, limit, seed0, seed1, /)\n--\n\nMakes an interner without texts, with a limit or None."},
     {"join", (PyCFunction)seat_join, METH_NOARGS, "join($self, /)\n--\n\nAnother handle of the same interner. Raises InternerClosed or OutOfMemory."},
     {"close", (PyCFunction)seat_close, METH_NOARGS, "close($self, /)\n--\n\nCloses the interner for all of its handles."},
+    {"freeze", (PyCFunction)seat_freeze, METH_NOARGS,
+     "freeze($self, /)\n--\n\nEnds interning by all handles of the interner. To be called on the handle that others join. Raises InternerClosed or\n"
+     "OutOfMemory: then it is frozen, and a handle that got no memory holds none."},
     {"intern", (PyCFunction)core_intern, METH_O, "intern($self, text, /)\n--\n\nThe code of a text, which is appended if it is absent."},
     {"get", (PyCFunction)core_get, METH_O, "get($self, text, /)\n--\n\nThe code of a text, or None if it is absent."},
     {"texts", (PyCFunction)core_texts, METH_VARARGS, "texts($self, start=0, /)\n--\n\nThe texts from a code on, in the order of their codes."},
@@ -82,6 +131,7 @@ static PyGetSetDef properties[] = {
     {"memory", (getter)core_memory, NULL, "How many bytes the texts' buckets take.", NULL},
     {"limit", (getter)core_limit, (setter)core_set_limit, "How many bytes they may take, or None. It can be set.", NULL},
     {"closed", (getter)core_closed, NULL, "Whether the interner was closed.", NULL},
+    {"frozen", (getter)seat_frozen, NULL, "Whether this handle froze the interner.", NULL},
     {NULL, NULL, NULL, NULL, NULL},
 };
 

@@ -13,15 +13,15 @@ from __future__ import annotations
 
 from lasso.codes import NULL, Codes
 from lasso.errors import (
-    CodesExhausted, InternerClosed, LassoError, LimitReached, NotUtf8, OutOfMemory, WrongLayout,
+    CodesExhausted, InternerClosed, InternerFrozen, LassoError, LimitReached, NotUtf8, OutOfMemory, WrongLayout,
 )
 from lasso.interner import Interner
 from lasso.shared import SharedInterner
 from lasso.sources import ArrowArray, ArrowStream, ArrowStrings
 
 __all__ = [
-    "NULL", "ArrowArray", "ArrowStream", "ArrowStrings", "Codes", "CodesExhausted", "Interner", "InternerClosed", "LassoError",
-    "LimitReached", "NotUtf8", "OutOfMemory", "SharedInterner", "WrongLayout",
+    "NULL", "ArrowArray", "ArrowStream", "ArrowStrings", "Codes", "CodesExhausted", "Interner", "InternerClosed", "InternerFrozen",
+    "LassoError", "LimitReached", "NotUtf8", "OutOfMemory", "SharedInterner", "WrongLayout",
 ]
 
 __version__ = "0.1.0"

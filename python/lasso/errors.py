@@ -2,7 +2,9 @@
 
 from __future__ import annotations
 
-__all__ = ["CodesExhausted", "InternerClosed", "LassoError", "LimitReached", "NotUtf8", "OutOfMemory", "WrongLayout", "error_of"]
+__all__ = [
+    "CodesExhausted", "InternerClosed", "InternerFrozen", "LassoError", "LimitReached", "NotUtf8", "OutOfMemory", "WrongLayout", "error_of",
+]
 
 
 class LassoError(Exception):
@@ -38,10 +40,15 @@ class InternerClosed(LassoError):
     """The interner was closed."""
 
 
+class InternerFrozen(LassoError):
+    """The shared interner was frozen: no text is interned any more, neither an absent one nor a present one."""
+
+
 # By the statuses of lasso.h.
 _NO_INTERNER = 12
 _ERRORS: dict[int, type[LassoError]] = {
     1: WrongLayout, 2: WrongLayout, 3: NotUtf8, 9: OutOfMemory, 10: LimitReached, 11: CodesExhausted, _NO_INTERNER: InternerClosed, 14: WrongLayout,
+    17: InternerFrozen,
 }
 
 

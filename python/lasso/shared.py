@@ -33,7 +33,7 @@ class SharedInterner:
     ``get_many`` let other threads run meanwhile, also those that encode into the same interner. ``limit`` is how many bytes the texts' buckets may
     take, for all threads together; None is no limit. The first bucket has 4,096 bytes whatever the limit. ``seed`` is a number below 2^128 by which
     texts are hashed, or None for a random one; no code depends on it. The memory is given back at the end of a ``with`` block, by ``close``, or when
-    the interner is garbage. A child that ``os.fork`` makes while another thread is in ``encode`` or ``get_many`` has it closed.
+    the interner is garbage. A child that ``os.fork`` makes while another thread is in ``encode``, ``get_many`` or ``freeze`` has it closed.
     """
 
     __slots__ = ("__dict__", "__weakref__", "_first", "_seats")
@@ -52,7 +52,8 @@ class SharedInterner:
         self.close()
 
     def __repr__(self) -> str:
-        return f"<{type(self).__name__}: {'closed' if self.closed else f'{len(self)} texts'}>"
+        state = "closed" if self.closed else f"{len(self)} texts{', frozen' if self.frozen else ''}"
+        return f"<{type(self).__name__}: {state}>"
 
     @property
     def closed(self) -> bool:
@@ -63,6 +64,19 @@ class SharedInterner:
         """Gives the memory back, whichever thread calls it. A call of another thread ends as without it, or raises InternerClosed: each later one
         does, but this one, and ``len``, ``memory`` and ``limit``, which are 0."""
         self._first.close()
+
+    @property
+    def frozen(self) -> bool:
+        """Whether the interner was frozen."""
+        return self._first.frozen
+
+    def freeze(self) -> None:
+        """Ends interning for all threads, whichever one calls it. The texts, their codes and all calls that read stay; no text is copied or moved.
+        From then on ``intern`` raises InternerFrozen, and so does ``encode`` at a text, also at a present one. It waits for what other threads are
+        in: an ``encode`` that goes on then raises InternerFrozen, and the texts before its ``position`` stay. Frozen is frozen: a second call does
+        nothing. Raises InternerClosed; or OutOfMemory, with the interner frozen, if there is no memory for a new handle of each thread: one without
+        has the interner closed until a ``freeze`` succeeds."""
+        self._first.freeze()
 
     @property
     def memory(self) -> int:
@@ -79,8 +93,8 @@ class SharedInterner:
         self._seats.seat.limit = limit
 
     def intern(self, text: str) -> int:
-        """The code of a text, which is appended if it is absent. Raises NotUtf8; for an absent text LimitReached, CodesExhausted or OutOfMemory,
-        and nothing is appended then."""
+        """The code of a text, which is appended if it is absent. Raises NotUtf8 or InternerFrozen; for an absent text LimitReached, CodesExhausted
+        or OutOfMemory, and nothing is appended then."""
         return self._seats.seat.intern(text)
 
     def get(self, text: str) -> int | None:
@@ -106,8 +120,8 @@ class SharedInterner:
     def encode(
         self, texts: Iterable[object] | ArrowArray | ArrowStream | ArrowStrings, column: str | None = None
     ) -> Codes:
-        """The codes of many texts, which are appended if they are absent, as ``Interner.encode`` returns them. It takes and raises the same. New
-        texts of threads that encode at the same time mix."""
+        """The codes of many texts, which are appended if they are absent, as ``Interner.encode`` returns them. It takes and raises the same, and
+        InternerFrozen. New texts of threads that encode at the same time mix."""
         codes = Codes(self)
         encode_into(self._seats.seat, texts, column, codes, True)
         return codes
@@ -138,7 +152,7 @@ class SharedInterner:
             return interner._dictionary_array(codes)
 
     def copy(self: _Kind) -> _Kind:
-        """Another shared interner of the same class, with the texts of now, their codes, the limit and the attributes."""
+        """Another shared interner of the same class, with the texts of now, their codes, the limit and the attributes. It is not frozen."""
         made = _loaded(type(self), self.texts(), self.limit)
         made.__dict__.update(self.__dict__)
         return made

@@ -6,6 +6,7 @@ import copy
 import ctypes
 import os
 import pickle
+import queue
 import random
 import signal
 import struct
@@ -21,7 +22,7 @@ from typing import Any
 import pytest
 from producers import Chunks, strings
 
-from lasso import NULL, Interner, InternerClosed, LimitReached, NotUtf8, SharedInterner, WrongLayout
+from lasso import NULL, Interner, InternerClosed, InternerFrozen, LassoError, LimitReached, NotUtf8, SharedInterner, WrongLayout
 
 THREADS = 8
 
@@ -394,6 +395,156 @@ def test_is_closed_while_others_go_on() -> None:
 
         together(*[use] * (THREADS - 1), close)
         assert shared.closed
+
+
+def here(call: Callable[[], Any]) -> Any:
+    """What the call returns, or the LassoError that it raises."""
+    try:
+        return call()
+    except LassoError as fault:
+        return fault
+
+
+class Worker:
+    """A thread that makes the calls that it is given, by a handle of its own, one after another."""
+
+    def __init__(self) -> None:
+        self.calls: queue.Queue[Callable[[], Any] | None] = queue.Queue()
+        self.results: queue.Queue[Any] = queue.Queue()
+        self.thread = threading.Thread(target=self._run, daemon=True)
+        self.thread.start()
+
+    def _run(self) -> None:
+        for call in iter(self.calls.get, None):
+            self.results.put(here(call))
+
+    def __call__(self, call: Callable[[], Any]) -> Any:
+        """What the call returns, or the LassoError that it raises."""
+        self.calls.put(call)
+        return self.results.get()
+
+    def end(self) -> None:
+        self.calls.put(None)
+        self.thread.join()
+
+
+def check_frozen(shared: SharedInterner, run: Callable[[Callable[[], Any]], Any], texts: list[str]) -> None:
+    """Texts of a frozen interner are read in a thread, and none is interned, neither a present nor an absent one."""
+    columns: list[Any] = [["red"], ["new"], Columns(["red"] * 5000), strings(["red"]), strings(["new"] * 5000), (text for text in ["new"])]
+    encoded = [run(partial(shared.encode, column)) for column in columns]
+    for fault in [run(partial(shared.intern, "red")), run(partial(shared.intern, "new")), *encoded]:
+        assert isinstance(fault, InternerFrozen)
+    assert [fault.position for fault in encoded] == [0] * len(columns)
+    assert run(partial(shared.encode, [None, "red"])).position == 1
+    assert (run(partial(shared.encode, [])).tolist(), run(partial(shared.encode, [None])).tolist()) == ([], [NULL])
+    assert run(lambda: (shared.texts(), list(shared), len(shared), shared[1], shared.get("red"), shared.get("new"))) == (
+        texts, texts, len(texts), "blue", 0, None)
+    assert run(lambda: ("blue" in shared, "new" in shared, shared.get_many(["blue", None, "new"]))) == (True, False, [1, None, None])
+    assert run(lambda: (shared.memory, shared.limit, shared.frozen, shared.closed)) == (4096, None, True, False)
+
+
+def test_is_frozen_for_each_thread() -> None:
+    workers = earlier, idle, _ = Worker(), Worker(), Worker()
+    threads: list[Any] = [*workers, here]
+    with SharedInterner() as shared:
+        assert (shared.frozen, shared.encode(["red"]).tolist(), earlier(partial(shared.intern, "blue"))) == (False, [0], 1)
+        assert idle(lambda: len(shared)) == 2
+        together(lambda: shared.intern("grün"))
+        texts = ["red", "blue", "grün"]
+        for freezer in (threads[0], threads[2], here):
+            assert freezer(shared.freeze) is None
+            for run in threads:
+                check_frozen(shared, run, texts)
+        assert repr(shared) == "<SharedInterner: 3 texts, frozen>"
+        for made in [shared.copy(), shared.snapshot(), pickle.loads(pickle.dumps(shared))]:
+            with made:
+                assert (made.texts(), made.intern("new")) == (texts, 3)
+        assert idle(shared.close) is None
+        assert all(isinstance(run(call), InternerClosed) for run in threads for call in (shared.freeze, shared.texts))
+    for worker in workers:
+        worker.end()
+
+
+@pytest.mark.parametrize("kind", [list, Columns])
+def test_is_frozen_while_others_go_on(kind: Any) -> None:
+    """Each thread that interns gets to a text that is refused; what it interned before stays, and those that read go on."""
+    rows = [f"text {row}" for row in range(5000)]
+    column, ready = kind(rows), threading.Barrier(THREADS)
+    replies, over = [Replies() for _ in range(THREADS)], threading.Event()
+
+    def intern(number: int) -> None:
+        ready.wait()
+        with pytest.raises(InternerFrozen) as caught:
+            for step in range(10**9):
+                text = f"text {number} {step}"
+                replies[number].add(text, shared.intern(text))
+                shared.encode(column)
+        assert None not in shared.get_many(rows[: caught.value.position or 0])
+
+    def read(number: int) -> None:
+        ready.wait()
+        while not over.is_set():
+            codes = shared.get_many(column)
+            for text, code in zip(rows, codes):
+                if code is not None:
+                    replies[number].add(text, code)
+            assert len(shared.texts()) >= replies[number].known
+
+    def freeze() -> None:
+        ready.wait()
+        last = time.monotonic() + 60
+        while len(shared) < 5000 and time.monotonic() < last:
+            time.sleep(0.001)
+        shared.freeze()
+        frozen.extend(shared.texts())
+        time.sleep(0.1)
+        over.set()
+
+    frozen: list[str] = []
+    with SharedInterner() as shared:
+        together(*[partial(intern, number) for number in range(4)], *[partial(read, number) for number in range(4, THREADS - 1)], freeze)
+        assert shared.texts() == frozen and len(set(frozen)) == len(frozen) >= 5000
+        for each in replies:
+            each.check(frozen)
+
+
+@pytest.mark.parametrize("closes", [False, True])
+def test_is_frozen_while_a_call_is_long(closes: bool) -> None:
+    """A thread that comes meanwhile, and one that closes the interner, find it frozen or closed, and no handle is left open."""
+    column, idle = Columns([f"text {row}" for row in range(60000)]), Worker()
+    for _ in range(5):
+        shared, begun = SharedInterner(), threading.Event()
+        idle(lambda: len(shared))
+
+        def encode() -> None:
+            with pytest.raises((InternerFrozen, InternerClosed)):
+                while True:
+                    shared.encode(column)
+
+        def come_late() -> None:
+            begun.wait()
+            encode()
+
+        def freeze() -> None:
+            while len(shared) == 0:
+                time.sleep(0.001)
+            begun.set()
+            assert here(shared.freeze) is None or closes
+
+        def close() -> None:
+            begun.wait()
+            time.sleep(0.001)
+            if closes:
+                shared.close()
+
+        together(encode, encode, come_late, come_late, freeze, close)
+        threads: list[Any] = [idle, here]
+        for run in threads:
+            ended = [run(call) for call in (lambda: shared[0], shared.freeze, partial(shared.intern, "a"))]
+            assert isinstance(ended[2], InternerClosed if closes else InternerFrozen)
+            assert all(isinstance(each, InternerClosed) for each in ended[:2]) if closes else ended[1] is None and ended[0].startswith("text")
+        shared.close()
+    idle.end()
 
 
 def test_a_list_changes_while_it_is_encoded(shared: SharedInterner) -> None:
