@@ -522,6 +522,9 @@ void lasso_free(struct lasso *lasso);
  * call again. The interner lasts until its last handle is freed, in any order. A program with threads is linked with
  * -pthread, too.
  *
+ * No call takes NULL for a handle, but lasso_shared_free. A handle that holds none is no fault: calls return
+ * LASSO_NO_INTERNER, or 0, and write nothing but a report.
+ *
  * No call waits. lasso_shared_intern, lasso_shared_intern_batch, lasso_shared_get, lasso_shared_memory,
  * lasso_shared_limit and lasso_shared_set_limit return LASSO_BUSY if another thread is inside a step of the interner,
  * after they looked about a hundred times. The caller tries again, as the inline calls do whose names end with _wait.
@@ -543,65 +546,88 @@ struct lasso_shared {
 #define LASSO_SHARED_NONE {NULL, false}
 
 /*
- * Makes an interner without texts, and its first handle. Codes begin at 0. If the handle holds one, that one is freed
- * after the new one was made. Hashes have the fixed seed of lasso_new.
+ * Makes an interner without texts, and its first handle. Codes begin at 0. The first bucket of texts has 4,096 bytes,
+ * and there is no limit. Texts are hashed with the fixed seed of lasso_new. A handle that *shared holds is freed, as by
+ * lasso_shared_free, once the new one is made.
  *
- * Returns LASSO_DONE, or LASSO_NO_MEMORY, and then the handle is as it was.
+ * shared              written: a handle, not NULL. At first it is LASSO_SHARED_NONE.
+ *
+ * Returns LASSO_DONE, or LASSO_NO_MEMORY, and then *shared is as it was.
  */
 uint32_t lasso_shared_new(struct lasso_shared *shared);
 
 /*
- * lasso_shared_new for a caller that knows how much is to come, or sets a limit at once: the list of texts does not
- * grow before it has texts texts, the first bucket has bytes bytes, but at least one, and the buckets take at most
- * limit bytes; the first one is there whatever the limit. lasso_shared_new has 50 texts, 4,096 bytes and
- * LASSO_NO_LIMIT.
+ * lasso_shared_new for a caller that knows how much is to come, or sets a limit at once. lasso_shared_new has room for
+ * 50 texts, 4,096 bytes, and LASSO_NO_LIMIT.
  *
- * Returns LASSO_DONE, or LASSO_NO_MEMORY, and then the handle is as it was.
+ * shared              written: as in lasso_shared_new, not NULL.
+ * texts               how many texts the list of texts has room for before it grows.
+ * bytes               how many bytes the first bucket has; 0 counts as 1. It is made whatever the limit.
+ * limit               how many bytes the buckets may take.
+ *
+ * Returns LASSO_DONE, or LASSO_NO_MEMORY, and then *shared is as it was.
  */
 uint32_t lasso_shared_new_sized(struct lasso_shared *shared, size_t texts, size_t bytes, size_t limit);
 
 /*
- * lasso_shared_new for texts that strangers choose, as lasso_new_seeded: they are hashed with this seed of 128 bits,
- * which you take from the system's source of random numbers and keep secret.
+ * lasso_shared_new for texts that strangers choose, as lasso_new_seeded: they are hashed with a seed of 128 bits, which
+ * you take from the system's source of random numbers and keep secret. No code depends on it.
  *
- * Returns LASSO_DONE, or LASSO_NO_MEMORY, and then the handle is as it was.
+ * shared              written: as in lasso_shared_new, not NULL.
+ * seed0, seed1        64 bits of the seed each.
+ *
+ * Returns LASSO_DONE, or LASSO_NO_MEMORY, and then *shared is as it was.
  */
 uint32_t lasso_shared_new_seeded(struct lasso_shared *shared, uint64_t seed0, uint64_t seed1);
 
-/* lasso_shared_new_seeded with the capacity and the limit of lasso_shared_new_sized. */
+/*
+ * lasso_shared_new_seeded with the capacity and the limit of lasso_shared_new_sized. shared is not NULL.
+ *
+ * Returns LASSO_DONE, or LASSO_NO_MEMORY, and then *shared is as it was.
+ */
 uint32_t lasso_shared_new_sized_seeded(struct lasso_shared *shared, size_t texts, size_t bytes, size_t limit,
                                        uint64_t seed0, uint64_t seed1);
 
 /*
- * lasso_shared_new_seeded with SipHash-1-3 and two keys, as lasso_new_keyed.
+ * lasso_shared_new_seeded with SipHash-1-3 and two secret keys of 64 bits, as lasso_new_keyed. shared is not NULL.
  *
- * Returns LASSO_DONE, or LASSO_NO_MEMORY, and then the handle is as it was.
+ * Returns LASSO_DONE, or LASSO_NO_MEMORY, and then *shared is as it was.
  */
 uint32_t lasso_shared_new_keyed(struct lasso_shared *shared, uint64_t key0, uint64_t key1);
 
-/* lasso_shared_new_keyed with the capacity and the limit of lasso_shared_new_sized. */
+/*
+ * lasso_shared_new_keyed with the capacity and the limit of lasso_shared_new_sized. shared is not NULL.
+ *
+ * Returns LASSO_DONE, or LASSO_NO_MEMORY, and then *shared is as it was.
+ */
 uint32_t lasso_shared_new_sized_keyed(struct lasso_shared *shared, size_t texts, size_t bytes, size_t limit,
                                       uint64_t key0, uint64_t key1);
 
 /*
- * Makes another handle of the same interner in other, for another thread. If other holds one, that one is freed after
- * the new one was made.
+ * Makes another handle of the same interner in *other, for another thread. It has seen the list as it is at that time.
+ * A handle that *other holds is freed, as by lasso_shared_free, once the new one is made.
  *
- * shared, other       two different handles.
+ * shared              a handle of the calling thread, not NULL. It is only read.
+ * other               written: another handle, not NULL. At first it is LASSO_SHARED_NONE.
  *
- * Returns LASSO_NO_INTERNER if *shared holds none; LASSO_NO_MEMORY, also if there are too many handles; else LASSO_DONE.
- * If it is not LASSO_DONE, other holds what it held.
+ * Returns LASSO_NO_INTERNER if *shared holds none; LASSO_NO_MEMORY; else LASSO_DONE. If it is not LASSO_DONE, *other is
+ * as it was.
  */
 uint32_t lasso_shared_join(struct lasso_shared *shared, struct lasso_shared *other);
 
 /*
- * Interns a text, and appends a copy of it first if it is absent. *code is its code for every handle of the interner,
- * as long as there is one. Copies are in buckets that all handles share, and that lasso_shared_memory counts. After
- * 4,096 calls a handle keeps 128 KiB of hints, by which it finds texts again without a lock.
+ * Interns a text: *code is its code for every handle of the interner, as long as there is one. An absent text is
+ * appended first, as a copy in buckets that all handles share, and that lasso_shared_memory counts. Once a handle has
+ * interned or looked up 4,096 texts, it keeps 128 KiB of hints, by which it finds texts again without a lock.
  *
- * Returns LASSO_NOT_UTF8; LASSO_NO_INTERNER; LASSO_FROZEN, also for a present text; LASSO_BUSY; for an absent text
- * LASSO_NO_MEMORY, LASSO_LIMIT_REACHED if no bucket has room for it and it has more bytes than the limit leaves, or
- * LASSO_NO_CODE_LEFT; else LASSO_DONE. With LASSO_NO_CODE_LEFT the text's bytes (or a new bucket) stay taken. With
+ * shared              a handle, not NULL.
+ * text                read: UTF-8 without an end mark. text_length counts bytes.
+ * code                written: one number.
+ *
+ * Returns the first that applies: LASSO_NOT_UTF8; LASSO_NO_INTERNER; LASSO_FROZEN, also for a present text. Else it
+ * returns LASSO_BUSY; for an absent text LASSO_NO_MEMORY, LASSO_LIMIT_REACHED if no bucket has room for it and it has
+ * more bytes than the limit leaves, or LASSO_NO_CODE_LEFT; else LASSO_DONE. If it is not LASSO_DONE, no text was
+ * appended, and *code is as it was. With LASSO_NO_CODE_LEFT the text's bytes (or a new bucket) stay taken. With
  * LASSO_BUSY they don't, as far as tests tell: what is proved leaves it open.
  */
 uint32_t lasso_shared_intern(struct lasso_shared *shared, const uint8_t *text, size_t text_length, uint32_t *code);
@@ -612,12 +638,15 @@ uint32_t lasso_shared_intern(struct lasso_shared *shared, const uint8_t *text, s
  * written. report->texts is how many texts were interned, report->bytes is 0, and report->at is the number of the text
  * that was refused or busy, from 0, or 0 if there is none. Texts of other threads may come in between.
  *
+ * shared              a handle, not NULL.
  * bytes, offsets      read: as in lasso_encode.
  * codes               written. codes_length counts codes, one for each text; it may be greater.
+ * report              written: one struct, whatever the status.
  *
  * Returns LASSO_NO_INTERNER; LASSO_FROZEN; LASSO_CODES_TOO_SHORT, or LASSO_OFFSET_PAST_BYTES if the first offset is
- * past the bytes: then no text is interned, and the report is all 0. Else what the first text gives that is refused or
- * busy: LASSO_OFFSETS_FALL, LASSO_OFFSET_PAST_BYTES, LASSO_NOT_UTF8, or as lasso_shared_intern; else LASSO_DONE.
+ * past the bytes: then no text is interned, no code is written, and the report is all 0. Else what the first text gives
+ * that is refused or busy: LASSO_OFFSETS_FALL, LASSO_OFFSET_PAST_BYTES, LASSO_NOT_UTF8, or as lasso_shared_intern; else
+ * LASSO_DONE. Codes from that text on are as they were.
  */
 uint32_t lasso_shared_intern_batch(struct lasso_shared *shared,
                                    const uint8_t *bytes, size_t bytes_length,
@@ -626,22 +655,36 @@ uint32_t lasso_shared_intern_batch(struct lasso_shared *shared,
                                    struct lasso_report *report);
 
 /*
- * Looks up a text, and appends nothing: *code is its code.
+ * Looks up a text, and appends nothing: *code is its code, whichever handle interned it. A frozen interner is looked up
+ * as any other.
  *
- * Returns LASSO_NOT_UTF8, LASSO_NO_INTERNER, LASSO_BUSY, LASSO_NO_SUCH_TEXT, else LASSO_DONE.
+ * shared              a handle, not NULL.
+ * text                read: UTF-8 without an end mark. text_length counts bytes.
+ * code                written: one number.
+ *
+ * Returns LASSO_NOT_UTF8; LASSO_NO_INTERNER; LASSO_BUSY; LASSO_NO_SUCH_TEXT if the text is absent; else LASSO_DONE. If
+ * it is not LASSO_DONE, *code is as it was.
  */
 uint32_t lasso_shared_get(struct lasso_shared *shared, const uint8_t *text, size_t text_length, uint32_t *code);
 
 /*
- * Writes the text of a code, cut to text_length bytes, without an end mark. *whole is the number of bytes of the
- * whole text.
+ * Writes the text of a code, whichever handle interned it, cut to text_length bytes, without an end mark. *whole is the
+ * number of bytes of the whole text. There is no need to see the list first.
  *
- * Returns LASSO_NO_INTERNER, LASSO_NO_SUCH_CODE, else LASSO_DONE, also if the text is cut.
+ * shared              a handle, not NULL.
+ * text                written: the front of the text. text_length counts bytes; those past the text stay.
+ * whole               written: one number.
+ *
+ * Returns LASSO_NO_INTERNER; LASSO_NO_SUCH_CODE; else LASSO_DONE, also if the text is cut. If it is not LASSO_DONE,
+ * nothing is written.
  */
 uint32_t lasso_shared_resolve(struct lasso_shared *shared, uint32_t code, uint8_t *text, size_t text_length, size_t *whole);
 
 /*
- * Has the handle see the list as it is, with the texts of every thread up to now: lasso_shared_text lends these.
+ * Has the handle see the list as it is, with the texts of every thread up to now: lasso_shared_text and
+ * lasso_shared_texts lend these. The interner stays as it is.
+ *
+ * shared              a handle, not NULL.
  *
  * Returns LASSO_NO_INTERNER, else LASSO_DONE.
  */
@@ -653,41 +696,51 @@ uint32_t lasso_shared_see(struct lasso_shared *shared);
  * to thread: the caller orders the call after those of the other handle. With a handle of another interner, the call
  * does what lasso_shared_see does.
  *
- * shared, other       two different handles. *other is only read.
+ * shared              a handle, not NULL.
+ * other               another handle, not NULL. It is only read, and no other call uses it meanwhile.
  *
- * Returns LASSO_NO_INTERNER if either holds none, else LASSO_DONE.
+ * Returns LASSO_NO_INTERNER if either holds none, and then *shared has seen what it had; else LASSO_DONE.
  */
 uint32_t lasso_shared_meet(struct lasso_shared *shared, struct lasso_shared *other);
 
 /*
- * Lends the text of a code, of the list that the handle has seen last: when it was made, in lasso_shared_see, or in
- * lasso_shared_meet. lasso_shared_text_now lends the text of any code. A text stays, for every thread, until
- * the last handle of the interner is freed. (What is proved covers it until the next call with its handle.)
+ * Lends the text of a code, of the list that the handle has seen last: when it was made, in lasso_shared_see, in
+ * lasso_shared_meet, or in lasso_shared_freeze. lasso_shared_text_now lends the text of any code. A text stays, for
+ * every thread, until the last handle of the interner is freed. (What is proved covers it until the next call with its
+ * handle.)
  *
+ * shared              a handle, not NULL.
  * text                the caller's, written: one struct, which before is LASSO_NO_TEXT or a text that still lasts.
  *
- * Returns LASSO_NO_INTERNER; LASSO_NO_SUCH_CODE, also if the handle has not seen the text yet; else LASSO_DONE.
+ * Returns LASSO_NO_INTERNER; LASSO_NO_SUCH_CODE, also if the handle has not seen the text yet; else LASSO_DONE. If it
+ * is not LASSO_DONE, *text is as it was.
  */
 uint32_t lasso_shared_text(struct lasso_shared *shared, uint32_t code, struct lasso_text *text);
 
 /*
  * Lends the texts from a code on, of the list that the handle has seen last, in the order of their codes: all of them,
- * or as many as have room. Returns their number; 0 without an interner, and if the handle has seen no text of that code
- * or a later one. A caller that has seen n texts, and sees the list again, gets those that came since from n on. The
- * texts stay as those of lasso_shared_text do.
+ * or as many as have room. A caller that has seen n texts, and sees the list again, gets those that came since from n
+ * on. The texts stay as those of lasso_shared_text do.
  *
+ * shared              a handle, not NULL.
+ * from                the code of the first text.
  * texts               the caller's, written: a struct for each text. texts_length counts structs. Each is LASSO_NO_TEXT
- *                     before, or a text that still lasts.
+ *                     before, or a text that still lasts. Those past the last text stay.
+ *
+ * Returns the number of texts that it lends; 0 without an interner, and if the handle has seen no text of that code or
+ * a later one.
  */
 size_t lasso_shared_texts(struct lasso_shared *shared, size_t from, struct lasso_text *texts, size_t texts_length);
 
 /*
- * Copies the texts of the list that the handle has seen last into an interner of one thread, in lasso, under the same
+ * Copies the texts of the list that the handle has seen last into an interner of one thread, in *lasso, under the same
  * codes. Their bytes are in one bucket of just their size (4,096 bytes if they have none), with no limit; the seed or
- * the keys are the same. An interner that lasso holds is freed once the new one is made. The shared interner stays as
- * it is.
+ * the keys are the same. An interner that *lasso holds is freed once the new one is made.
  *
- * Returns LASSO_NO_INTERNER; LASSO_NO_MEMORY; else LASSO_DONE. If it is not LASSO_DONE, lasso holds what it held.
+ * shared              a handle, not NULL. It is only read, and its interner stays as it is.
+ * lasso               written: a handle of an interner of one thread, not NULL. At first it is LASSO_NONE.
+ *
+ * Returns LASSO_NO_INTERNER; LASSO_NO_MEMORY; else LASSO_DONE. If it is not LASSO_DONE, *lasso is as it was.
  */
 uint32_t lasso_shared_copy(struct lasso_shared *shared, struct lasso *lasso);
 
@@ -696,7 +749,9 @@ uint32_t lasso_shared_copy(struct lasso_shared *shared, struct lasso *lasso);
  * handle sees the whole list, with the texts of handles that were freed before: lasso_shared_text and
  * lasso_shared_texts lend all of it, and no code is added. Order the call after those of the freed handles, as by
  * joining their threads. Later handles, which lasso_shared_join makes as before, are frozen too: so each thread may
- * read by one of its own.
+ * read by one of its own. Nothing thaws it.
+ *
+ * shared              a handle, not NULL.
  *
  * Returns LASSO_NO_INTERNER; LASSO_OTHER_HANDLES, and then nothing has changed; else LASSO_DONE, also if the interner
  * is frozen already. That LASSO_DONE comes only to the last handle, and that the list then has the texts of those that
@@ -705,27 +760,31 @@ uint32_t lasso_shared_copy(struct lasso_shared *shared, struct lasso *lasso);
 uint32_t lasso_shared_freeze(struct lasso_shared *shared);
 
 /*
- * How many texts the interner has, without lasso_shared_see. 0 without an interner. That it counts what other handles
- * added before is tested, not proved.
+ * Returns how many texts the interner has, without lasso_shared_see. 0 without an interner. That it counts what other
+ * handles added before is tested, not proved. shared is a handle, not NULL.
  */
 size_t lasso_shared_len(struct lasso_shared *shared);
 
 /*
- * Writes to *bytes how many bytes the interner's buckets of texts take. A text goes into the newest bucket with room for
- * it. If none has room, a bucket is made, of the size that lasso_memory says, or the text is refused. Buckets stay as
- * long as the interner. The list of texts, indexes and hints are not counted.
+ * Writes to *bytes how many bytes the interner's buckets of texts take. A text goes into the newest bucket with room
+ * for it. If none has room, a bucket is made, of the size that lasso_memory says, or the text is refused. Buckets stay
+ * as long as the interner. The list of texts, indexes and hints are not counted.
  *
- * bytes               written: one number, unless the status is not LASSO_DONE.
+ * shared              a handle, not NULL.
+ * bytes               written: one number.
  *
- * Returns LASSO_NO_INTERNER, LASSO_BUSY, else LASSO_DONE.
+ * Returns LASSO_NO_INTERNER; LASSO_BUSY; else LASSO_DONE. If it is not LASSO_DONE, *bytes is as it was.
  */
 uint32_t lasso_shared_memory(struct lasso_shared *shared, size_t *bytes);
 
 /*
  * Writes to *bytes how many bytes those buckets may take: what the interner was made with, or what
- * lasso_shared_set_limit set last.
+ * lasso_shared_set_limit set last, or LASSO_NO_LIMIT.
  *
- * Returns LASSO_NO_INTERNER, LASSO_BUSY, else LASSO_DONE.
+ * shared              a handle, not NULL.
+ * bytes               written: one number.
+ *
+ * Returns LASSO_NO_INTERNER; LASSO_BUSY; else LASSO_DONE. If it is not LASSO_DONE, *bytes is as it was.
  */
 uint32_t lasso_shared_limit(struct lasso_shared *shared, size_t *bytes);
 
@@ -734,13 +793,18 @@ uint32_t lasso_shared_limit(struct lasso_shared *shared, size_t *bytes);
  * the 4,096 bytes of the first one: then only the room that is left in them is used. No bucket is made that would have
  * them take more than the limit of that moment.
  *
- * Returns LASSO_NO_INTERNER, LASSO_BUSY, and then the limit stays, else LASSO_DONE.
+ * shared              a handle, not NULL.
+ * limit               a number of bytes, or LASSO_NO_LIMIT.
+ *
+ * Returns LASSO_NO_INTERNER; LASSO_BUSY, and then the limit is as it was; else LASSO_DONE.
  */
 uint32_t lasso_shared_set_limit(struct lasso_shared *shared, size_t limit);
 
 /*
- * Frees the handle, and the interner with the last of its handles. The handle is then as LASSO_SHARED_NONE, so a second
- * call does nothing.
+ * Frees the handle. With the last handle of an interner it frees the interner, and all texts that were lent. The handle
+ * is then as LASSO_SHARED_NONE, so a second call does nothing. With NULL it does nothing, as free.
+ *
+ * shared              a handle, or NULL.
  */
 void lasso_shared_free(struct lasso_shared *shared);
 
@@ -1038,7 +1102,10 @@ static inline void lasso_shared_free_inline(struct lasso_shared *shared)
 }
 #define lasso_shared_free lasso_shared_free_inline
 
-/* lasso_shared_intern, again and again until it is not LASSO_BUSY. In between the thread lets others run. */
+/*
+ * lasso_shared_intern, again and again until it is not LASSO_BUSY, which this call never returns. In between the thread
+ * lets others run. Nothing bounds the wait: see "What not to rely on" at struct lasso_shared.
+ */
 static inline uint32_t lasso_shared_intern_wait(struct lasso_shared *shared, const uint8_t *text, size_t text_length, uint32_t *code)
 {
     uint32_t status;
@@ -1047,7 +1114,7 @@ static inline uint32_t lasso_shared_intern_wait(struct lasso_shared *shared, con
     return status;
 }
 
-/* lasso_shared_get, again and again until it is not LASSO_BUSY. In between the thread lets others run. */
+/* lasso_shared_get, again and again until it is not LASSO_BUSY, as lasso_shared_intern_wait does. */
 static inline uint32_t lasso_shared_get_wait(struct lasso_shared *shared, const uint8_t *text, size_t text_length, uint32_t *code)
 {
     uint32_t status;
@@ -1057,8 +1124,8 @@ static inline uint32_t lasso_shared_get_wait(struct lasso_shared *shared, const 
 }
 
 /*
- * lasso_shared_intern_batch, and on from the busy text again and again until it is not LASSO_BUSY. In between the
- * thread lets others run. The report is that of the whole batch.
+ * lasso_shared_intern_batch, and on from the busy text again and again until it is not LASSO_BUSY, as
+ * lasso_shared_intern_wait does. The report and the codes are those of the whole batch.
  */
 static inline uint32_t lasso_shared_intern_batch_wait(struct lasso_shared *shared,
                                                       const uint8_t *bytes, size_t bytes_length,
@@ -1081,7 +1148,7 @@ static inline uint32_t lasso_shared_intern_batch_wait(struct lasso_shared *share
     return status;
 }
 
-/* lasso_shared_memory, again and again until it is not LASSO_BUSY. In between the thread lets others run. */
+/* lasso_shared_memory, again and again until it is not LASSO_BUSY, as lasso_shared_intern_wait does. */
 static inline uint32_t lasso_shared_memory_wait(struct lasso_shared *shared, size_t *bytes)
 {
     uint32_t status;
@@ -1090,7 +1157,7 @@ static inline uint32_t lasso_shared_memory_wait(struct lasso_shared *shared, siz
     return status;
 }
 
-/* lasso_shared_limit, again and again until it is not LASSO_BUSY. In between the thread lets others run. */
+/* lasso_shared_limit, again and again until it is not LASSO_BUSY, as lasso_shared_intern_wait does. */
 static inline uint32_t lasso_shared_limit_wait(struct lasso_shared *shared, size_t *bytes)
 {
     uint32_t status;
@@ -1099,7 +1166,7 @@ static inline uint32_t lasso_shared_limit_wait(struct lasso_shared *shared, size
     return status;
 }
 
-/* lasso_shared_set_limit, again and again until it is not LASSO_BUSY. In between the thread lets others run. */
+/* lasso_shared_set_limit, again and again until it is not LASSO_BUSY, as lasso_shared_intern_wait does. */
 static inline uint32_t lasso_shared_set_limit_wait(struct lasso_shared *shared, size_t limit)
 {
     uint32_t status;
@@ -1108,7 +1175,10 @@ static inline uint32_t lasso_shared_set_limit_wait(struct lasso_shared *shared, 
     return status;
 }
 
-/* lasso_shared_text of the list as it is: it sees the list again if the handle has not seen the text yet. */
+/*
+ * lasso_shared_text of the list as it is: if the handle has not seen the text yet, it sees the list, as lasso_shared_see
+ * does, and tries once more. LASSO_NO_SUCH_CODE then means that no text has the code.
+ */
 static inline uint32_t lasso_shared_text_now(struct lasso_shared *shared, uint32_t code, struct lasso_text *text)
 {
     uint32_t status = lasso_shared_text(shared, code, text);
