@@ -45,6 +45,13 @@ fn taken<R: FromIterator<&'static str>>(hint: usize, texts: impl Fn(&R) -> Vec<&
     taken
 }
 
+/// Whether malloc tells what is in use. Under valgrind, which has a malloc of its own, it doesn't.
+fn is_told() -> bool {
+    let before = in_use();
+    let block = vec![1; 100_000];
+    in_use() >= before + block.len()
+}
+
 #[test]
 fn a_hint_is_room_and_no_more() {
     let threaded = |hint| taken::<ThreadedRodeo>(hint, |made| made.strings().collect());
@@ -54,7 +61,7 @@ fn a_hint_is_room_and_no_more() {
     single(0);
     for taken in [&threaded as &dyn Fn(usize) -> usize, &single] {
         // An entry of the list says at least where a text is.
-        assert!(taken(50_000) > taken(0) + 8 * 50_000);
+        assert!(!is_told() || taken(50_000) > taken(0) + 8 * 50_000);
         for hint in [1 << 30, u32::MAX as usize, 1 << 40, usize::MAX] {
             assert!(taken(hint) < 8 << 20, "{hint}");
         }
