@@ -1,4 +1,5 @@
-//! Readers and resolvers, in one thread and in several; walks; and equality of the three types.
+//! Readers and resolvers of a `Rodeo` and of a `ThreadedRodeo`, in one thread and in several; walks; and equality of the three
+//! types.
 
 mod support;
 
@@ -17,36 +18,51 @@ fn rodeo() -> Rodeo {
     TEXTS.into_iter().collect()
 }
 
+fn threaded() -> ThreadedRodeo {
+    TEXTS.into_iter().collect()
+}
+
+fn readers() -> [RodeoReader; 2] {
+    [rodeo().into_reader(), threaded().into_reader()]
+}
+
+fn resolvers() -> [RodeoResolver; 4] {
+    [
+        rodeo().into_resolver(),
+        rodeo().into_reader().into_resolver(),
+        threaded().into_resolver(),
+        threaded().into_reader().into_resolver(),
+    ]
+}
+
 #[test]
 fn a_reader_has_the_keys_and_texts() {
-    let reader = rodeo().into_reader();
-    for (position, text) in TEXTS.into_iter().enumerate() {
-        let key = key(position);
-        assert_eq!(reader.get(text), Some(key));
-        assert!(reader.contains(text) && reader.contains_key(&key));
+    for reader in readers() {
+        for (position, text) in TEXTS.into_iter().enumerate() {
+            let key = key(position);
+            assert_eq!(reader.get(text), Some(key));
+            assert!(reader.contains(text) && reader.contains_key(&key));
+            assert_eq!(
+                (reader.resolve(&key), reader.try_resolve(&key)),
+                (text, Some(text))
+            );
+            assert_eq!(&reader[key], text);
+            // SAFETY: the reader has a text of this key.
+            assert_eq!(unsafe { reader.resolve_unchecked(&key) }, text);
+        }
+        assert_eq!((reader.get("blue"), reader.contains("blue")), (None, false));
         assert_eq!(
-            (reader.resolve(&key), reader.try_resolve(&key)),
-            (text, Some(text))
+            (reader.try_resolve(&key(4)), reader.contains_key(&key(4))),
+            (None, false)
         );
-        assert_eq!(&reader[key], text);
-        // SAFETY: the reader has a text of this key.
-        assert_eq!(unsafe { reader.resolve_unchecked(&key) }, text);
+        assert_eq!((reader.len(), reader.is_empty()), (4, false));
+        let _: &std::collections::hash_map::RandomState = reader.hasher();
     }
-    assert_eq!((reader.get("blue"), reader.contains("blue")), (None, false));
-    assert_eq!(
-        (reader.try_resolve(&key(4)), reader.contains_key(&key(4))),
-        (None, false)
-    );
-    assert_eq!((reader.len(), reader.is_empty()), (4, false));
-    let _: &std::collections::hash_map::RandomState = reader.hasher();
 }
 
 #[test]
 fn a_resolver_has_the_texts() {
-    for resolver in [
-        rodeo().into_resolver(),
-        rodeo().into_reader().into_resolver(),
-    ] {
+    for resolver in resolvers() {
         for (position, text) in TEXTS.into_iter().enumerate() {
             let key = key(position);
             assert!(resolver.contains_key(&key));
@@ -71,11 +87,15 @@ fn a_resolver_has_the_texts() {
 
 #[test]
 fn frozen_forms_of_no_texts_have_none() {
-    let reader = Rodeo::default().into_reader();
-    assert!(reader.is_empty() && reader.get("").is_none() && reader.iter().next().is_none());
-    let resolver = reader.into_resolver();
-    assert!(resolver.is_empty() && resolver.try_resolve(&key(0)).is_none());
-    assert_eq!(resolver.strings().len(), 0);
+    for reader in [
+        Rodeo::default().into_reader(),
+        ThreadedRodeo::default().into_reader(),
+    ] {
+        assert!(reader.is_empty() && reader.get("").is_none() && reader.iter().next().is_none());
+        let resolver = reader.into_resolver();
+        assert!(resolver.is_empty() && resolver.try_resolve(&key(0)).is_none());
+        assert_eq!(resolver.strings().len(), 0);
+    }
 }
 
 #[test]
@@ -85,9 +105,21 @@ fn a_reader_panics_past_its_texts() {
 }
 
 #[test]
+#[should_panic(expected = "no text has the key of position 4")]
+fn a_reader_of_a_threaded_rodeo_panics_past_its_texts() {
+    threaded().into_reader().resolve(&key(4));
+}
+
+#[test]
 #[should_panic(expected = "no text has the key of position 4: there are 4 texts")]
 fn a_resolver_panics_past_its_texts() {
     rodeo().into_resolver().resolve(&key(4));
+}
+
+#[test]
+#[should_panic(expected = "no text has the key of position 4: there are 4 texts")]
+fn a_resolver_of_a_threaded_rodeo_panics_past_its_texts() {
+    threaded().into_resolver().resolve(&key(4));
 }
 
 // Both walks give all texts from both ends, and know how many are left.
@@ -129,12 +161,16 @@ fn walks_give_all_texts_from_both_ends() {
     let rodeo = rodeo();
     walks_give_all(rodeo.iter(), rodeo.strings());
     walks_give_all((&rodeo).into_iter(), rodeo.strings());
-    let reader = rodeo.clone().into_reader();
-    walks_give_all(reader.iter(), reader.strings());
-    walks_give_all((&reader).into_iter(), reader.strings());
-    let resolver = rodeo.into_resolver();
-    walks_give_all(resolver.iter(), resolver.strings());
-    walks_give_all((&resolver).into_iter(), resolver.strings());
+    let threaded = threaded();
+    walks_give_all(threaded.iter(), threaded.strings());
+    for reader in readers() {
+        walks_give_all(reader.iter(), reader.strings());
+        walks_give_all((&reader).into_iter(), reader.strings());
+    }
+    for resolver in resolvers() {
+        walks_give_all(resolver.iter(), resolver.strings());
+        walks_give_all((&resolver).into_iter(), resolver.strings());
+    }
 }
 
 #[test]
@@ -155,6 +191,11 @@ fn equality_is_that_of_texts_in_their_order() {
         let rodeos: [Rodeo; 2] = [left.iter().collect(), right.iter().collect()];
         let readers: [RodeoReader; 2] = rodeos.clone().map(Rodeo::into_reader);
         let resolvers: [RodeoResolver; 2] = rodeos.clone().map(Rodeo::into_resolver);
+        // Their texts were not copied.
+        let kept: [RodeoResolver; 2] = [left, right].map(|texts| {
+            let rodeo: ThreadedRodeo = texts.iter().collect();
+            rodeo.into_resolver()
+        });
         let told = [
             rodeos[0] == rodeos[1],
             rodeos[0] == readers[1],
@@ -165,23 +206,30 @@ fn equality_is_that_of_texts_in_their_order() {
             resolvers[0] == rodeos[1],
             resolvers[0] == readers[1],
             resolvers[0] == resolvers[1],
+            kept[0] == rodeos[1],
+            readers[0] == kept[1],
+            kept[0] == resolvers[1],
+            resolvers[0] == kept[1],
+            kept[0] == kept[1],
         ];
-        assert_eq!(told, [equal; 9], "{left:?} {right:?}");
+        assert_eq!(told, [equal; 14], "{left:?} {right:?}");
     }
 }
 
 #[test]
 fn debug_shows_the_texts() {
-    let reader: Rodeo = ["red", "blue"].into_iter().collect();
-    let reader = reader.into_reader();
-    assert_eq!(
-        format!("{reader:?}"),
-        r#"RodeoReader { strings: ["red", "blue"] }"#
-    );
-    assert_eq!(
-        format!("{:?}", reader.into_resolver()),
-        r#"RodeoResolver { strings: ["red", "blue"] }"#
-    );
+    let rodeo: Rodeo = ["red", "blue"].into_iter().collect();
+    let threaded: ThreadedRodeo = ["red", "blue"].into_iter().collect();
+    for reader in [rodeo.into_reader(), threaded.into_reader()] {
+        assert_eq!(
+            format!("{reader:?}"),
+            r#"RodeoReader { strings: ["red", "blue"] }"#
+        );
+        assert_eq!(
+            format!("{:?}", reader.into_resolver()),
+            r#"RodeoResolver { strings: ["red", "blue"] }"#
+        );
+    }
 }
 
 #[test]
@@ -240,15 +288,25 @@ fn threads_share_a_reader() {
 
 #[test]
 fn threads_share_a_resolver() {
-    let rodeo: Rodeo = LENGTHS.iter().map(|length| text_of(7, *length)).collect();
-    let resolver = rodeo.into_resolver();
-    thread::scope(|scope| {
-        for _ in 0..4 {
-            scope.spawn(|| {
-                for (position, length) in LENGTHS.into_iter().enumerate() {
-                    assert_eq!(resolver.resolve(&key(position)), text_of(7, length));
-                }
-            });
-        }
-    });
+    let texts = || LENGTHS.iter().map(|length| text_of(7, *length));
+    let rodeo: Rodeo = texts().collect();
+    let threaded: ThreadedRodeo = texts().collect();
+    for resolver in [rodeo.into_resolver(), threaded.into_resolver()] {
+        thread::scope(|scope| {
+            for _ in 0..4 {
+                scope.spawn(|| {
+                    for (position, text) in texts().enumerate() {
+                        let key = key(position);
+                        assert_eq!(resolver.resolve(&key), text);
+                        assert_eq!(resolver.try_resolve(&key), Some(&text[..]));
+                        // SAFETY: the resolver has a text of this key.
+                        assert_eq!(unsafe { resolver.resolve_unchecked(&key) }, text);
+                    }
+                });
+            }
+        });
+        thread::spawn(move || assert!(resolver.strings().eq(texts())))
+            .join()
+            .unwrap();
+    }
 }

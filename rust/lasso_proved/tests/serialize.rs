@@ -156,6 +156,14 @@ fn interners_are_written_as_their_texts() {
     assert_eq!(written(&rodeo.clone().into_reader()), TEXTS);
     assert_eq!(written(&rodeo.into_resolver()), TEXTS);
     assert_eq!(written(&Rodeo::default()), [""; 0]);
+    for (rodeo, texts) in [
+        (TEXTS.into_iter().collect(), &TEXTS[..]),
+        (ThreadedRodeo::default(), &[]),
+    ] {
+        let reader = rodeo.into_reader();
+        assert_eq!(written(&reader), texts);
+        assert_eq!(written(&reader.into_resolver()), texts);
+    }
 }
 
 #[test]

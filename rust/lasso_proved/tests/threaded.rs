@@ -287,9 +287,10 @@ fn the_first_text_has_the_first_key_in_64_threads() {
     for round in 0..4 {
         let rodeo: ThreadedRodeo<MiniSpur> = ThreadedRodeo::new();
         at_once(MANY, |number| {
-            let intern = |text| match (number + round) % 2 {
+            let intern = |text| match (number + round) % 3 {
                 0 => rodeo.get_or_intern(text),
-                _ => rodeo.get_or_intern_static(text),
+                1 => rodeo.get_or_intern_static(text),
+                _ => rodeo.try_get_or_intern_static(text).unwrap(),
             };
             assert_eq!([intern("red"), intern("red")], [key(0), key(0)]);
         });
@@ -311,6 +312,8 @@ fn told(rodeo: &ThreadedRodeo, seed: usize) -> Vec<(String, Spur)> {
             (rodeo.get(&text), rodeo.resolve(&this)),
             (Some(this), &text[..])
         );
+        assert_eq!(rodeo.try_resolve(&this), Some(&text[..]));
+        assert_eq!(rodeo.try_resolve(&key(100_000)), None);
         assert!(rodeo.len() > this.into_usize());
         let any = numbers.below(rodeo.len());
         let other = rodeo.resolve(&key(any));
