@@ -71,11 +71,11 @@ class SharedInterner:
         return self._first.frozen
 
     def freeze(self) -> None:
-        """Ends interning for all threads, whichever one calls it. The texts, their codes and all calls that read stay; no text is copied or moved.
-        From then on ``intern`` raises InternerFrozen, and so does ``encode`` at a text, also at a present one. It waits for what other threads are
-        in: an ``encode`` that goes on then raises InternerFrozen, and the texts before its ``position`` stay. Frozen is frozen: a second call does
-        nothing. Raises InternerClosed; or OutOfMemory, with the interner frozen, if there is no memory for a new handle of each thread: one without
-        has the interner closed until a ``freeze`` succeeds."""
+        """Ends interning for all threads: from then on ``intern`` raises InternerFrozen, and so does ``encode`` at its first text, also at a present
+        one. No text is copied or moved, and what reads goes on. An ``encode`` that another thread is in goes on to the end of its block of rows, for
+        which this call waits; then it raises InternerFrozen, and the texts before its ``position`` stay. A second call does nothing. Raises
+        InternerClosed; or OutOfMemory, if a thread's new handle gets no memory: the interner is frozen then, and for that thread closed until a
+        ``freeze`` succeeds."""
         self._first.freeze()
 
     @property
