@@ -35,8 +35,9 @@ define build
 	@jobs=$$(.ci/jobs); cd crates/$(1) && touch out.begun out.failed && \
 	{ rt $(2) $${jobs:+--jobs "$$jobs"} $(3) < /dev/null 2>&1 && rm out.failed; } | tee out.log | $(PROGRESS) >&2
 	@cd crates/$(1) && if [ -e out.failed ]; then cat out.log >&2; rm -f out.begun out.failed out.log; exit 1; fi
-	@touch -r crates/$(1)/out.begun $(4)
+	@touch -c -r crates/$(1)/out.begun $(4)
 	@rm -f crates/$(1)/out.begun crates/$(1)/out.log
+	@[ -e $(4) ] || { echo "rt ended well, but has not built $(4)" >&2; exit 1; }
 endef
 
 # Writes lasso.pc, with a note, beside the library of a folder, and prints the library's paths.

@@ -81,5 +81,6 @@ int main(int argc, char **argv)
     free(lines.bytes);
     free(lines.offsets);
     free(codes);
+    end_output();
     return 0;
 }

@@ -29,6 +29,13 @@ static void *room(size_t bytes)
     return array;
 }
 
+/* Fails unless all that was printed is written. */
+static void end_output(void)
+{
+    if (fflush(stdout) != 0 || ferror(stdout))
+        fail("the output can't be written");
+}
+
 /* The whole of a stream. */
 static uint8_t *read_all(FILE *stream, size_t *length)
 {

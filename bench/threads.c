@@ -286,5 +286,6 @@ int main(int argc, char **argv)
     free_lines(&work.absent);
     free_lines(&work.texts);
     free(work.codes);
+    end_output();
     return 0;
 }

@@ -76,7 +76,7 @@ static struct stream output = {'w', "SHORT_WRITE", "FAIL_WRITE", "EINTR_WRITE", 
 
 /* The errors by which a call may fail. */
 static const struct { const char *name; int number; } errors[] = {
-    {"ENOSPC", ENOSPC}, {"EPIPE", EPIPE}, {"EDQUOT", EDQUOT}, {"EFBIG", EFBIG}, {"EAGAIN", EAGAIN}, {"ECONNRESET", ECONNRESET},
+    {"EIO", EIO}, {"ENOSPC", ENOSPC}, {"EPIPE", EPIPE}, {"EDQUOT", EDQUOT}, {"EFBIG", EFBIG}, {"EAGAIN", EAGAIN}, {"ECONNRESET", ECONNRESET},
 };
 
 /* What a call that fails returns. */

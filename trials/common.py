@@ -18,9 +18,10 @@ OUT = f"{HERE}/trials/out"
 sys.path[1:1] = [f"{HERE}/cases", f"{HERE}/reference", f"{HERE}/cases/tool_replay"]
 sys.dont_write_bytecode = True
 
-WATCH = ("valgrind", "--leak-check=full", "--show-leak-kinds=all")
+# Without what options of the home and the environment pass over.
+WATCH = ("env", "-u", "VALGRIND_OPTS", "HOME=/nowhere", "valgrind", "--leak-check=full", "--show-leak-kinds=all")
 NOTHING_LEFT = "in use at exit: 0 bytes in 0 blocks"
-WRONG = re.compile(r"ERROR SUMMARY: [1-9]")
+WRONG = re.compile(r"ERROR SUMMARY: [1-9]|\(suppressed: [1-9]")
 USED = re.compile(r"total heap usage: ([\d,]+) allocs")
 HALT = 60
 # A line of crates.txt.

@@ -510,7 +510,7 @@ static int run_rounds(double seconds, uint32_t seed)
     printf("%llu rounds, %llu calls, busy %llu times, %llu refused by a limit, the longest call %.3f s, over a second in %llu rounds; a sleeping thread woke up to %.3f s late\n",
            (unsigned long long)rounds, (unsigned long long)calls, (unsigned long long)busy, (unsigned long long)refused, (double)longest / 1e9, (unsigned long long)slow,
            (double)latest_wake / 1e9);
-    return 0;
+    return fflush(stdout) != 0 || ferror(stdout);
 }
 
 /* Whether a call is to be made again: it was out of memory, and nothing has changed. */
@@ -583,7 +583,7 @@ static int run_refused(void)
     if (lasso_shared_freeze(&other) != LASSO_DONE)
         FAULT("no memory is asked for, and the interner is not frozen");
     lasso_shared_free(&other);
-    return puts("6101 texts") < 0;
+    return puts("6101 texts") < 0 || fflush(stdout) != 0;
 }
 
 int main(int count, char **words)

@@ -70,6 +70,8 @@ class Links:
             for owner in reversed([part for part in parts if (crate, part) in self.types]):
                 part = f"{crate}.{owner}.{parts[-1]}"
                 return part if part in self.places else f"{crate}.{owner}"
+            if f"{crate}.{parts[-1]}" in self.places:
+                return f"{crate}.{parts[-1]}"
         return self.constructors.get(key, key)
 
     def shown_key(self, key, word):
