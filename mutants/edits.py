@@ -56,6 +56,11 @@ def path_of(crate):
     return f"{HERE}/mutants/{crate}.edits"
 
 
+def untried_of(crate):
+    """The public functions of the crate that are said to have no mutant: of each its file, and its name after that."""
+    return re.findall(r"^untried: (.*)$", read(path_of(crate)), re.MULTILINE)
+
+
 def sections_of(crate):
     """Of each mutant of the crate its name and the lines of its section."""
     found = []
@@ -63,7 +68,7 @@ def sections_of(crate):
         key, _, rest = line.partition(": ")
         if key == "mutant":
             found.append((rest, []))
-        elif line and not line.startswith("#"):
+        elif line and not line.startswith(("#", "untried: ")):
             if not found:
                 raise Unfit(f"{crate}.edits: a line before the first mutant: {line}")
             found[-1][1].append(line)
@@ -248,7 +253,7 @@ def test_names(edit):
 
 
 def files_with_tests(tree, crate):
-    """The files that may have tests of the crate: its sources, and those that cases/modules adds to a program."""
+    """The files that may have tests of the crate: its sources, and those that .ci/tests adds to a program."""
     return glob.glob(f"{glob.escape(tree)}/crates/{crate}/src/**/*.rt", recursive=True) + glob.glob(f"{glob.escape(tree)}/cases/{crate}/modules/*.rt.in")
 
 

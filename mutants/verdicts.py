@@ -1,5 +1,6 @@
 """What the prover says of mutants, of several functions at once, and what a test or a case says of a mutant."""
 import contextlib
+import glob
 import os
 import re
 import signal
@@ -172,7 +173,7 @@ def test_results(copy, crate, seconds=TEST_SECONDS):
     folder = os.path.join(copy, "crates", crate)
     words = [f"{copy}/.ci/try", "--test", "--seconds", str(seconds)]
     if os.path.isdir(f"{copy}/cases/{crate}/modules"):
-        words = [f"{copy}/cases/modules", crate]
+        words = [f"{copy}/.ci/tests", "--each", crate]
     _, said = ran(words, cwd=folder)
     results = results_in(said)
     if not results:
@@ -222,8 +223,8 @@ def refuse_late(edit, name, result):
 
 def needs_proof(copy, program, cases):
     """Whether one of these cases of the program needs a proved one."""
-    names = {line.split()[0] for line in read(f"{copy}/cases/proved_only.txt").splitlines() if line.strip() and not line.startswith("#")}
-    return any(f"{program}/{case}" in names for case in cases)
+    text = "".join(read(path) for path in glob.glob(f"{glob.escape(copy)}/cases/{program}/*.txt"))
+    return any(f"case {case}\nproved " in text for case in cases)
 
 
 def program_of(copy, program, cases, room):

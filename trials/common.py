@@ -205,6 +205,26 @@ def watched(start, name):
     return result, int(USED.search(said).group(1).replace(",", ""))
 
 
+def missed(files, changes, faults, is_alone=True):
+    """What a check does not find, by a function that says the faults in a folder. Of these files there is none. Of a change, of one file's old text to a
+    new one, there is one with the words that are wanted, and no other one if `is_alone` says so."""
+    for path, old, new, wanted in ((None, "", "", ""), *changes):
+        with tempfile.TemporaryDirectory() as root:
+            for name, text in files.items():
+                write(f"{root}/{name}", text.replace(old, new, 1) if name == path else text)
+            told = list(faults(root))
+        is_found = any(wanted in fault for fault in told) and (len(told) == 1 or not is_alone)
+        if (not is_found or old not in files[path]) if path else told:
+            yield f"of {new[:80]!r} in place of {old[:80]!r} in {path} the check says {told}"
+
+
+def tell_faults(found, what=""):
+    """Prints faults, and how many there are of what was checked. The status."""
+    found = list(found)
+    print(*found, *([f"{what}, {len(found)} faults"] if what else []), sep="\n", end="\n" if found or what else "")
+    return 1 if found else 0
+
+
 def first_difference(found, wanted):
     """Where bytes differ from those that are wanted, in words."""
     at = next((at for at, (one, other) in enumerate(zip(found, wanted)) if one != other), min(len(found), len(wanted)))
