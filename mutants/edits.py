@@ -258,8 +258,8 @@ def files_with_tests(tree, crate):
 
 
 def has_script(name):
-    """Whether the stored input of tool_replay has a script of this name."""
-    return f"\nscript {name} " in "\n" + read(f"{HERE}/crates/tool_replay/stdin")
+    """Whether tool_replay has a script of this name whose replies are stored."""
+    return f"\nscript {name} " in "\n" + read(f"{HERE}/cases/tool_replay/replies.txt")
 
 
 def fault_of(edit):

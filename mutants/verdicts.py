@@ -243,17 +243,17 @@ def program_of(copy, program, cases, room):
 
 
 def replays(copy, file, name):
-    """How it ends whether the replies of tool_replay, in this file, to the stored script of this name are stored ones."""
-    folder = os.path.join(copy, "crates", REPLAY)
-    with open(f"{folder}/stdin", "rb") as scripts, open(f"{folder}/stdout", "rb") as replies:
-        script = re.search(rb"^script %s .*?(?=^script |\Z)" % re.escape(name.encode()), scripts.read(), re.MULTILINE | re.DOTALL)
-        try:
-            done = subprocess.run([file], input=script.group(), capture_output=True, timeout=float(CASE_SECONDS), check=False)
-        except subprocess.TimeoutExpired:
-            return LATE
-        if done.returncode == -signal.SIGKILL:
-            return KILLED
-        return "ok" if done.returncode == 0 and b"\n" + done.stdout in b"\n" + replies.read() else "FAILED"
+    """How it ends whether the replies of tool_replay, in this file, to the script of this name are the stored ones."""
+    script = re.search(rf"^script {name} .*?(?=^script |\Z)", read(f"{copy}/cases/{REPLAY}/replies.txt"), re.MULTILINE | re.DOTALL).group()
+    replies = "".join(re.findall(r"^  (.*\n)", script, re.MULTILINE))
+    given = re.sub(r"^  .*\n", "", script, flags=re.MULTILINE)
+    try:
+        done = subprocess.run([file], input=given.encode(), capture_output=True, timeout=float(CASE_SECONDS), check=False)
+    except subprocess.TimeoutExpired:
+        return LATE
+    if done.returncode == -signal.SIGKILL:
+        return KILLED
+    return "ok" if done.returncode == 0 and done.stdout == replies.encode() else "FAILED"
 
 
 def result_of(copy, program, file, case):

@@ -23,10 +23,16 @@ MOVES = ("next", "back", "nth0", "nth1", "nthback0", "nthback1", "nthback2", "le
 STATIC = [b"", b"x", b"gdfg", b"0123456789", b"Hello, world!", b"a static text"]
 
 
-def named_scripts():
-    """The lines of the scripts that are written by hand."""
-    with open(os.path.join(os.path.dirname(__file__), "scripts.txt"), encoding="ascii") as scripts:
-        return scripts.read().splitlines()
+def lines_of(name):
+    """The lines of a file beside this one."""
+    with open(os.path.join(os.path.dirname(__file__), name), encoding="ascii") as source:
+        return source.read().splitlines()
+
+
+def stored():
+    """The lines whose replies were worked by hand, and the replies, which are indented below each."""
+    lines = lines_of("replies.txt")
+    return [line for line in lines if not line.startswith("  ")], [line[2:] for line in lines if line.startswith("  ")]
 
 
 def words_of(texts):
@@ -193,7 +199,7 @@ def large_values():
 
 def lines():
     """All lines, those that are written by hand first."""
-    yield from named_scripts()
+    yield from lines_of("scripts.txt")
     yield from runs_of_lengths()
     yield from copies()
     yield from used_up_keys()
