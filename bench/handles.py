@@ -48,7 +48,7 @@ def build_handles():
     glib = said_of(["pkg-config", "--cflags", "--libs", "glib-2.0"]).split()
     said_of(["cc", "-O2", "-Wall", "-Wextra", "-std=c11", "-pthread", "-o", OVER_C, "bench/threads.c", "-I", "crates/lasso_c/include", library, *glib])
     if not build_rivals() or not is_lasso_built():
-        sys.exit(f"lasso 0.7.3 or the maps can't be fetched or built ({OUT}/*.log): LASSO_SOURCE=path names a folder that has lasso")
+        sys.exit(1)
 
 
 def rounds_of_handles(first):

@@ -30,7 +30,7 @@ HERE = os.path.dirname(os.path.dirname(os.path.abspath(__file__)))
 sys.path[1:1] = [f"{HERE}/mutants", f"{HERE}/trials"]
 import edits  # pylint: disable=wrong-import-position
 from edits import sources  # pylint: disable=wrong-import-position
-from common import missed, read, write  # pylint: disable=wrong-import-position
+from common import missed, read  # pylint: disable=wrong-import-position
 
 PAGE = "docs/CONTRACTS.md"
 WIDTH = 110
