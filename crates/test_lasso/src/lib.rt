@@ -8,8 +8,6 @@
 mod counting;
 #[cfg(test)]
 mod interfaces;
-#[cfg(test)]
-mod keyed;
 pub mod laws;
 #[cfg(test)]
 mod objects;

@@ -26,13 +26,9 @@ mod lengths;
 #[cfg(test)]
 mod limits;
 #[cfg(test)]
-mod locals;
-#[cfg(test)]
 mod locks;
 #[cfg(test)]
 mod many;
-#[cfg(test)]
-mod setters;
 #[cfg(test)]
 mod shards;
 #[cfg(test)]

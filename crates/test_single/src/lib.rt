@@ -9,8 +9,6 @@ mod commands;
 #[cfg(test)]
 mod hashing;
 #[cfg(test)]
-mod index;
-#[cfg(test)]
 mod interners;
 #[cfg(test)]
 mod refusals;
