@@ -78,7 +78,7 @@ try-c: $(UNPROVED)
 	$(call offer,out/unproved,'not proved')
 	@echo "Nothing of this library is proved. make c proves the same library and builds it in out: half an hour on four cores." >&2
 
-$(UNPROVED): $(SOURCES) VERSION install/link install/unproved .ci/trying.py
+$(UNPROVED): $(SOURCES) VERSION install/link install/unproved .ci/trying.py trials/common.py
 	@$(MAKE) -s toolchain python
 	@echo "building the library for C without proof" >&2
 	@install/unproved out/unproved

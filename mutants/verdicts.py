@@ -4,12 +4,11 @@ import glob
 import os
 import re
 import signal
-import subprocess
 import tempfile
 
 from edits import Unfit, files_with_tests, places
 from copies import Outcome, Result, applied, end_of, tell
-from common import ran, read, write
+from common import COUNTS, ran, read, write
 
 VERDICT = re.compile(r"^fn (\S+): (.*)$", re.MULTILINE)
 PROOF_ERROR = re.compile(r"^\./proofs/(\S+)/(?:Answers|Proof)\.antt:\d+:\d+: error: ", re.MULTILINE)
@@ -247,13 +246,8 @@ def replays(copy, file, name):
     script = re.search(rf"^script {name} .*?(?=^script |\Z)", read(f"{copy}/cases/{REPLAY}/replies.txt"), re.MULTILINE | re.DOTALL).group()
     replies = "".join(re.findall(r"^  (.*\n)", script, re.MULTILINE))
     given = re.sub(r"^  .*\n", "", script, flags=re.MULTILINE)
-    try:
-        done = subprocess.run([file], input=given.encode(), capture_output=True, timeout=float(CASE_SECONDS), check=False)
-    except subprocess.TimeoutExpired:
-        return LATE
-    if done.returncode == -signal.SIGKILL:
-        return KILLED
-    return "ok" if done.returncode == 0 and done.stdout == replies.encode() else "FAILED"
+    status, said = ran([file], float(CASE_SECONDS), given)
+    return {None: LATE, -signal.SIGKILL: KILLED}.get(status, "ok" if (status, said) == (0, replies) else "FAILED")
 
 
 def result_of(copy, program, file, case):
@@ -262,7 +256,7 @@ def result_of(copy, program, file, case):
         return replays(copy, file, case)
     words = [f"{copy}/cases/run", "--program", f"{program}={file}", f"{program}/{case}"]
     status, said = ran(words, env={**os.environ, "CASE_SECONDS": CASE_SECONDS})
-    if not re.search(r"^\d+ passed, \d+ failed$", said, re.MULTILINE):
+    if not COUNTS.search(said):
         raise Unfit(f"the cases {case} of {program} did not run:\n{end_of(said)}")
     return "ok" if status == 0 else LATE if LATE in said else KILLED if "status -9" in said else "FAILED"
 

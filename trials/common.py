@@ -25,6 +25,8 @@ USED = re.compile(r"total heap usage: ([\d,]+) allocs")
 HALT = 60
 # A line of crates.txt.
 CRATE = re.compile(r"^(?P<crate>\w+)[^:#]*:(?P<used>.*)$")
+# The last line of a command that counts.
+COUNTS = re.compile(r"^(\d+) passed, (\d+) failed", re.MULTILINE)
 DEBIAN_PYTHON = "/usr/bin/python3"
 NONE_LEFT = "0 blocks, 0 bytes"
 KEEPS_ONE = "#include <stdlib.h>\nint main(void) { return malloc(7) == NULL; }\n"
@@ -42,10 +44,10 @@ def run_trial(trial):
         sys.exit(str(fault))
 
 
-def ran(words, seconds=None, **options):
-    """The status of a command without an input, or None if it had not ended in time, and all that it wrote, standard error last."""
+def ran(words, seconds=None, given="", **options):
+    """The status of a command over an input, or None if it had not ended in time, and all that it wrote, standard error last."""
     try:
-        done = subprocess.run(words, stdin=subprocess.DEVNULL, capture_output=True, timeout=seconds, check=False, **options)
+        done = subprocess.run(words, input=given.encode(), capture_output=True, timeout=seconds, check=False, **options)
         status = done.returncode
     except subprocess.TimeoutExpired as late:
         done, status = late, None
@@ -65,6 +67,11 @@ def read(path, errors="strict"):
     """The text of a file."""
     with open(path, encoding="utf-8", errors=errors) as source:
         return source.read()
+
+
+def last_line(path):
+    """The last line of a file that is not empty."""
+    return read(path, "replace").strip().split("\n")[-1].strip()
 
 
 def write(path, text):
@@ -103,11 +110,34 @@ def copy_sources(tree, room):
             shutil.copytree(path, os.path.join(room, os.path.relpath(path, tree)))
 
 
-def ended(process):
-    """What a process used, once it has ended. Its return code is then set."""
-    _, status, used = os.wait4(process.pid, 0)
-    process.returncode = os.waitstatus_to_exitcode(status)
-    return used
+@dataclass
+class Took:
+    """The status of a command, and its seconds by the clock and of all processors: its own, and the system's."""
+
+    status: int
+    seconds: float
+    own: float
+    system: float
+
+
+def timed(words, target, is_shown=False, begin=None, **options):
+    """Runs a command, which writes to the target. Shows it as it comes if `is_shown` says so. `begin` gets the process. What it took."""
+    begun = time.perf_counter()
+    started = subprocess.Popen(words, stdout=subprocess.PIPE if is_shown else target, **{"stdin": subprocess.DEVNULL, "stderr": subprocess.STDOUT, **options})
+    if begin:
+        begin(started)
+    for line in started.stdout or ():
+        for each in (target, sys.stdout.buffer):
+            each.write(line)
+            each.flush()
+    _, status, used = os.wait4(started.pid, 0)
+    started.returncode = os.waitstatus_to_exitcode(status)
+    return Took(started.returncode, time.perf_counter() - begun, used.ru_utime, used.ru_stime)
+
+
+def checks_in_memory():
+    """For how many checks at once memory is enough."""
+    return int(said_of([f"{HERE}/.ci/jobs"]).strip() or 1)
 
 
 def commit(*parts):
@@ -169,10 +199,11 @@ def is_up_to_date(path):
     return os.path.isfile(path) and os.path.getmtime(path) >= max(map(os.path.getmtime, sources))
 
 
-def build(path, words, **options):
-    """Runs what proves and builds a file. It gets the time at which this began, so that a source that is saved meanwhile is newer."""
+@contextlib.contextmanager
+def building(path):
+    """Within it a file is built. It gets the time at which this began, so that a source that is saved meanwhile is newer."""
     begun = time.time()
-    said_of(words, **options)
+    yield
     os.utime(path, (begun, begun))
 
 
@@ -180,7 +211,8 @@ def program_of(crate):
     """The proved program of a crate, which is proved and built if it is missing or older than a source."""
     path = f"{HERE}/crates/{crate}/out/{crate}"
     if not is_up_to_date(path):
-        build(path, run_of(crate), cwd=f"{HERE}/crates/{crate}")
+        with building(path):
+            said_of(run_of(crate), cwd=f"{HERE}/crates/{crate}")
     return path
 
 

@@ -2,7 +2,6 @@
 import collections
 import html
 import json
-import os
 import re
 
 import markdown
@@ -15,7 +14,6 @@ import header
 from links import GLOSSARY, GLOSSARY_URL, THREADED, Links, Place, Scope, anchor, linked_to_glossary, page_of_type, shown_glossary, terms
 from sources import ghosts_of, imports, read, variants_of
 
-HERE = os.path.dirname(os.path.abspath(__file__))
 KINDS = ("struct", "enum", "trait", "type")
 FORMATTER = HtmlFormatter(nowrap=True)
 SEARCH_SUMMARY = 240
@@ -79,7 +77,7 @@ class Reference:
         self.entries = []
         self.header = header.parts_of(read(f"{root}/{header.SOURCE}"))
         self.in_header = dict(self.places_of_header())
-        _, self.introduction, self.reading, self.reading_c = re.split(r"<!--.*-->\n", read(f"{HERE}/texts.html"))
+        _, self.introduction, self.reading, self.reading_c = re.split(r"<!--.*-->\n", read(f"{root}/docs/reference/texts.html"))
 
     def exported(self):
         """The names that reachable modules export, by the last module of their path."""
