@@ -8,8 +8,9 @@ import sys
 from dataclasses import dataclass, field
 
 HERE = os.path.dirname(os.path.dirname(os.path.abspath(__file__)))
-sys.path[1:1] = [f"{HERE}/docs/reference", f"{HERE}/trials"]
+sys.path[1:1] = [f"{HERE}/docs/reference", f"{HERE}/trials", f"{HERE}/cases/tool_replay"]
 import sources  # pylint: disable=wrong-import-position
+import made  # pylint: disable=wrong-import-position
 from common import read, used_crates  # pylint: disable=wrong-import-position
 
 BY_SOME_HISTORY = re.compile(r"\bIsPlain(?:Call|Filling)\b")
@@ -258,8 +259,8 @@ def files_with_tests(tree, crate):
 
 
 def has_script(name):
-    """Whether tool_replay has a script of this name whose replies are stored."""
-    return f"\nscript {name} " in "\n" + read(f"{HERE}/cases/tool_replay/replies.txt")
+    """Whether tool_replay has a script of this name with replies."""
+    return bool(made.worked(made.text_by_hand(), name)[0])
 
 
 def fault_of(edit):

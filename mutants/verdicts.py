@@ -6,7 +6,7 @@ import re
 import signal
 import tempfile
 
-from edits import Unfit, files_with_tests, places
+from edits import Unfit, files_with_tests, made, places
 from copies import Outcome, Result, applied, end_of, tell
 from common import COUNTS, ran, read, write
 
@@ -242,12 +242,10 @@ def program_of(copy, program, cases, room):
 
 
 def replays(copy, file, name):
-    """How it ends whether the replies of tool_replay, in this file, to the script of this name are the stored ones."""
-    script = re.search(rf"^script {name} .*?(?=^script |\Z)", read(f"{copy}/cases/{REPLAY}/replies.txt"), re.MULTILINE | re.DOTALL).group()
-    replies = "".join(re.findall(r"^  (.*\n)", script, re.MULTILINE))
-    given = re.sub(r"^  .*\n", "", script, flags=re.MULTILINE)
-    status, said = ran([file], float(CASE_SECONDS), given)
-    return {None: LATE, -signal.SIGKILL: KILLED}.get(status, "ok" if (status, said) == (0, replies) else "FAILED")
+    """How it ends whether the replies of tool_replay, in this file, to the script of this name are those that were worked by hand."""
+    lines, replies = made.worked(read(f"{copy}/cases/{REPLAY}/scripts.txt"), name)
+    status, said = ran([file], float(CASE_SECONDS), "\n".join([*lines, ""]))
+    return {None: LATE, -signal.SIGKILL: KILLED}.get(status, "ok" if (status, said.splitlines()) == (0, replies) else "FAILED")
 
 
 def result_of(copy, program, file, case):

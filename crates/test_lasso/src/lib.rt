@@ -10,8 +10,6 @@ mod counting;
 mod interfaces;
 pub mod laws;
 #[cfg(test)]
-mod objects;
-#[cfg(test)]
 mod owning;
 #[cfg(test)]
 mod refused;

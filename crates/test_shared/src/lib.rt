@@ -30,6 +30,8 @@ mod locks;
 #[cfg(test)]
 mod many;
 #[cfg(test)]
+mod setters;
+#[cfg(test)]
 mod shards;
 #[cfg(test)]
 mod shared_memory;

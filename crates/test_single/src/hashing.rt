@@ -1,11 +1,10 @@
 //! The hash of texts under a seed, against vectors that another program computed, and how many times an interner hashes
-//! a text. What no contract says of an index: which texts it hashes again, which it reads, and that it works with a
-//! constant hasher.
-use crate::interners::{CountedTexts, Host, has_count, interns, interns_numbers, is_so, told};
+//! a text.
+use crate::interners::{has_count, interns, interns_numbers, is_so, told};
 use lasso_parts::hasher::{TextState, hash_with_seed};
-use lasso_parts::index::{Index, hash_text};
-use lasso_parts::keys::{Key, Spur};
-use lasso_parts::util::{Capacity, FixedState, LassoResult};
+use lasso_parts::index::hash_text;
+use lasso_parts::keys::Spur;
+use lasso_parts::util::{Capacity, FixedState};
 use lasso_single::rodeo::Rodeo;
 use std::alloc::Global;
 use std::cell::Cell;
@@ -13,7 +12,7 @@ use std::hash::{BuildHasher, Hasher};
 use std::io;
 use std::random::RandomSource;
 use std::test::Fail;
-use test_common::hashers::{CountingState, LengthState, SameState};
+use test_common::hashers::CountingState;
 
 // The seeds of the table's columns.
 static SEEDS: [(u64, u64); 3] = [
@@ -244,146 +243,4 @@ fn a_copy_asks_the_hasher_of_its_source(rt: HostRuntime) -> Result<(), Fail> {
     is_so(&rt, of_source.get() == 5, "a text that is looked up");
     is_so(&rt, of_target.get() == 0, "the hasher that was there");
     Ok(())
-}
-
-// What no contract says of an index.
-
-static WORDS: [&str; 24] = [
-    "", "a", "b", "aa", "ab", "ba", "bb", "aaa", "aab", "aba", "abb", "baa", "bab", "bba", "bbb",
-    "aaaa", "one", "two", "three", "four", "five", "six", "seven", "eight",
-];
-
-// A list of texts with an index of some of them.
-#[derive(Drop)]
-struct Entered<'a, S: BuildHasher + Drop> {
-    texts: &'a [&'a str],
-    index: Index<Spur, Global>,
-    hasher: S,
-}
-
-impl<'a, S: BuildHasher + Drop> Entered<'a, S> {
-    // An index that has no room for a text.
-    fn new(alloc: Global, hasher: S, texts: &'a [&'a str]) -> Self {
-        let index = Index::new(alloc);
-        Entered {
-            texts,
-            index,
-            hasher,
-        }
-    }
-
-    // Enters the text at this position.
-    fn enter(&mut self, position: usize) -> LassoResult<()> {
-        if let Some(text) = self.texts.get(position) {
-            if let Some(key) = Spur::try_from_usize(position) {
-                let hash = hash_text(&self.hasher, text);
-                self.index.reserve_one(&self.texts, &self.hasher)?;
-                self.index.insert_reserved(hash, key);
-            }
-        }
-        Ok(())
-    }
-
-    fn find(&self, text: &str) -> Option<usize> {
-        self.index.find(&self.texts, &self.hasher, text)
-    }
-
-    // Whether a search finds the text as wanted, and reads `count` texts.
-    fn reads(&self, text: &str, wanted: Option<usize>, count: u64) -> bool {
-        let read = Cell::new(0u64);
-        let texts = CountedTexts::new(self.texts, &read);
-        self.index.find(&texts, &self.hasher, text) == wanted && read.get() == count
-    }
-
-    // Whether each text is found at its position.
-    fn has_all(&self) -> bool {
-        let mut all = true;
-        for (position, text) in self.texts.iter().enumerate() {
-            all &= self.find(*text) == Some(position);
-        }
-        all
-    }
-
-    // Enters each text. Returns whether none was found before.
-    fn enter_new(&mut self) -> LassoResult<bool> {
-        let mut are_new = true;
-        for position in 0..self.texts.len() {
-            are_new &= self.find(self.texts[position]).is_none();
-            self.enter(position)?;
-        }
-        Ok(are_new)
-    }
-
-    // Takes the step. Returns whether it went as it has to.
-    fn takes(&mut self, step: Step) -> LassoResult<bool> {
-        match step {
-            Step::EntersNew => self.enter_new(),
-            Step::HasAll => Ok(self.has_all()),
-            Step::Has(text, wanted) => Ok(self.find(text) == wanted),
-            Step::Reads(text, wanted, count) => Ok(self.reads(text, wanted, count)),
-        }
-    }
-}
-
-// What a test does with an index, and what it then has to find.
-#[derive(Clone, Copy)]
-enum Step {
-    // enters each text, which is not found before
-    EntersNew,
-    // each text is found at its position
-    HasAll,
-    // the text is found at the position, or not if that is `None`
-    Has(&'static str, Option<usize>),
-    // the same, and how many texts the search reads
-    Reads(&'static str, Option<usize>, u64),
-}
-
-// Takes the steps with an index that has no room for a text.
-fn run_steps<S: BuildHasher + Drop>(
-    rt: &impl Host,
-    hasher: S,
-    texts: &[&str],
-    steps: &[Step],
-) -> Result<(), Fail> {
-    let mut words = Entered::new(rt.alloc(), hasher, texts);
-    for (number, step) in steps.iter().enumerate() {
-        assert!(rt; words.takes(*step)?, "step {number}");
-    }
-    Ok(())
-}
-
-#[test]
-fn constant_hash(rt: HostRuntime) -> Result<(), Fail> {
-    let steps = [Step::EntersNew, Step::HasAll, Step::Has("bbba", None)];
-    run_steps(&rt, SameState::new(), WORDS.as_slice(), &steps)
-}
-
-#[test]
-fn hashed_again(rt: HostRuntime) -> Result<(), Fail> {
-    let asked = Cell::new(0u64);
-    let hasher = CountingState::new(&asked);
-    let mut words = Entered::new(rt.alloc(), hasher, WORDS.as_slice());
-    let mut hashed = [0u64; 7];
-    for (position, count) in hashed.iter_mut().enumerate() {
-        let before = asked.get();
-        words.enter(position)?;
-        *count = asked.get().wrapping_sub(before);
-    }
-    let (sixth, seventh) = (hashed[5], hashed[6]);
-    assert!(rt; seventh >= sixth + 6, "{sixth} texts, then {seventh}");
-    Ok(())
-}
-
-static LENGTHS: [&str; 4] = ["x", "xx", "xxx", "yy"];
-
-#[test]
-fn other_fingerprints_are_passed_over(rt: HostRuntime) -> Result<(), Fail> {
-    let steps = [
-        Step::EntersNew,
-        Step::Reads("xxx", Some(2), 1),
-        Step::Reads("yy", Some(3), 2),
-        Step::Reads("zz", None, 2),
-        Step::Reads("zzzz", None, 0),
-    ];
-    run_steps(&rt, LengthState::new(), LENGTHS.as_slice(), &steps)
 }

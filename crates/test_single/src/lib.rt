@@ -9,6 +9,8 @@ mod commands;
 #[cfg(test)]
 mod hashing;
 #[cfg(test)]
+mod index;
+#[cfg(test)]
 mod interners;
 #[cfg(test)]
 mod refusals;
