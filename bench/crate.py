@@ -1,8 +1,8 @@
 """The tables of the crate rust/lasso_proved: beside the best that Rust has, and beside lasso 0.7.3."""
 import os
 
-from lasso import ALL_HASHERS, HASHERS, LASSO, is_lasso_built, load, occasion
-from measuring import OUT, Table, best_hashes, build_library, end_with, is_built_over_crates, keep, of_programs, priority, said_lines, times_by_key
+from lasso import ALL_HASHERS, HASHERS, LASSO, is_lasso_built, times_of
+from measuring import OUT, Table, best_hashes, build_library, end_with, is_built_over_crates, of_programs, said_lines
 from programs import BEST_CALLS
 
 PROVED = f"{OUT}/proved/release/proved"
@@ -69,10 +69,7 @@ def measure_crate():
     build_over_library("serde")
     hashers = ALL_HASHERS if is_lasso_built() else ()
     hashes = best_hashes()
-    first = priority()
-    print("\n".join(occasion()), flush=True)
-    times = times_by_key(keep("rust", rounds_of_crate(first, hashes, hashers)), 4)
-    print(f"load at the end: {load()}")
+    times = times_of("rust", lambda first: rounds_of_crate(first, hashes, hashers), 4)
     print_beside_best(times, hashes)
     if hashers:
         print()

@@ -4,8 +4,8 @@ import sys
 from statistics import median
 
 from crate import PROVED, build_over_library
-from lasso import LASSO, is_lasso_built, load, occasion
-from measuring import INPUTS, OUT, keep, make_input, priority, said_lines, said_of, times_by_key
+from lasso import LASSO, is_lasso_built, times_of
+from measuring import INPUTS, OUT, make_input, said_lines, said_of
 from threads import RUST as MAPS
 from threads import build_rivals
 
@@ -105,10 +105,7 @@ def measure_handles():
     build_handles()
     for name in (*NAMES, *ALONE_NAMES):
         make_input(name)
-    first = priority()
-    print("\n".join(occasion()), flush=True)
-    times = times_by_key(keep("handles", rounds_of_handles(first)), 4)
-    print(f"load at the end: {load()}")
+    times = times_of("handles", rounds_of_handles, 4)
     print_alone(times)
     for ours, others in TABLES.items():
         print_table(times, ours, others)

@@ -200,6 +200,16 @@ def occasion():
     yield said_of(["rustc", "--version"]).strip()
 
 
+def times_of(name, rounds, width):
+    """All values of rounds, by the words before them. The rounds get the words of their priority, and are kept by this name. Prints the occasion, and the
+    load at the end."""
+    first = priority()
+    print("\n".join(occasion()), flush=True)
+    times = times_by_key(keep(name, rounds(first)), width)
+    print(f"load at the end: {load()}")
+    return times
+
+
 def size_of(name):
     """The lines, bytes and distinct lines of an input."""
     path = f"{INPUTS}/{name}"
