@@ -1,9 +1,22 @@
 //! Each call of the interfaces at each type that has it, and rows of answers through generic code. Interners and frozen
 //! forms whose type is not known where they are used, and what frozen ones have to show.
-use crate::laws::{boxed_object_interns_as_one, boxed_rodeo_interns_as_one, boxed_rodeo_object_interns_as_one, lent_rodeo_interns_as_one, object_interns_as_one, reader_finds_what_resolves, reader_of_boxed_rodeo_knows, reader_of_rodeo_knows, resolver_looks_up_alike, resolver_of_boxed_rodeo_knows, resolver_of_rodeo_knows, rodeo_interns_as_one};
-use crate::steps::{Answer, CASES, Case, LIMIT, all_right, first_wrong, gives_hello, is_answer, is_so, of_hello, reads_hello, steps_of};
-use lasso::{Capacity, Key, LassoResult, MemoryLimits, Rodeo, Spur, SpurRodeo, SpurRodeoReader, SpurRodeoResolver};
-use lasso::interface::{IntoReader, IntoReaderAndResolver, IntoResolver, SpurInterner, SpurReader, SpurResolver};
+use crate::laws::{
+    boxed_object_interns_as_one, boxed_rodeo_interns_as_one, boxed_rodeo_object_interns_as_one,
+    lent_rodeo_interns_as_one, object_interns_as_one, reader_finds_what_resolves,
+    reader_of_boxed_rodeo_knows, reader_of_rodeo_knows, resolver_looks_up_alike,
+    resolver_of_boxed_rodeo_knows, resolver_of_rodeo_knows, rodeo_interns_as_one,
+};
+use crate::steps::{
+    Answer, CASES, Case, LIMIT, all_right, first_wrong, gives_hello, is_answer, is_so, of_hello,
+    reads_hello, steps_of,
+};
+use lasso::interface::{
+    IntoReader, IntoReaderAndResolver, IntoResolver, SpurInterner, SpurReader, SpurResolver,
+};
+use lasso::{
+    Capacity, Key, LassoResult, MemoryLimits, Rodeo, Spur, SpurRodeo, SpurRodeoReader,
+    SpurRodeoResolver,
+};
 use std::alloc::Global;
 use std::test::Fail;
 use test_steps::Host;
