@@ -116,7 +116,8 @@ def tried(root):
     edits.HERE = root
     found = set()
     for edit in edits.every_edit():
-        if not isinstance(edit, edits.Unfit) and edit.file.startswith("src/"):
+        # mutants/run --dry tells of one without its file.
+        if not isinstance(edit, edits.Unfit) and edit.file.startswith("src/") and os.path.isfile(f"{root}/crates/{edit.crate}/{edit.file}"):
             found |= {(f"crates/{edit.crate}/{edit.file}", start) for start in changed_by(root, edit)}
     return found
 
