@@ -79,7 +79,7 @@ try-c: $(UNPROVED)
 	$(call offer,out/unproved,'not proved')
 	@echo "Nothing of this library is proved. make c proves the same library and builds it in out: half an hour on four cores." >&2
 
-$(UNPROVED): $(SOURCES) VERSION install/link install/unproved .ci/trying.py .ci/unchecked.py
+$(UNPROVED): $(SOURCES) VERSION install/link install/unproved .ci/trying.py trials/common.py
 	@$(MAKE) -s toolchain python
 	@echo "building the library for C without proof" >&2
 	@install/unproved out/unproved
@@ -147,7 +147,7 @@ check: crate toolchain
 	*) cd "crates/$$CRATE" && rt check ;; \
 	esac
 	@if [ -d "cases/$$CRATE/modules" ]; then (cd "crates/$$CRATE" && touch out.begun && rt run -- --version < /dev/null > /dev/null && touch -r out.begun "out/$$CRATE" && rm -f out.begun) && cases/run "$$CRATE"; fi
-	@if [ -d "cases/$$CRATE/modules" ]; then cases/modules "$$CRATE"; fi
+	@if [ -d "cases/$$CRATE/modules" ]; then .ci/tests "$$CRATE"; fi
 
 #: make test                         all that needs no proof, in 3 minutes on four cores: the checks of documents and layout, all tests,
 #:                                   the tests of modules, and the cases over programs that are built without proof
@@ -166,13 +166,11 @@ verify: python
 docs:
 	docs/check --try
 	docs/check
-	docs/contracts --try
-	docs/contracts
 	install/check --try
 	install/check
 	cases/run --try
 	mutants/run --dry
-	docs/shell
+	.ci/layout --shell
 	install/trials
 
 #: make reference                    writes the reference of all public calls to out/reference, and prints the path of its first page

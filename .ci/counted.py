@@ -1,19 +1,15 @@
 """Runs parts of `make test` and `make verify`: each is a command, whose last line `N passed, M failed` counts."""
 import concurrent.futures
 import os
-import re
 import shutil
-import subprocess
 import sys
 import tempfile
 import threading
-import time
 from dataclasses import dataclass
 
 sys.path.insert(1, f"{os.path.dirname(os.path.dirname(os.path.abspath(__file__)))}/trials")
-from common import HERE, ended, is_installed  # pylint: disable=wrong-import-position
+from common import COUNTS, HERE, is_installed, timed  # pylint: disable=wrong-import-position
 
-COUNTS = re.compile(rb"^(\d+) passed, (\d+) failed", re.MULTILINE)
 CC = "cc"
 
 
@@ -40,27 +36,19 @@ class Result:
 
 def counts_of(said, status):
     """How many passed and failed, by the last line of counts; a command without one is one test. It failed if its status says so, or if none passed."""
-    found = COUNTS.findall(said)
+    found = COUNTS.findall(said.decode("utf-8", "replace"))
     passed, failed = map(int, found[-1]) if found else (int(status == 0), int(status != 0))
     return passed, max(failed, int(status != 0 or not passed))
 
 
 def run(part):
     """Runs the part, and returns its result and what it wrote."""
-    begun = time.monotonic()
     with tempfile.TemporaryFile() as said:
-        started = subprocess.Popen(
-            part.words, cwd=part.folder, stdin=subprocess.DEVNULL, stdout=subprocess.PIPE if part.is_shown else said, stderr=subprocess.STDOUT
-        )
-        for line in started.stdout or ():
-            said.write(line)
-            sys.stdout.buffer.write(line)
-            sys.stdout.buffer.flush()
-        used = ended(started)
+        took = timed(part.words, said, part.is_shown, cwd=part.folder)
         said.seek(0)
         text = said.read()
-    passed, failed = counts_of(text, started.returncode)
-    return Result(part.name, passed, failed, time.monotonic() - begun, used.ru_utime + used.ru_stime), text
+    passed, failed = counts_of(text, took.status)
+    return Result(part.name, passed, failed, took.seconds, took.own + took.system), text
 
 
 def tell(result, said, is_shown):

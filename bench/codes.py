@@ -15,6 +15,14 @@ FOLDER = f"{OUT}/parts"
 ROUNDS = 8
 PARTS = 32
 MAWK = "/usr/bin/mawk"
+# What the system has for a verb, as commands of bash.
+OTHERS = {
+    "counts": {
+        "sort_uniq_sort": "LC_ALL=C sort --parallel=4 < INPUT | LC_ALL=C uniq -c | LC_ALL=C sort --parallel=4 -rn",
+        "mawk": f"exec {MAWK} '{{ c[$0]++ }} END {{ for (line in c) print c[line], line }}' < INPUT",
+    },
+    "distinct": {"mawk": f"exec {MAWK} '!seen[$0]++' < INPUT"},
+}
 CLUSTER_ROUNDS = 5
 PROCESSES = ("1", "2", "4")
 STEPS = ("cut", "encode", "merge")
@@ -37,25 +45,13 @@ def ours(words, path):
     return f"exec {quote(CODES)} {words} < {quote(path)}"
 
 
-def commands_of_counts(hashes, path):
-    """The commands that write how often each line of an input came, ours first."""
-    given = quote(path)
-    yield "ours", ours("counts", path)
-    yield "sort_uniq_sort", f"LC_ALL=C sort --parallel=4 < {given} | LC_ALL=C uniq -c | LC_ALL=C sort --parallel=4 -rn"
-    yield "mawk", f"exec {MAWK} '{{ c[$0]++ }} END {{ for (line in c) print c[line], line }}' < {given}"
-    yield "std", f"exec {quote(STANDARD)} counts < {given}"
-    if hashes:
-        yield "hashbrown", f"exec {quote(BEST)} counts < {given}"
-
-
-def commands_of_distinct(hashes, path):
-    """Those that write its distinct lines."""
-    given = quote(path)
-    yield "ours", ours("distinct", path)
-    yield "mawk", f"exec {MAWK} '!seen[$0]++' < {given}"
-    yield "std", f"exec {quote(STANDARD)} distinct < {given}"
-    if hashes:
-        yield "hashbrown", f"exec {quote(BEST)} distinct < {given}"
+def commands_of(verb, hashes, path):
+    """The commands that write how often each line of an input came, or its distinct lines, ours first."""
+    yield "ours", ours(verb, path)
+    for name, command in OTHERS[verb].items():
+        yield name, command.replace("INPUT", quote(path))
+    for name, program in (("std", STANDARD), *([("hashbrown", BEST)] if hashes else [])):
+        yield name, f"exec {quote(program)} {verb} < {quote(path)}"
 
 
 def in_one_form(output):
@@ -79,10 +75,10 @@ class Timed:
 
 def measure_lines(timed, hashes):
     """Counts and distinct lines of some inputs, once all commands write the same."""
-    for verb, commands_of, form, names in (("counts", commands_of_counts, in_one_form, ("zipf", "few")), ("distinct", commands_of_distinct, bytes, NAMES)):
+    for verb, form, names in (("counts", in_one_form, ("zipf", "few")), ("distinct", bytes, NAMES)):
         for name in names:
             path = f"{INPUTS}/{name}"
-            commands = list(commands_of(hashes, path))
+            commands = list(commands_of(verb, hashes, path))
             test_alike({program: lambda command=command: form(output_of(shell(command))) for program, command in commands}, path)
             timed.row(f"{verb}, {name}", commands)
 

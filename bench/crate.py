@@ -1,9 +1,9 @@
 """The tables of the crate rust/lasso_proved: beside the best that Rust has, and beside lasso 0.7.3."""
 import os
 
-from calls import BEST
-from lasso import ALL_HASHERS, HASHERS, LASSO, is_lasso_built, load, occasion
-from measuring import OUT, Table, best_hashes, build_library, complain, end_with, is_built_over_crates, keep, of_programs, priority, said_lines, times_by_key
+from lasso import ALL_HASHERS, HASHERS, LASSO, is_lasso_built, times_of
+from measuring import OUT, Table, best_hashes, build_library, end_with, is_built_over_crates, of_programs, said_lines
+from programs import BEST_CALLS
 
 PROVED = f"{OUT}/proved/release/proved"
 ROUNDS = 15
@@ -35,7 +35,7 @@ def rounds_of_crate(first, hashes, hashers):
             yield from said_lines(f"lasso-{hasher}", [*first, LASSO, "few", hasher])
         for name in hashes:
             for kept in (name, f"kept-{name}"):
-                yield from said_lines(kept, [*first, BEST, kept, "few"])
+                yield from said_lines(kept, [*first, BEST_CALLS, kept, "few"])
 
 
 def print_beside_best(times, hashes):
@@ -68,13 +68,8 @@ def measure_crate():
     """The tables of the crate. That beside lasso is missing if lasso can't be had."""
     build_over_library("serde")
     hashers = ALL_HASHERS if is_lasso_built() else ()
-    if not hashers:
-        complain(f"lasso 0.7.3 can't be fetched or built ({OUT}/lasso.log): LASSO_SOURCE=path names a folder that has it")
     hashes = best_hashes()
-    first = priority()
-    print("\n".join(occasion()), flush=True)
-    times = times_by_key(keep("rust", rounds_of_crate(first, hashes, hashers)), 4)
-    print(f"load at the end: {load()}")
+    times = times_of("rust", lambda first: rounds_of_crate(first, hashes, hashers), 4)
     print_beside_best(times, hashes)
     if hashers:
         print()

@@ -4,8 +4,8 @@ import sys
 from statistics import median
 
 from crate import PROVED, build_over_library
-from lasso import LASSO, is_lasso_built, load, occasion
-from measuring import INPUTS, OUT, keep, make_input, priority, said_lines, said_of, times_by_key
+from lasso import LASSO, is_lasso_built, times_of
+from measuring import INPUTS, OUT, make_input, said_lines, said_of
 from threads import RUST as MAPS
 from threads import build_rivals
 
@@ -48,7 +48,7 @@ def build_handles():
     glib = said_of(["pkg-config", "--cflags", "--libs", "glib-2.0"]).split()
     said_of(["cc", "-O2", "-Wall", "-Wextra", "-std=c11", "-pthread", "-o", OVER_C, "bench/threads.c", "-I", "crates/lasso_c/include", library, *glib])
     if not build_rivals() or not is_lasso_built():
-        sys.exit(f"lasso 0.7.3 or the maps can't be fetched or built ({OUT}/*.log): LASSO_SOURCE=path names a folder that has lasso")
+        sys.exit(1)
 
 
 def rounds_of_handles(first):
@@ -105,10 +105,7 @@ def measure_handles():
     build_handles()
     for name in (*NAMES, *ALONE_NAMES):
         make_input(name)
-    first = priority()
-    print("\n".join(occasion()), flush=True)
-    times = times_by_key(keep("handles", rounds_of_handles(first)), 4)
-    print(f"load at the end: {load()}")
+    times = times_of("handles", rounds_of_handles, 4)
     print_alone(times)
     for ours, others in TABLES.items():
         print_table(times, ours, others)

@@ -8,13 +8,10 @@ import re
 import sys
 import time
 
-from calls import STANDARD as STANDARD_CALLS
-from calls import build_standard
 from measuring import CALLS as OURS
-from measuring import INPUTS, LINES, NAMES, OUT, count_lines, in_turns, is_built, is_built_over_crates, is_installed, keep, output_of, peak, priority
+from measuring import INPUTS, LINES, NAMES, OUT, complain, count_lines, in_turns, is_built, is_built_over_crates, is_installed, keep, output_of, peak, priority
 from measuring import processor_seconds, read, reordered, rustc, said_lines, said_of, start, test_alike, times_by_key
-from programs import STANDARD, without_bytes
-from programs import build_standard as build_lines
+from programs import STANDARD, STANDARD_CALLS, build_standard, build_standard_calls, without_bytes
 from threads import STANDARD as STANDARD_SHARED
 
 LASSO = f"{OUT}/lasso/release/lasso"
@@ -131,13 +128,17 @@ def print_tables(folder):
 
 
 def is_lasso_built():
-    """Builds the programs over lasso. Whether it can be fetched and built."""
+    """Builds the programs over lasso. Whether it can be fetched and built; says so if it can't."""
     source = os.environ.get("LASSO_SOURCE")
-    if not source:
-        return is_built("lasso", ["cargo", "build", "--release", "--quiet", "--manifest-path", "bench/baseline/lasso/Cargo.toml", "--target-dir", f"{OUT}/lasso"])
-    # What JSON escapes in a text is escaped the same in TOML.
-    patch = ["--config", f"patch.crates-io.lasso.path={json.dumps(os.path.realpath(source), ensure_ascii=False)}"]
-    return is_built_over_crates("lasso", "ahash", "dashmap", "fxhash", "hashbrown", "memchr", "serde", words=patch)
+    if source:
+        # What JSON escapes in a text is escaped the same in TOML.
+        patch = ["--config", f"patch.crates-io.lasso.path={json.dumps(os.path.realpath(source), ensure_ascii=False)}"]
+        found = is_built_over_crates("lasso", "ahash", "dashmap", "fxhash", "hashbrown", "memchr", "serde", words=patch)
+    else:
+        found = is_built("lasso", ["cargo", "build", "--release", "--quiet", "--manifest-path", "bench/baseline/lasso/Cargo.toml", "--target-dir", f"{OUT}/lasso"])
+    if not found:
+        complain(f"lasso 0.7.3 can't be fetched or built ({OUT}/lasso.log): LASSO_SOURCE=path names a folder that has it")
+    return found
 
 
 def make_real_inputs():
@@ -199,6 +200,16 @@ def occasion():
     yield said_of(["rustc", "--version"]).strip()
 
 
+def times_of(name, rounds, width):
+    """All values of rounds, by the words before them. The rounds get the words of their priority, and are kept by this name. Prints the occasion, and the
+    load at the end."""
+    first = priority()
+    print("\n".join(occasion()), flush=True)
+    times = times_by_key(keep(name, rounds(first)), width)
+    print(f"load at the end: {load()}")
+    return times
+
+
 def size_of(name):
     """The lines, bytes and distinct lines of an input."""
     path = f"{INPUTS}/{name}"
@@ -209,8 +220,8 @@ def size_of(name):
 
 def measure_lasso():
     """The tables beside lasso, and their pictures."""
-    build_lines()
     build_standard()
+    build_standard_calls()
     rustc(STANDARD_SHARED, "interners/main.rs", "--edition", "2021")
     make_real_inputs()
     for name in (*NAMES, *REAL_NAMES):

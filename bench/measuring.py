@@ -5,11 +5,10 @@ import os
 import re
 import subprocess
 import sys
-import time
 from statistics import median
 
 sys.path.append(f"{os.path.dirname(os.path.dirname(os.path.abspath(__file__)))}/trials")
-from common import HERE, ended, is_installed, program_of, ran, read, replaced, said_of, write  # noqa: E402,F401 pylint: disable=wrong-import-position
+from common import HERE, is_installed, program_of, ran, read, replaced, said_of, timed, write  # noqa: E402,F401 pylint: disable=wrong-import-position
 
 OUT = "bench/out"
 INPUTS = f"{OUT}/inputs"
@@ -138,21 +137,24 @@ def reordered(prefix, order, words, path=None):
         yield " ".join([prefix, *(found[at] for at in order), *found[len(order):]])
 
 
+def took(words, path):
+    """What a command takes over an input, whose output is thrown away. It has to end well."""
+    with open(path or os.devnull, "rb") as source:
+        found = timed(words, subprocess.DEVNULL, stdin=source, stderr=None)
+    if found.status:
+        sys.exit(f"{' '.join(words)} ended with {found.status}")
+    return found
+
+
 def seconds(words, path=None):
-    """The seconds from start to end of a command whose output is thrown away."""
-    begun = time.perf_counter()
-    start(words, path, stdout=subprocess.DEVNULL)
-    return time.perf_counter() - begun
+    """The seconds from start to end of a command."""
+    return took(words, path).seconds
 
 
 def processor_seconds(words, path):
     """The seconds of a processor, user's and system's, that a command takes over an input."""
-    with open(path, "rb") as source:
-        started = subprocess.Popen(words, stdin=source, stdout=subprocess.DEVNULL)
-    used = ended(started)
-    if started.returncode:
-        sys.exit(f"{words[0]} ended with {started.returncode}")
-    return used.ru_utime + used.ru_stime
+    found = took(words, path)
+    return found.own + found.system
 
 
 def peak(words, path):

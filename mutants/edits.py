@@ -8,8 +8,9 @@ import sys
 from dataclasses import dataclass, field
 
 HERE = os.path.dirname(os.path.dirname(os.path.abspath(__file__)))
-sys.path[1:1] = [f"{HERE}/docs/reference", f"{HERE}/trials"]
+sys.path[1:1] = [f"{HERE}/docs/reference", f"{HERE}/trials", f"{HERE}/cases/tool_replay"]
 import sources  # pylint: disable=wrong-import-position
+import made  # pylint: disable=wrong-import-position
 from common import read, used_crates  # pylint: disable=wrong-import-position
 
 BY_SOME_HISTORY = re.compile(r"\bIsPlain(?:Call|Filling)\b")
@@ -56,6 +57,11 @@ def path_of(crate):
     return f"{HERE}/mutants/{crate}.edits"
 
 
+def untried_of(crate):
+    """The public functions of the crate that are said to have no mutant: of each its file, and its name after that."""
+    return re.findall(r"^untried: (.*)$", read(path_of(crate)), re.MULTILINE)
+
+
 def sections_of(crate):
     """Of each mutant of the crate its name and the lines of its section."""
     found = []
@@ -63,7 +69,7 @@ def sections_of(crate):
         key, _, rest = line.partition(": ")
         if key == "mutant":
             found.append((rest, []))
-        elif line and not line.startswith("#"):
+        elif line and not line.startswith(("#", "untried: ")):
             if not found:
                 raise Unfit(f"{crate}.edits: a line before the first mutant: {line}")
             found[-1][1].append(line)
@@ -248,13 +254,13 @@ def test_names(edit):
 
 
 def files_with_tests(tree, crate):
-    """The files that may have tests of the crate: its sources, and those that cases/modules adds to a program."""
+    """The files that may have tests of the crate: its sources, and those that .ci/tests adds to a program."""
     return glob.glob(f"{glob.escape(tree)}/crates/{crate}/src/**/*.rt", recursive=True) + glob.glob(f"{glob.escape(tree)}/cases/{crate}/modules/*.rt.in")
 
 
 def has_script(name):
-    """Whether the stored input of tool_replay has a script of this name."""
-    return f"\nscript {name} " in "\n" + read(f"{HERE}/crates/tool_replay/stdin")
+    """Whether tool_replay has a script of this name with replies."""
+    return bool(made.worked(made.text_by_hand(), name)[0])
 
 
 def fault_of(edit):

@@ -1,14 +1,14 @@
 """What the prover says of mutants, of several functions at once, and what a test or a case says of a mutant."""
 import contextlib
+import glob
 import os
 import re
 import signal
-import subprocess
 import tempfile
 
-from edits import Unfit, files_with_tests, places
+from edits import Unfit, files_with_tests, made, places
 from copies import Outcome, Result, applied, end_of, tell
-from common import ran, read, write
+from common import COUNTS, ran, read, write
 
 VERDICT = re.compile(r"^fn (\S+): (.*)$", re.MULTILINE)
 PROOF_ERROR = re.compile(r"^\./proofs/(\S+)/(?:Answers|Proof)\.antt:\d+:\d+: error: ", re.MULTILINE)
@@ -172,7 +172,7 @@ def test_results(copy, crate, seconds=TEST_SECONDS):
     folder = os.path.join(copy, "crates", crate)
     words = [f"{copy}/.ci/try", "--test", "--seconds", str(seconds)]
     if os.path.isdir(f"{copy}/cases/{crate}/modules"):
-        words = [f"{copy}/cases/modules", crate]
+        words = [f"{copy}/.ci/tests", "--each", crate]
     _, said = ran(words, cwd=folder)
     results = results_in(said)
     if not results:
@@ -222,8 +222,8 @@ def refuse_late(edit, name, result):
 
 def needs_proof(copy, program, cases):
     """Whether one of these cases of the program needs a proved one."""
-    names = {line.split()[0] for line in read(f"{copy}/cases/proved_only.txt").splitlines() if line.strip() and not line.startswith("#")}
-    return any(f"{program}/{case}" in names for case in cases)
+    text = "".join(read(path) for path in glob.glob(f"{glob.escape(copy)}/cases/{program}/*.txt"))
+    return any(f"case {case}\nproved " in text for case in cases)
 
 
 def program_of(copy, program, cases, room):
@@ -242,17 +242,10 @@ def program_of(copy, program, cases, room):
 
 
 def replays(copy, file, name):
-    """How it ends whether the replies of tool_replay, in this file, to the stored script of this name are stored ones."""
-    folder = os.path.join(copy, "crates", REPLAY)
-    with open(f"{folder}/stdin", "rb") as scripts, open(f"{folder}/stdout", "rb") as replies:
-        script = re.search(rb"^script %s .*?(?=^script |\Z)" % re.escape(name.encode()), scripts.read(), re.MULTILINE | re.DOTALL)
-        try:
-            done = subprocess.run([file], input=script.group(), capture_output=True, timeout=float(CASE_SECONDS), check=False)
-        except subprocess.TimeoutExpired:
-            return LATE
-        if done.returncode == -signal.SIGKILL:
-            return KILLED
-        return "ok" if done.returncode == 0 and b"\n" + done.stdout in b"\n" + replies.read() else "FAILED"
+    """How it ends whether the replies of tool_replay, in this file, to the script of this name are those that were worked by hand."""
+    lines, replies = made.worked(read(f"{copy}/cases/{REPLAY}/scripts.txt"), name)
+    status, said = ran([file], float(CASE_SECONDS), "\n".join([*lines, ""]))
+    return {None: LATE, -signal.SIGKILL: KILLED}.get(status, "ok" if (status, said.splitlines()) == (0, replies) else "FAILED")
 
 
 def result_of(copy, program, file, case):
@@ -261,7 +254,7 @@ def result_of(copy, program, file, case):
         return replays(copy, file, case)
     words = [f"{copy}/cases/run", "--program", f"{program}={file}", f"{program}/{case}"]
     status, said = ran(words, env={**os.environ, "CASE_SECONDS": CASE_SECONDS})
-    if not re.search(r"^\d+ passed, \d+ failed$", said, re.MULTILINE):
+    if not COUNTS.search(said):
         raise Unfit(f"the cases {case} of {program} did not run:\n{end_of(said)}")
     return "ok" if status == 0 else LATE if LATE in said else KILLED if "status -9" in said else "FAILED"
 

@@ -8,7 +8,6 @@ import tempfile
 import codes
 import lines
 
-TOP = os.path.dirname(os.path.dirname(os.path.abspath(__file__)))
 REFERENCES = {"lines": lines.lasso_lines, "codes": codes.lasso_codes}
 SECONDS = 60
 WORDS = ["", "0", "1", "5", "64", "65", "4096", "4100", "9000", "18446744073709551615", "18446744073709551616", "007", "1K", "1k", "-1", "NA", "é", "\udcff", "--", "-", "x", "a\nb", "\x1b[2J", "\x9b2J", "count", "decod", "recoded"]

@@ -26,6 +26,8 @@ USED = re.compile(r"total heap usage: ([\d,]+) allocs")
 HALT = 60
 # A line of crates.txt.
 CRATE = re.compile(r"^(?P<crate>\w+)[^:#]*:(?P<used>.*)$")
+# The last line of a command that counts.
+COUNTS = re.compile(r"^(\d+) passed, (\d+) failed", re.MULTILINE)
 DEBIAN_PYTHON = "/usr/bin/python3"
 NONE_LEFT = "0 blocks, 0 bytes"
 KEEPS_ONE = "#include <stdlib.h>\nint main(void) { return malloc(7) == NULL; }\n"
@@ -43,10 +45,10 @@ def run_trial(trial):
         sys.exit(str(fault))
 
 
-def ran(words, seconds=None, **options):
-    """The status of a command without an input, or None if it had not ended in time, and all that it wrote, standard error last."""
+def ran(words, seconds=None, given="", **options):
+    """The status of a command over an input, or None if it had not ended in time, and all that it wrote, standard error last."""
     try:
-        done = subprocess.run(words, stdin=subprocess.DEVNULL, capture_output=True, timeout=seconds, check=False, **options)
+        done = subprocess.run(words, input=given.encode(), capture_output=True, timeout=seconds, check=False, **options)
         status = done.returncode
     except subprocess.TimeoutExpired as late:
         done, status = late, None
@@ -66,6 +68,11 @@ def read(path, errors="strict"):
     """The text of a file."""
     with open(path, encoding="utf-8", errors=errors) as source:
         return source.read()
+
+
+def last_line(path):
+    """The last line of a file that is not empty."""
+    return read(path, "replace").strip().split("\n")[-1].strip()
 
 
 def write(path, text):
@@ -104,11 +111,34 @@ def copy_sources(tree, room):
             shutil.copytree(path, os.path.join(room, os.path.relpath(path, tree)))
 
 
-def ended(process):
-    """What a process used, once it has ended. Its return code is then set."""
-    _, status, used = os.wait4(process.pid, 0)
-    process.returncode = os.waitstatus_to_exitcode(status)
-    return used
+@dataclass
+class Took:
+    """The status of a command, and its seconds by the clock and of all processors: its own, and the system's."""
+
+    status: int
+    seconds: float
+    own: float
+    system: float
+
+
+def timed(words, target, is_shown=False, begin=None, **options):
+    """Runs a command, which writes to the target. Shows it as it comes if `is_shown` says so. `begin` gets the process. What it took."""
+    begun = time.perf_counter()
+    started = subprocess.Popen(words, stdout=subprocess.PIPE if is_shown else target, **{"stdin": subprocess.DEVNULL, "stderr": subprocess.STDOUT, **options})
+    if begin:
+        begin(started)
+    for line in started.stdout or ():
+        for each in (target, sys.stdout.buffer):
+            each.write(line)
+            each.flush()
+    _, status, used = os.wait4(started.pid, 0)
+    started.returncode = os.waitstatus_to_exitcode(status)
+    return Took(started.returncode, time.perf_counter() - begun, used.ru_utime, used.ru_stime)
+
+
+def checks_in_memory():
+    """For how many checks at once memory is enough."""
+    return int(said_of([f"{HERE}/.ci/jobs"]).strip() or 1)
 
 
 def commit(*parts):
@@ -170,10 +200,11 @@ def is_up_to_date(path):
     return os.path.isfile(path) and os.path.getmtime(path) >= max(map(os.path.getmtime, sources))
 
 
-def build(path, words, **options):
-    """Runs what proves and builds a file. It gets the time at which this began, so that a source that is saved meanwhile is newer."""
+@contextlib.contextmanager
+def building(path):
+    """Within it a file is built. It gets the time at which this began, so that a source that is saved meanwhile is newer."""
     begun = time.time()
-    said_of(words, **options)
+    yield
     os.utime(path, (begun, begun))
 
 
@@ -181,7 +212,8 @@ def program_of(crate):
     """The proved program of a crate, which is proved and built if it is missing or older than a source."""
     path = f"{HERE}/crates/{crate}/out/{crate}"
     if not is_up_to_date(path):
-        build(path, run_of(crate), cwd=f"{HERE}/crates/{crate}")
+        with building(path):
+            said_of(run_of(crate), cwd=f"{HERE}/crates/{crate}")
     return path
 
 
@@ -204,6 +236,26 @@ def watched(start, name):
     if WRONG.search(said) or NOTHING_LEFT not in said:
         raise Fault(f"{name}: under valgrind\n{said}")
     return result, int(USED.search(said).group(1).replace(",", ""))
+
+
+def missed(files, changes, faults, is_alone=True):
+    """What a check does not find, by a function that says the faults in a folder. Of these files there is none. Of a change, of one file's old text to a
+    new one, there is one with the words that are wanted, and no other one if `is_alone` says so."""
+    for path, old, new, wanted in ((None, "", "", ""), *changes):
+        with tempfile.TemporaryDirectory() as root:
+            for name, text in files.items():
+                write(f"{root}/{name}", text.replace(old, new, 1) if name == path else text)
+            told = list(faults(root))
+        is_found = any(wanted in fault for fault in told) and (len(told) == 1 or not is_alone)
+        if (not is_found or old not in files[path]) if path else told:
+            yield f"of {new[:80]!r} in place of {old[:80]!r} in {path} the check says {told}"
+
+
+def tell_faults(found, what=""):
+    """Prints faults, and how many there are of what was checked. The status."""
+    found = list(found)
+    print(*found, *([f"{what}, {len(found)} faults"] if what else []), sep="\n", end="\n" if found or what else "")
+    return 1 if found else 0
 
 
 def first_difference(found, wanted):

@@ -7,6 +7,7 @@ import itertools
 import json
 import os
 import random
+import re
 
 import model
 
@@ -23,10 +24,22 @@ MOVES = ("next", "back", "nth0", "nth1", "nthback0", "nthback1", "nthback2", "le
 STATIC = [b"", b"x", b"gdfg", b"0123456789", b"Hello, world!", b"a static text"]
 
 
-def named_scripts():
-    """The lines of the scripts that are written by hand."""
-    with open(os.path.join(os.path.dirname(__file__), "scripts.txt"), encoding="ascii") as scripts:
-        return scripts.read().splitlines()
+def commands_and_replies(text):
+    """The lines of scripts, and the replies, which are indented below them."""
+    lines = text.splitlines()
+    return [line for line in lines if not line.startswith("  ")], [line[2:] for line in lines if line.startswith("  ")]
+
+
+def text_by_hand():
+    """The scripts that are written by hand."""
+    with open(os.path.join(os.path.dirname(__file__), "scripts.txt"), encoding="ascii") as source:
+        return source.read()
+
+
+def worked(text, name=r"\w+"):
+    """Of scripts in a text, or of those of this name, the lines of those whose replies were worked by hand, and these."""
+    parts = re.split(r"^(?=script )", text, flags=re.MULTILINE)
+    return commands_and_replies("".join(part for part in parts if "\n  " in part and re.match(rf"script {name} ", part)))
 
 
 def words_of(texts):
@@ -193,7 +206,7 @@ def large_values():
 
 def lines():
     """All lines, those that are written by hand first."""
-    yield from named_scripts()
+    yield from commands_and_replies(text_by_hand())[0]
     yield from runs_of_lengths()
     yield from copies()
     yield from used_up_keys()

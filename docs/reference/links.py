@@ -1,7 +1,10 @@
-"""What the words of clauses and definitions lead to: a definition, a part of a type, or an explanation."""
+"""What the words of clauses and definitions lead to: a definition, a part of a type, or an explanation; and the page of the words of the documents,
+with links to it from comments."""
 import collections
 import html
 import re
+
+import markdown
 
 from sources import NAME
 
@@ -19,6 +22,15 @@ TOKEN = re.compile(
 BUILT_IN = ("let", "in", "record", "if", "then", "else", "Some", "None", "Ok", "Err", "true", "false", "tt", "Type")
 CONSTANT = re.compile(r"[A-Z][A-Z\d_]+")
 OF_TRAIT = re.compile(r"(⟦.* as (\w+).*⟧)\.(\w+)")
+GLOSSARY = "docs/GLOSSARY.md"
+GLOSSARY_URL = "glossary.html"
+# The words that lead from a comment to the glossary, and the crates whose comments have them.
+LINKED = ("shard", "spine", "event", "pass", "snapshot", "history", "hint", "bucket")
+THREADED = ("lasso_log", "lasso_shared")
+TERM = re.compile(r"<li>\s*((?:<p>)?(?:<strong>[^<]*</strong>[^<:]*)+)")
+# A word; after `would` it is no noun, as in `would pass the limit`.
+WORD = re.compile(r"(?<!would )\b([a-z]+)\b")
+PLAIN = re.compile(r"(<(a|code|pre|h\d)\b.*?</\2>|<[^>]*>)", re.DOTALL)
 
 
 def anchor(name):
@@ -174,3 +186,41 @@ class Links:
             inside = {self.resolved(one.names[word]) for word in set(TOKEN.findall(place.text)) if word in one.names} if one else set()
             found[key] = [*place, *sorted(numbers[other] for other in inside if other in numbers and other != key)]
         return found
+
+
+def anchor_of_term(term):
+    return "term-" + re.sub(r"\W+", "_", html.unescape(term).split(",")[0].strip())
+
+
+def shown_glossary(text):
+    """The glossary as a page, with a place for each word."""
+    shown = markdown.markdown(text).replace('href="', 'href="../../docs/')
+    return TERM.sub(lambda item: f'<li id="{anchor_of_term(re.search(r"<strong>([^<]*)", item[1])[1])}">{item[1]}', shown)
+
+
+def terms(text):
+    """Of each word its place and what is said of it."""
+    for line in re.findall(r"^- (\*\*.*(?:\n  .*)*)", text, re.MULTILINE):
+        said, _, meaning = " ".join(line.split()).partition(": ")
+        name = re.match(r"\*\*(.*?)\*\*", said)[1]
+        yield said.replace("*", ""), f"{GLOSSARY_URL}#{anchor_of_term(name)}", meaning.replace("*", "").replace("`", "")
+
+
+def linked_to_glossary(body):
+    """A page with a link to the glossary at the first of each of its words in a comment."""
+    waiting = set(LINKED)
+
+    def link(found):
+        word = next((word for word in (found[1], found[1].removesuffix("s"), found[1].removesuffix("es")) if word in waiting), None)
+        if not word:
+            return found[0]
+        waiting.remove(word)
+        return f'<a class="term" href="{GLOSSARY_URL}#{anchor_of_term(word)}">{found[1]}</a>'
+
+    def link_comment(comment):
+        # Of each three parts the first is text, the second a tag with what it holds, and the third that tag's name.
+        parts = PLAIN.split(comment[0])
+        parts[::3] = [WORD.sub(link, text) for text in parts[::3]]
+        return "".join(part for at, part in enumerate(parts) if at % 3 < 2)
+
+    return re.sub(r"<p>.*?</p>", link_comment, body, flags=re.DOTALL)

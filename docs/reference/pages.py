@@ -2,7 +2,6 @@
 import collections
 import html
 import json
-import os
 import re
 
 import markdown
@@ -11,9 +10,8 @@ from pygments.formatters import HtmlFormatter
 from pygments.lexers.c_cpp import CLexer
 from pygments.lexers.rust import RustLexer
 
-import glossary
 import header
-from links import Links, Place, Scope, anchor, page_of_type
+from links import GLOSSARY, GLOSSARY_URL, THREADED, Links, Place, Scope, anchor, linked_to_glossary, page_of_type, shown_glossary, terms
 from sources import ghosts_of, imports, read, variants_of
 
 KINDS = ("struct", "enum", "trait", "type")
@@ -79,7 +77,7 @@ class Reference:
         self.entries = []
         self.header = header.parts_of(read(f"{root}/{header.SOURCE}"))
         self.in_header = dict(self.places_of_header())
-        self.reading, self.reading_c = read(f"{os.path.dirname(os.path.abspath(__file__))}/reading.html").split("<!-- C -->\n")
+        _, self.introduction, self.reading, self.reading_c = re.split(r"<!--.*-->\n", read(f"{root}/docs/reference/texts.html"))
 
     def exported(self):
         """The names that reachable modules export, by the last module of their path."""
@@ -177,7 +175,7 @@ class Reference:
             f'<pre class="signature">{self.typed(call.signature, module)}</pre>{prose(call.docs)}{self.clauses(call, scope)}'
             f"<p>{self.source_link(module.file, call.line)}</p></section>"
         )
-        return glossary.linked(shown) if module.crate in glossary.THREADED else shown
+        return linked_to_glossary(shown) if module.crate in THREADED else shown
 
     def in_c(self, call):
         """What the header says of a call of the library for C, or ''."""
@@ -405,20 +403,20 @@ class Reference:
 
     def page_of_glossary(self):
         """The words of the documents."""
-        text = read(f"{self.root}/{glossary.SOURCE}")
-        self.entries += [Entry(name, "in the glossary", url, said[:SEARCH_SUMMARY]) for name, url, said in glossary.terms(text)]
-        yield glossary.URL, "Glossary", glossary.page_of(text)
+        text = read(f"{self.root}/{GLOSSARY}")
+        self.entries += [Entry(name, "in the glossary", url, said[:SEARCH_SUMMARY]) for name, url, said in terms(text)]
+        yield GLOSSARY_URL, "Glossary", shown_glossary(text)
 
-    def front_page(self, introduction):
+    def front_page(self):
         """What a reader sees first: what lasso is, what one may want, and all crates."""
         tasks = [(self.url_of_call(call), call, task) for task, call in self.tasks]
         crates = [module for module in self.modules if not module.path]
         rows = [(page_of_module(one), one.crate, first_sentence(one.docs)) for one in crates]
         examples = [(page_of_module(one), one.path[0], first_sentence(one.docs)) for one in self.modules if one.crate == EXAMPLES and len(one.path) == 1]
-        reading = [(glossary.URL, "glossary", "The words of comments, as shard, spine, event and pass.")]
+        reading = [(GLOSSARY_URL, "glossary", "The words of comments, as shard, spine, event and pass.")]
         proving = [(LEMMAS, "lemmas", "What a caller's proof cites."), ("module.lasso.laws.html", "laws", "Laws that a caller's body calls.")]
         return (
-            f"<h1>lasso: a proved string interner</h1>{introduction}<h2 id='reading'>How to read a clause</h2>{self.reading}<h2>I want to ..</h2>"
+            f"<h1>lasso: a proved string interner</h1>{self.introduction}<h2 id='reading'>How to read a clause</h2>{self.reading}<h2>I want to ..</h2>"
             f'<table>{"".join(f"<tr><td>{html.escape(task)}</td><td><a href={chr(34)}{url}{chr(34)}><code>{call}</code></a></td></tr>" for url, call, task in tasks)}</table>'
             f"<h2>Words</h2>{table(reading)}<h2>Callers to copy</h2>{table(examples)}<h2>To prove</h2>{table(proving)}<h2>Crates</h2>{table(rows)}"
         )
@@ -428,7 +426,7 @@ class Reference:
         for entry in self.entries:
             if entry.name == call:
                 return entry.url
-        raise LookupError(f"tasks.tsv: there is no public {call}")
+        raise LookupError(f"tables.tsv: there is no public {call}")
 
     def task_of(self, call):
         """What a reader may want of a call, or ''."""

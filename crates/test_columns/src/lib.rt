@@ -5,8 +5,6 @@
 #[cfg(test)]
 mod calls;
 #[cfg(test)]
-mod columns;
-#[cfg(test)]
 mod dictionaries;
 #[cfg(test)]
 mod long_columns;
@@ -18,5 +16,3 @@ mod shared;
 mod shared_columns;
 #[cfg(test)]
 mod streams;
-#[cfg(test)]
-mod uniform;

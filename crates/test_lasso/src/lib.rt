@@ -8,11 +8,7 @@
 mod counting;
 #[cfg(test)]
 mod interfaces;
-#[cfg(test)]
-mod keyed;
 pub mod laws;
-#[cfg(test)]
-mod objects;
 #[cfg(test)]
 mod owning;
 #[cfg(test)]

@@ -2,7 +2,6 @@
 //! call, and makes the call again. All replies have to be those that were worked out by hand.
 //! `trials/refused-tests` runs each test with its requests for memory refused in turn. If nothing is refused,
 //! each call has to return its value at once.
-mod lists;
 mod makers;
 mod shared;
 mod single;

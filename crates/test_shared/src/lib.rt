@@ -26,8 +26,6 @@ mod lengths;
 #[cfg(test)]
 mod limits;
 #[cfg(test)]
-mod locals;
-#[cfg(test)]
 mod locks;
 #[cfg(test)]
 mod many;
