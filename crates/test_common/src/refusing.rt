@@ -75,6 +75,11 @@ impl<B: Allocator> Refusing<B> {
         is_new
     }
 
+    /// How many requests were made.
+    pub fn requests(&self) -> u64 {
+        self.requests.made.get()
+    }
+
     /// How many bytes were allocated and are not yet freed.
     pub fn bytes_out(&self) -> usize {
         self.requests.bytes_out.get()

@@ -126,6 +126,8 @@ pub(super) enum Look {
     UsesBytesOf(List),
     /// The text at this place of a walk is this one.
     Walks(usize, &'static str),
+    /// A copy of its list is equal to it.
+    Copies,
     /// Comparisons with each form of the list give this.
     Compares(List, bool),
     /// Comparisons with each form of the list give this, also with other hashers and with frozen forms of
@@ -170,6 +172,7 @@ impl<'a, K: Key, S: BuildHasher + Default + Drop, R: Host> Shown<'a, K, S, R> {
             }
             Look::Json(json) => self.is_written_as(json),
             Look::Prints(text) => self.prints(text),
+            Look::Copies => self.is_copied()?,
             Look::Walks(place, text) => self.shared.strings().nth(place) == Some(text),
             Look::Shows(list) => self.shows(&items_for(alloc, case, list)?),
             Look::Writes(list) => self.writes(&items_for(alloc, case, list)?)?,

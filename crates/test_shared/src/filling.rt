@@ -13,7 +13,7 @@ use test_common::keys::BelowTwo;
 use test_common::refusing::Refusing;
 use test_common::texts::{is_next, numbered};
 use test_steps::Host;
-use test_steps::calls::{Caller, Shared, answered, limited, made};
+use test_steps::calls::{Caller, Shared, answered, limited, made, numbered as number_of};
 use test_steps::cases::{Maker, PLAIN, of_items, refuses_items};
 use test_steps::steps::{Step, Way};
 use test_steps::texts::List::{Numbers, Texts};
@@ -262,10 +262,19 @@ fn sums<K: Key>(rt: &impl Host, shared: &ThreadedRodeo<K, FixedState>) -> (usize
     )
 }
 
+// Whether a text of all bytes of the first bucket fits in it, and is the next one. Usage and limit have to stay.
+fn fits_in_all<K: Key>(rt: &impl Host, shared: &ThreadedRodeo<K, FixedState>) -> LassoResult<bool> {
+    let (usage, limit, count) = (sums(rt, shared).0, sums(rt, shared).1, shared.len());
+    let text = "-".repeat(rt.alloc(), usage)?;
+    let number = number_of(shared.try_get_or_intern(rt, text.as_str()))?;
+    let is_kept = sums(rt, shared).0 == usage && sums(rt, shared).1 == limit;
+    Ok(number == count && is_kept && shared.len() == count.saturating_add(1))
+}
+
 // What a call makes of a capacity and a limit: usage, limit and number of cells.
 type Row = (By, Capacity, usize, (usize, usize, usize));
 
-// Fails unless the call makes that.
+// Fails unless the call makes that, without a text and with no byte taken.
 fn makes<K: Key>(rt: &impl Host, row: Row) -> LassoResult<()> {
     let (by, room, limit, wanted) = row;
     let shared: ThreadedRodeo<K, FixedState> = made_by(
@@ -275,6 +284,8 @@ fn makes<K: Key>(rt: &impl Host, row: Row) -> LassoResult<()> {
         MemoryLimits::new(limit),
     )?;
     is_so_at(rt, sums(rt, &shared) == wanted, wanted.0);
+    is_so_at(rt, shared.is_empty(), wanted.0);
+    is_so_at(rt, fits_in_all(rt, &shared)?, wanted.0);
     Ok(())
 }
 
@@ -284,6 +295,7 @@ fn makers_open_with_defaults(rt: HostRuntime) -> Result<(), Fail> {
     let wanted = (4096, usize::MAX, 64);
     let shared = made(rt.alloc())?;
     is_so(&rt, sums(&rt, &shared) == wanted, "default");
+    is_so(&rt, fits_in_all(&rt, &shared)?, "the bytes of the default");
     makes::<MicroSpur>(&rt, (By::New, Capacity::minimal(), 0, wanted))?;
     Ok(())
 }
@@ -397,5 +409,8 @@ fn keywords_have_the_lowest_keys(rt: HostRuntime) -> Result<(), Fail> {
         Interns(Way::TryCopied, "width", Ok(3)),
     ];
     let shared: Shared = ThreadedRodeo::from_static(rt.alloc(), &KEYWORDS)?;
-    runs_in(&rt, &shared, &STEPS, PLAIN)
+    runs_in(&rt, &shared, &STEPS, PLAIN)?;
+    let shared: Shared = ThreadedRodeo::from_static(rt.alloc(), &KEYWORDS)?;
+    is_so(&rt, fits_in_all(&rt, &shared)?, "the first bucket");
+    Ok(())
 }

@@ -1,24 +1,27 @@
-//! Frozen forms of an interner that threads share, and whether readers and resolvers have a list of texts.
-use crate::checks::{Look, Origin, freezes_as, is_so, runs_in};
-use Look::Does;
-use Step::{Limits, Takes};
+//! Frozen forms of an interner that threads share, and whether readers and resolvers have a list of texts; and copies of
+//! its list.
+use crate::checks::{Look, Origin, Shown, freezes_as, is_so, runs_in, shows_as};
+use Look::{Copies, Does};
+use Step::{Counts, Extends, Finds, Interns, IsLimited, Limits, Takes, Uses};
 use lasso_parts::iter::Strings;
-use lasso_parts::keys::{Key, Spur};
+use lasso_parts::keys::{Key, LargeSpur, Spur};
 use lasso_parts::util::{FixedState, LassoResult};
 use lasso_shared::threaded::{Iter, Strings as SharedStrings, ThreadedRodeo};
 use lasso_single::reader::RodeoReader;
 use lasso_single::resolver::RodeoResolver;
+use lasso_single::rodeo::Rodeo;
 use std::alloc::Global;
 use std::hash::BuildHasher;
 use std::test::*;
 use std::thread::join;
+use test_common::hashers::FirstState;
 use test_common::keys::WithoutTwo;
 use test_steps::Host;
 use test_steps::calls::{Shared, limited, made};
-use test_steps::cases::{Maker, PLAIN};
-use test_steps::steps::{FULL, NO_KEY, Step};
+use test_steps::cases::{Maker, PLAIN, SIZE, sized};
+use test_steps::steps::{FULL, NO_KEY, Step, Way};
 use test_steps::texts::List::{Numbers, Texts};
-use test_steps::texts::items_of;
+use test_steps::texts::{LENGTHS, items_of};
 
 #[test]
 fn a_reader_of_texts_in_three_buckets(rt: HostRuntime) -> Result<(), Fail> {
@@ -207,6 +210,66 @@ pub(super) fn is_frozen<K: Key, S: BuildHasher + Drop>(
         }
         Frozen::Resolver => Ok(resolves_just(&shared.into_resolver(rt)?, texts)),
     }
+}
+
+// Copies of the list of an interner that threads share.
+
+impl<'a, K: Key, S: BuildHasher + Default + Drop, R: Host> Shown<'a, K, S, R> {
+    /// Whether a copy of the list that a new pass sees is equal to the interner.
+    pub(super) fn is_copied(&self) -> LassoResult<bool> {
+        let list = self.shared.seen_list_as(&mut self.shared.pass());
+        let copy: Rodeo<K, S, Global> = self
+            .shared
+            .copy_list(self.rt.alloc(), &list, S::default())?;
+        Ok(self.shared.eq_rodeo(self.rt, &copy))
+    }
+}
+
+// The only bucket has the bytes of two of the texts, which are the limit.
+#[test]
+fn a_copy_leaves_the_interner_as_it_is(rt: HostRuntime) -> Result<(), Fail> {
+    static LOOKS: [Look; 5] = [
+        Copies,
+        Does(&[
+            Counts(0),
+            Interns(Way::TryCopied, "a-", Ok(0)),
+            Interns(Way::TryStatic, "s", Ok(1)),
+        ]),
+        Copies,
+        Copies,
+        Does(&[
+            Counts(2),
+            IsLimited(2 * SIZE),
+            Uses(2 * SIZE),
+            Finds("a.", None),
+            Interns(Way::TryCopied, "b-", Ok(2)),
+            Interns(Way::TryCopied, "z", FULL),
+        ]),
+    ];
+    for length in LENGTHS.iter() {
+        let origin = Origin::Made(Maker::Full(2 * SIZE));
+        shows_as::<Spur, FixedState>(&rt, origin, &LOOKS, sized(*length))?;
+    }
+    Ok(())
+}
+
+// The only bucket has the bytes of the texts and one more.
+#[test]
+fn a_copy_of_many_leaves_the_interner_as_it_is(rt: HostRuntime) -> Result<(), Fail> {
+    static LOOKS: [Look; 3] = [
+        Does(&[Extends(Numbers(0, 3000), None)]),
+        Copies,
+        Does(&[
+            Counts(3000),
+            IsLimited(15_001),
+            Uses(15_001),
+            Takes("z", Ok(3000)),
+            Takes("y", FULL),
+        ]),
+    ];
+    let origin = Origin::Made(Maker::Full(15_001));
+    shows_as::<Spur, FixedState>(&rt, origin, &LOOKS, PLAIN)?;
+    shows_as::<LargeSpur, FirstState>(&rt, origin, &LOOKS, PLAIN)
 }
 
 // Walks, the iterators of an interner that threads share.

@@ -15,7 +15,7 @@ use std::thread::join;
 use test_common::hashers::{FirstState, SameState};
 use test_common::keys::{WithoutTwo, WithoutZero};
 use test_steps::Host;
-use test_steps::cases::{HINTED, PLAIN};
+use test_steps::cases::{HINTED, PLAIN, sized};
 use test_steps::steps::{Call, Step, Way};
 use test_steps::texts::List::Texts;
 use test_steps::texts::{KeyNumbers, List};
@@ -56,22 +56,32 @@ fn a_new_text_goes_last(rt: HostRuntime) -> Result<(), Fail> {
 
 #[test]
 fn no_bytes_make_a_bucket_of_4096(rt: HostRuntime) -> Result<(), Fail> {
+    // a text of 4096 bytes fits in the bucket
     static NONE: [Look; 1] = [Does(&[
         Counts(0),
         Finds("", None),
         Uses(4096),
         IsLimited(usize::MAX),
+        Interns(Way::TryCopied, "a-", Ok(0)),
+        Uses(4096),
     ])];
     static EMPTY: [Look; 1] = [Does(&[
         Counts(1),
         Finds("", Some(0)),
         Uses(4096),
         IsLimited(usize::MAX),
+        Interns(Way::TryCopied, "a-", Ok(1)),
+        Uses(4096),
     ])];
-    shows_rows(&rt, Origin::Json("[]"), &NONE)?;
-    shows_rows(&rt, Origin::Json("{}"), &NONE)?;
-    shows_rows(&rt, Origin::Json(r#"{"":1}"#), &EMPTY)?;
-    shows_rows(&rt, Origin::Json(r#"[""]"#), &EMPTY)
+    for (json, looks) in [
+        ("[]", &NONE),
+        ("{}", &NONE),
+        (r#"{"":1}"#, &EMPTY),
+        (r#"[""]"#, &EMPTY),
+    ] {
+        shows_as::<Spur, FixedState>(&rt, Origin::Json(json), looks, sized(4096))?;
+    }
+    Ok(())
 }
 
 #[test]

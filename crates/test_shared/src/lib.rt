@@ -20,6 +20,8 @@ mod filling;
 #[cfg(test)]
 mod freezing;
 #[cfg(test)]
+mod hints;
+#[cfg(test)]
 mod json;
 #[cfg(test)]
 mod lengths;

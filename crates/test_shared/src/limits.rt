@@ -11,7 +11,7 @@ use std::alloc::{AllocError, Global};
 use std::test::*;
 use std::thread::join;
 use test_steps::Host;
-use test_steps::calls::{Caller, Shared, limited, made, refusal_of, until_free};
+use test_steps::calls::{Caller, Shared, limited, made, refusal_of};
 use test_steps::cases::{Maker, SIZE};
 use test_steps::steps::{Call, FULL, Step, Way};
 use test_steps::texts::LENGTHS;
@@ -267,13 +267,7 @@ fn raised(rt: &impl Host, shared: &Shared, setting: Setting) -> usize {
         match setting {
             Setting::Plain => caller.set_limit_plainly(bytes),
             Setting::ByPass => caller.set_limit(bytes),
-            Setting::Now => until_free(rt, || {
-                if caller.set_limit_now(bytes) {
-                    Some(())
-                } else {
-                    None
-                }
-            }),
+            Setting::Now => caller.set_limit_now(bytes),
         }
     }
     TURNS

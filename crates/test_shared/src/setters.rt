@@ -1,7 +1,10 @@
-//! A thread that sets one limit after another, or lets it fall to 0, beside a thread that makes every other call that
-//! may wait: none of these sets a limit, and no limit is in force that was never set.
+//! A thread that sets one limit after another, or lets it fall to 0, beside a thread that makes every other call: none
+//! of these sets a limit, and no limit is in force that was never set.
 use crate::checks::{is_so, is_so_at, runs_in};
-use Step::{AllocatesOver, ByOne, Counts, EachCopies, EqualsItself, Finds, Interns, Uses};
+use Step::{
+    AllocatesOver, ByOne, Counts, EachCopies, EqualsItself, Extends, Finds, Interns, IsLimitedFrom,
+    Reads, Uses,
+};
 use lasso_parts::keys::{Key, Spur};
 use lasso_parts::util::{Capacity, FixedState, LassoErrorKind, LassoResult};
 use lasso_shared::threaded::ThreadedRodeo;
@@ -25,8 +28,8 @@ const BYTES: usize = 100_000;
 // How many texts the other thread interns.
 const COUNT: usize = 300;
 
-// Each call but those that read or set a limit, of a text and of the static text 0.
-static CALLS: [Step; 14] = [
+// Each call but those that set a limit, take a list or show all texts, of a text and of the static text 0.
+static CALLS: [Step; 20] = [
     EachCopies("#", Ok(SIZE)),
     ByOne(Call::Copies("#", Ok(SIZE))),
     Interns(Way::TryStatic, "s", Ok(0)),
@@ -36,8 +39,14 @@ static CALLS: [Step; 14] = [
     Finds("absent", None),
     ByOne(Call::Finds("#", Some(SIZE))),
     ByOne(Call::Finds("absent", None)),
+    ByOne(Call::Reads(SIZE, Some("#"))),
+    ByOne(Call::Reads(SIZE + 1, None)),
+    ByOne(Call::Counts(SIZE + 1)),
     ByOne(Call::Uses(BYTES)),
+    Reads(SIZE, Some("#")),
+    Reads(SIZE + 1, None),
     Uses(BYTES),
+    IsLimitedFrom(BYTES),
     AllocatesOver(BYTES),
     EqualsItself,
     Counts(SIZE + 1),
@@ -112,6 +121,45 @@ fn no_other_call_sets_a_limit(rt: HostRuntime) -> Result<(), Fail> {
 #[test]
 fn no_call_of_a_list_sets_a_limit(rt: HostRuntime) -> Result<(), Fail> {
     limits_stay(&rt, &BATCHES)
+}
+
+// How many texts the interner has that is shown.
+const SHOWN: usize = 20;
+
+// Walks over the texts, writes them as JSON and as debug text, and copies their list, by a pass with hints and without
+// one. Returns whether all are there.
+fn shows(rt: &impl Host, shared: &Shared) -> LassoResult<bool> {
+    let alloc = rt.alloc();
+    let mut pass = shared.pass_with_hints(alloc);
+    let mut all = shared.iter().len() == SHOWN && shared.strings().len() == SHOWN;
+    all &= shared.iter_as(&mut pass).len() == SHOWN;
+    all &= shared.strings_as(&mut pass).len() == SHOWN;
+    all &= shared.serialize(alloc).is_ok();
+    all &= shared.serialize_as(alloc, &mut pass).is_ok();
+    all &= !format!(in alloc; "{shared:?}")?.is_empty();
+    let list = shared.seen_list_as(&mut pass);
+    let copy = shared.copy_list(alloc, &list, FixedState::new())?;
+    Ok(all && copy.len() == SHOWN)
+}
+
+// Shows the texts again and again. Returns whether all are there each time.
+fn shows_often(rt: &impl Host, shared: &Shared) -> LassoResult<bool> {
+    let mut all = true;
+    for _ in 0..COUNT {
+        all &= shows(rt, shared)?;
+    }
+    Ok(all)
+}
+
+#[test]
+fn no_call_that_shows_texts_sets_a_limit(rt: HostRuntime) -> Result<(), Fail> {
+    static FIRST: [Step; 1] = [Extends(Numbers(0, SHOWN), None)];
+    let shared: Shared = limited(rt.alloc(), BYTES, BYTES)?;
+    runs_in(&rt, &shared, &FIRST, PLAIN)?;
+    let (set, shown) = sets_beside(&rt, &shared, BYTES, 1_000_000, || shows_often(&rt, &shared));
+    is_so(&rt, set, "the limits");
+    is_so(&rt, shown?, "the texts");
+    Ok(())
 }
 
 // Whether the limit refuses each copy of the texts.

@@ -3,6 +3,7 @@
 use crate::checks::{Look, Origin, Shown, freezes_as, is_so, make_from, shows_as, shows_in};
 use Look::{Does, Prints, Shows, UsesBytesOf, Writes};
 use Step::{Interns, IsLimited, Uses};
+use lasso_parts::hasher::TextState;
 use lasso_parts::json::JsonError;
 use lasso_parts::keys::{Key, LargeSpur, Spur};
 use lasso_parts::util::{FixedState, LassoResult};
@@ -211,6 +212,15 @@ fn print_walks(rt: &impl Host, shared: &Shared) {
     }
 }
 
+// What `{:#?}` prints of the interner. Nothing of its hasher's seed is in it.
+const ON_LINES: &str = r#"ThreadedRodeo {
+    strings: [
+        "red",
+        "a\"b",
+    ],
+    ..
+}"#;
+
 #[test]
 fn debug_text_of_texts(rt: HostRuntime) -> Result<(), Fail> {
     static LOOKS: [Look; 3] = [
@@ -221,8 +231,11 @@ fn debug_text_of_texts(rt: HostRuntime) -> Result<(), Fail> {
         ]),
         Prints(r#"ThreadedRodeo { strings: ["red", "a\"b"], .. }"#),
     ];
-    let shared = ThreadedRodeo::new(rt.alloc())?;
+    let hasher = TextState::with_seed(1_234_567, 7_654_321);
+    let shared = ThreadedRodeo::with_hasher(rt.alloc(), hasher)?;
     shows_in(&rt, &shared, &LOOKS, PLAIN)?;
     print_walks(&rt, &shared);
+    let printed = format!(in rt.alloc(); "{shared:#?}")?;
+    is_so(&rt, printed.as_str() == ON_LINES, "on lines");
     Ok(())
 }

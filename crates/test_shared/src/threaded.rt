@@ -4,16 +4,18 @@ use crate::checks::{is_so, is_so_at, runs, runs_as, runs_in, runs_in_two};
 use Step::{
     ByNew, ByOne, Copies, Counts, Finds, Interns, IsLimited, Limits, Reads, Resolves, Takes, Uses,
 };
-use lasso_parts::keys::{Key, MicroSpur};
+use lasso_parts::keys::{Key, MicroSpur, Spur};
 use lasso_parts::util::{FixedState, LassoErrorKind};
+use lasso_shared::threaded::ThreadedRodeo;
+use std::cell::Cell;
 use std::test::*;
-use test_common::hashers::SameState;
+use test_common::hashers::{CountingState, SameState};
 use test_common::keys::BelowTwo;
 use test_steps::Host;
 use test_steps::calls::{Caller, Shared, answered, limited, made};
 use test_steps::cases::{Maker, PLAIN};
 use test_steps::passes::are_right_beside;
-use test_steps::steps::{Call, FULL, NO_KEY, Step, Way};
+use test_steps::steps::{Call, FULL, NO_KEY, Step, WAYS, Way};
 use test_steps::texts::List::{Numbers, Texts};
 use test_steps::texts::items_of;
 
@@ -284,4 +286,39 @@ fn a_text_of_each_thread_resolves(rt: HostRuntime) -> Result<(), Fail> {
     static THERE: [Step; 1] = [Resolves(Way::Copied, "Hello from the thread!")];
     static LAST: [Step; 1] = [Counts(2)];
     runs_in_two(&rt, &[], (&HERE, &THERE), &LAST, PLAIN)
+}
+
+// How many times a call hashes its text.
+
+// A text for each of `WAYS`.
+static OF_WAYS: [&str; 8] = ["a", "b", "c", "d", "e", "", "f", "g"];
+
+// Each call interns an absent text and then finds it. After `extend` the number of the text is looked up.
+#[test]
+fn each_call_hashes_its_text_once(rt: HostRuntime) -> Result<(), Fail> {
+    let hashed = Cell::new(0);
+    let state = CountingState::new(&hashed);
+    let shared: ThreadedRodeo<Spur, CountingState<'_>> = ThreadedRodeo::with_hasher(
+        rt.alloc(),
+        state,
+    )?;
+    let mut caller = Caller::new(&rt, &shared);
+    for (number, (way, text)) in WAYS.iter().zip(OF_WAYS.iter()).enumerate() {
+        let each = if let Way::Item = way { 2 } else { 1 };
+        for _ in 0..2u32 {
+            is_so_at(&rt, caller.interned(*way, *text)? == number, number);
+            is_so_at(&rt, hashed.replace(0) == each, number);
+        }
+    }
+    for (text, number) in [("g", Some(7)), ("absent", None)] {
+        let found = caller.found(text) == number && hashed.replace(0) == 1;
+        is_so(&rt, found, "get_as");
+        let found = caller.found_now(text) == number && hashed.replace(0) == 1;
+        is_so(&rt, found, "get_now_as");
+        let found = caller.found_plainly(text) == number && hashed.replace(0) == 1;
+        is_so(&rt, found, "get");
+        let found = shared.contains(&rt, text) == number.is_some() && hashed.replace(0) == 1;
+        is_so(&rt, found, "contains");
+    }
+    Ok(())
 }

@@ -2,12 +2,14 @@
 use crate::interners::{
     Host, LIMIT, MEMORY, Small, holds, interner, is_so, is_so_at, key_at, number_of, of_texts,
 };
+use lasso_parts::hasher::TextState;
 use lasso_parts::json::{JsonError, JsonKey, read_map, write_array, write_map};
 use lasso_parts::keys::{Key, LargeSpur, MicroSpur, MiniSpur, Spur};
-use lasso_parts::util::{FixedState, LassoErrorKind, MemoryLimits};
+use lasso_parts::util::{Capacity, FixedState, LassoErrorKind, MemoryLimits};
 use lasso_single::commands::{Command, Reply, run_commands};
 use serde_json::Value;
 use std::alloc::{Allocator, Global};
+use std::fmt::Debug;
 use std::test::Fail;
 
 type Call<'a> = Command<'a, Spur, FixedState, Global>;
@@ -284,5 +286,57 @@ fn debug_text_of_walks(rt: HostRuntime) -> Result<(), Fail> {
         is_so(&rt, printed.as_str() == *wanted, *wanted);
         let _items = (strings.next(), walk.next());
     }
+    Ok(())
+}
+
+// What `{:#?}` prints of an interner of two texts, between its name and its end.
+const PARTS: &str = r#"{
+    strings: [
+        "red",
+        "a\"b",
+    ],
+    arena: Arena {
+        buckets: ... 1 bucket,
+        bucket_capacity: 4096,
+        memory_usage: 4096,
+        max_memory_usage: 5000,
+    },
+"#;
+
+// Whether `{:#?}` prints this of the value, with the end.
+fn is_pretty<T: Debug>(alloc: Global, value: &T, name: &str, end: &str) -> Result<bool, Fail> {
+    let printed = format!(in alloc; "{value:#?}")?;
+    let wanted = format!(in alloc; "{name} {PARTS}{end}")?;
+    Ok(printed.as_str() == wanted.as_str())
+}
+
+// A resolver has no more parts. What an interner and a reader leave out is the index and the hasher, with its seed.
+#[test]
+fn debug_text_on_lines_has_no_seed(rt: HostRuntime) -> Result<(), Fail> {
+    let (alloc, limits) = (rt.alloc(), MemoryLimits::new(5000));
+    let mut rodeo = Small::with_capacity_memory_limits_and_hasher(
+        alloc,
+        Capacity::default(),
+        limits,
+        TextState::with_seed(1_234_567, 7_654_321),
+    )?;
+    rodeo.extend(["red", "a\"b"])?;
+    is_so(
+        &rt,
+        is_pretty(alloc, &rodeo, "Rodeo", "    ..\n}")?,
+        "an interner",
+    );
+    let reader = rodeo.into_reader();
+    is_so(
+        &rt,
+        is_pretty(alloc, &reader, "RodeoReader", "    ..\n}")?,
+        "a reader",
+    );
+    let resolver = reader.into_resolver();
+    is_so(
+        &rt,
+        is_pretty(alloc, &resolver, "RodeoResolver", "}")?,
+        "a resolver",
+    );
     Ok(())
 }

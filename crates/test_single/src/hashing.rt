@@ -1,10 +1,10 @@
-//! The hash of texts under a seed, against vectors that another program computed, and how many times an interner hashes
-//! a text.
-use crate::interners::{has_count, interns, interns_numbers, is_so, told};
+//! The hash of texts under a seed, against vectors that another program computed; how many times an interner hashes a
+//! text, and how its index and its list grow.
+use crate::interners::{has_count, interns_numbers, is_so, is_so_at};
 use lasso_parts::hasher::{TextState, hash_with_seed};
 use lasso_parts::index::hash_text;
 use lasso_parts::keys::Spur;
-use lasso_parts::util::{Capacity, FixedState};
+use lasso_parts::util::{Capacity, FixedState, LassoResult};
 use lasso_single::rodeo::Rodeo;
 use std::alloc::Global;
 use std::cell::Cell;
@@ -170,22 +170,110 @@ fn counted<'a>(alloc: Global, made: &'a Cell<u64>) -> Result<Counted<'a>, Fail> 
     Ok(Rodeo::with_hasher(alloc, CountingState::new(made))?)
 }
 
+// A call about one text.
+#[derive(Clone, Copy)]
+enum Call {
+    TryCopied,
+    Copied,
+    TryStatic,
+    Static,
+    Item,
+    ItemFrom,
+    Get,
+    Contains,
+}
+
+// Each call, with a text of its own. The first six intern it.
+static CALLS: [(Call, &str); 8] = [
+    (Call::TryCopied, "a"),
+    (Call::Copied, "b"),
+    (Call::TryStatic, "c"),
+    (Call::Static, "a static text of many bytes"),
+    (Call::Item, ""),
+    (Call::ItemFrom, "f"),
+    (Call::Get, "g"),
+    (Call::Contains, "h"),
+];
+
+// Makes the call.
+fn make(rodeo: &mut Counted<'_>, call: Call, text: &'static str) -> LassoResult<()> {
+    match call {
+        Call::TryCopied => drop(rodeo.try_get_or_intern(text)?),
+        Call::Copied => drop(rodeo.get_or_intern(text)?),
+        Call::TryStatic => drop(rodeo.try_get_or_intern_static(text)?),
+        Call::Static => drop(rodeo.get_or_intern_static(text)?),
+        Call::Item => rodeo.extend([text])?,
+        Call::ItemFrom => rodeo.extend_from(&mut [text].into_iter())?,
+        Call::Get => drop(rodeo.get(text)),
+        Call::Contains => drop(rodeo.contains(text)),
+    }
+    Ok(())
+}
+
+// Each call is made for an absent text, and again. A text that was interned is looked up in the reader then.
 #[test]
 fn each_call_hashes_its_text_once(rt: HostRuntime) -> Result<(), Fail> {
     let made = Cell::new(0);
     let mut rodeo = counted(rt.alloc(), &made)?;
     is_so(&rt, made.get() == 0, "a new interner");
-    let holds = interns(&mut rodeo, "a", 0) && made.get() == 1;
-    is_so(&rt, holds, "a new text");
-    let holds = interns(&mut rodeo, "a", 0) && made.get() == 2;
-    is_so(&rt, holds, "a present text");
-    let kept = told(rodeo.try_get_or_intern_static("b"));
-    is_so(&rt, kept == Ok(1) && made.get() == 3, "a new static text");
-    let kept = told(rodeo.try_get_or_intern_static("b"));
-    let holds = kept == Ok(1) && made.get() == 4;
-    is_so(&rt, holds, "a present static text");
-    let is_absent = rodeo.get("c").is_none();
-    is_so(&rt, is_absent && made.get() == 5, "an absent text");
+    for (call, text) in &CALLS {
+        let before = made.get();
+        make(&mut rodeo, *call, text)?;
+        is_so(&rt, made.get().wrapping_sub(before) == 1, *text);
+        make(&mut rodeo, *call, text)?;
+        is_so(&rt, made.get().wrapping_sub(before) == 2, *text);
+    }
+    is_so(&rt, has_count(&rodeo, 6), "the texts that were interned");
+    let reader = rodeo.into_reader();
+    for (number, (_, text)) in CALLS.iter().enumerate() {
+        let before = made.get();
+        is_so(&rt, reader.get(*text).is_some() == (number < 6), *text);
+        is_so(&rt, made.get().wrapping_sub(before) == 1, *text);
+        is_so(&rt, reader.contains(*text) == (number < 6), *text);
+        is_so(&rt, made.get().wrapping_sub(before) == 2, *text);
+    }
+    Ok(())
+}
+
+// Numbers of texts, and how many an index that began without slots has hashed again by then. It gets 8 slots, and twice
+// as many when three quarters are filled: before the 7th text, the 13th, the 25th and so on. Then it hashes the 6 texts that it
+// has, 12, 24 and so on.
+static HASHED_AGAIN: [(usize, u64); 11] = [
+    (6, 0),
+    (7, 6),
+    (12, 6),
+    (13, 18),
+    (1536, 1530),
+    (1537, 3066),
+    (3072, 3066),
+    (3073, 6138),
+    (24_577, 49_146),
+    (49_152, 49_146),
+    (49_153, 98_298),
+];
+
+// How often the list of that many texts grows at most: from 0 to 1, 2, 4 and so on up to 65,536.
+const GROWTHS: u32 = 17;
+
+#[test]
+fn list_and_index_double(rt: HostRuntime) -> Result<(), Fail> {
+    let (made, alloc) = (Cell::new(0), rt.alloc());
+    let state = CountingState::new(&made);
+    let mut rodeo = Counted::with_capacity_and_hasher(alloc, Capacity::minimal(), state)?;
+    let (mut room, mut growths) = (rodeo.capacity(), 0u32);
+    for (count, again) in &HASHED_AGAIN {
+        for number in rodeo.len()..*count {
+            let text = number.to_string(alloc)?;
+            rodeo.try_get_or_intern(text.as_str())?;
+            if rodeo.capacity() != room {
+                room = rodeo.capacity();
+                growths = growths.saturating_add(1);
+            }
+        }
+        let hashed = made.get().saturating_sub(*count as u64);
+        is_so_at(&rt, hashed == *again, *count);
+    }
+    is_so(&rt, growths <= GROWTHS, "the growths of the list");
     Ok(())
 }
 

@@ -9,6 +9,7 @@ use std::cell::Cell;
 use std::hash::BuildHasher;
 use std::test::Fail;
 use test_common::hashers::{CountingState, LengthState, SameState};
+use test_common::texts::numbered;
 
 static WORDS: [&str; 24] = [
     "", "a", "b", "aa", "ab", "ba", "bb", "aaa", "aab", "aba", "abb", "baa", "bab", "bba", "bbb",
@@ -120,19 +121,47 @@ fn constant_hash(rt: HostRuntime) -> Result<(), Fail> {
     run_steps(&rt, SameState::new(), WORDS.as_slice(), &steps)
 }
 
+// Numbers of texts at which an index without slots at first grows, and how many texts and slots it has then.
+static GROWTHS: [(usize, u64, u64); 10] = [
+    (7, 6, 8),
+    (13, 12, 16),
+    (25, 24, 32),
+    (49, 48, 64),
+    (97, 96, 128),
+    (193, 192, 256),
+    (385, 384, 512),
+    (769, 768, 1024),
+    (1537, 1536, 2048),
+    (3073, 3072, 4096),
+];
+
+// Each text is hashed once to be entered. A growth hashes each text that is there, and else at most the empty text for
+// an empty slot.
 #[test]
 fn hashed_again(rt: HostRuntime) -> Result<(), Fail> {
     let asked = Cell::new(0u64);
-    let hasher = CountingState::new(&asked);
-    let mut words = Entered::new(rt.alloc(), hasher, WORDS.as_slice());
-    let mut hashed = [0u64; 7];
-    for (position, count) in hashed.iter_mut().enumerate() {
-        let before = asked.get();
-        words.enter(position)?;
-        *count = asked.get().wrapping_sub(before);
+    let numbers = numbered(rt.alloc(), 3200)?;
+    let mut texts = Vec::new(rt.alloc());
+    for number in numbers.iter() {
+        texts.push(number.as_str())?;
     }
-    let (sixth, seventh) = (hashed[5], hashed[6]);
-    assert!(rt; seventh >= sixth + 6, "{sixth} texts, then {seventh}");
+    let mut entered = Entered::new(rt.alloc(), CountingState::new(&asked), texts.as_slice());
+    for position in 0..texts.len() {
+        let before = asked.get();
+        entered.enter(position)?;
+        let again = asked.get().wrapping_sub(before + 1);
+        let (mut least, mut most) = (0, 0);
+        for (count, used, slots) in &GROWTHS {
+            if *count == position + 1 {
+                (least, most) = (*used, *slots);
+            }
+        }
+        assert!(rt;
+            least <= again && again <= most,
+            "{again} texts at {position}"
+        );
+    }
+    assert!(rt; entered.has_all());
     Ok(())
 }
 

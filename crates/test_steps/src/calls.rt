@@ -217,10 +217,16 @@ impl<'a, K: Key, S: BuildHasher + Drop, R: Host> Caller<'a, K, S, R> {
         })
     }
 
-    /// Sets the limit without waiting, unless others are in the way. Returns whether it did.
-    pub fn set_limit_now(&mut self, bytes: usize) -> bool {
-        let limits = MemoryLimits::new(bytes);
-        self.shared.set_memory_limits_now_as(&mut self.pass, limits)
+    /// Sets the limit without waiting, again until nobody is in the way.
+    pub fn set_limit_now(&mut self, bytes: usize) {
+        let (shared, pass) = (self.shared, &mut self.pass);
+        until_free(self.rt, || {
+            if shared.set_memory_limits_now_as(pass, MemoryLimits::new(bytes)) {
+                Some(())
+            } else {
+                None
+            }
+        });
     }
 
     /// Sets the limit by the pass.

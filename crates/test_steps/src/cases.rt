@@ -334,8 +334,8 @@ pub fn refuses_items<K: Key, S: BuildHasher + Default + Drop>(
 // How many limits are set at most, in case the other thread never ends.
 const MOST: usize = 1_000_000;
 
-/// Sets the `count` limits from `least` on, again and again until the other thread is done, in turn by a pass
-/// and without one. Returns whether each is read as it was set.
+/// Sets the `count` limits from `least` on, again and again until the other thread is done, in turn without a
+/// pass, by one, and by one without waiting. Returns whether each is read as it was set.
 pub fn reads_what_it_sets(
     rt: &impl Host,
     shared: &Shared,
@@ -350,10 +350,10 @@ pub fn reads_what_it_sets(
         }
         let bytes = least.saturating_add(turn % count.max(1));
         let mut caller = Caller::new(rt, shared);
-        if turn / 2 % 2 == 1 {
-            caller.set_limit(bytes);
-        } else {
-            caller.set_limit_plainly(bytes);
+        match turn / 2 % 3 {
+            0 => caller.set_limit_plainly(bytes),
+            1 => caller.set_limit(bytes),
+            _ => caller.set_limit_now(bytes),
         }
         all &= caller.limit() == bytes;
     }

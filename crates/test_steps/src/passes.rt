@@ -139,7 +139,11 @@ impl<'a, K: Key, S: BuildHasher + Drop, R: Host> Caller<'a, K, S, R> {
                 let wanted = (limit, usage);
                 Ok(self.sums() == wanted && self.sums_now() == wanted)
             }
-            Call::Uses(usage) => Ok(self.sums().1 == usage),
+            Call::Uses(usage) => {
+                let (limit, used) = self.sums();
+                let (limit_now, used_now) = self.sums_now();
+                Ok(used == usage && used_now == usage && limit.min(limit_now) >= usage)
+            }
             _ => self.holds_more_by(call),
         }
     }

@@ -71,7 +71,7 @@ pub enum Call {
     Counts(usize),
     /// Reads the limit and how many bytes all buckets take, with and without waiting.
     Sums(usize, usize),
-    /// Reads the same, of which only the bytes are known.
+    /// Reads the same, of which only the bytes are known, and the limit is at least as many.
     Uses(usize),
     /// Sets the limit.
     Limits(usize),
@@ -109,6 +109,8 @@ pub enum Step {
     Limits(usize),
     /// Reads the limit.
     IsLimited(usize),
+    /// Reads the limit, which is at least this.
+    IsLimitedFrom(usize),
     /// Interns the text by each of `WAYS`, and returns its number each time, or why it is refused.
     EachInterns(&'static str, Reply),
     /// Interns the text by each of `COPYING`, and returns its number each time, or why it is refused.
@@ -206,9 +208,11 @@ impl<'a, K: Key, S: BuildHasher + Drop, R: Host> Caller<'a, K, S, R> {
         Ok(all)
     }
 
-    /// Whether the interner has this many texts, by `len` and by `is_empty`.
+    /// Whether the interner has this many texts, by `len` and by `is_empty`, and cells for them.
     pub fn has_len(&self, count: usize) -> bool {
-        self.shared.len() == count && self.shared.is_empty() == (count == 0)
+        self.shared.len() == count
+            && self.shared.is_empty() == (count == 0)
+            && self.shared.capacity() >= count
     }
 
     /// Whether `get`, `contains` and `get_now_as` find the text under this number, or not at all.
@@ -367,6 +371,7 @@ impl<'a, K: Key, S: BuildHasher + Drop, R: Host> Caller<'a, K, S, R> {
                 Ok(true)
             }
             Step::IsLimited(bytes) => Ok(self.limit() == bytes),
+            Step::IsLimitedFrom(bytes) => Ok(self.limit() >= bytes),
             Step::EachInterns(text, wanted) => self.each_interns(WAYS.as_slice(), text, wanted),
             Step::EachCopies(text, wanted) => self.each_interns(COPYING.as_slice(), text, wanted),
             Step::Resolves(way, text) => self.resolves_to(way, text),

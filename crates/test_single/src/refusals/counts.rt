@@ -1,5 +1,5 @@
 //! `allocated_bytes` of an interner and of its frozen forms is what the allocator gave out. They give it back, with the
-//! memory of their hasher and of the items that they take.
+//! memory of their hasher and of the items that they take. Which calls ask it for nothing.
 ghost use Rattle.std.specs.Hash.FoldHasher as folding;
 
 use crate::refusals::*;
@@ -99,6 +99,94 @@ fn allocated_bytes_of_many_texts_are_those_given(rt: HostRuntime) -> Result<(), 
         is_so_at(&rt, is_counted::<LargeSpur>(alloc, count, step)?, count);
     }
     is_so(&rt, is_counted::<Spur>(alloc, 1000, 0)?, "1000 texts");
+    Ok(())
+}
+
+// Calls that ask for no memory.
+
+// Fails unless the form of the texts, with its first key, tells what it has by each call that takes no text.
+macro_rules! is_read {
+    ($rt:expr, $form:expr, $key:expr) => {{
+        let (form, key) = ($form, $key);
+        let mut texts = Vec::with_capacity($rt.alloc(), 40)?;
+        form.resolve_all(&[key; 40], &mut texts)?;
+        is_so($rt, form.contains_key(key) && form.contains_keys(&[key; 40]), "a key");
+        is_so($rt, form.try_resolve(key) == Some("a"), "its text");
+        is_so($rt, form.resolve(key) == form.resolve_unchecked(key), "a text");
+        is_so($rt, form.len() == TEXTS.len() && !form.is_empty(), "the number");
+        is_so($rt, form.allocated_bytes() > 0, "the bytes");
+        let (mut walk, mut strings) = (form.iter().clone()?, form.strings().clone()?);
+        is_so($rt, walk.next().is_some() && walk.next_back().is_some(), "a walk");
+        is_so($rt, strings.next() == Some("a") && strings.next_back().is_some(), "texts");
+    }};
+}
+
+// Fails unless the interner or its reader finds the first text, and lacks another one, by each call that looks texts up.
+macro_rules! is_found {
+    ($rt:expr, $form:expr) => {{
+        let mut keys = Vec::with_capacity($rt.alloc(), 40)?;
+        $form.get_all(&["a"; 40], &mut keys)?;
+        is_so($rt, number_of($form.get("a")) == Some(0), "a text");
+        is_so($rt, $form.get("absent").is_none() && !$form.contains("absent"), "no text");
+    }};
+}
+
+// Interns the present text by each call.
+fn interns_again(rodeo: &mut Metered<'_, Spur>, alloc: Global) -> LassoResult<()> {
+    let mut keys = Vec::with_capacity(alloc, 40)?;
+    rodeo.try_get_or_intern("a")?;
+    rodeo.get_or_intern("a")?;
+    rodeo.try_get_or_intern_static("a")?;
+    rodeo.get_or_intern_static("a")?;
+    rodeo.extend(["a"])?;
+    rodeo.try_get_or_intern_all(&["a"; 40], &mut keys)
+}
+
+// The lists of keys and texts have memory of their own, with room for 40.
+#[test]
+fn calls_that_ask_for_no_memory(rt: HostRuntime) -> Result<(), Fail> {
+    let memory = Refusing::new(rt.alloc(), 0);
+    let mut rodeo = Metered::<Spur>::new(&memory)?;
+    rodeo.extend(TEXTS.iter().copied())?;
+    let (mut other, key) = (rodeo.try_clone()?, key_at(0)?);
+    let before = memory.requests();
+    is_so(&rt, before > 0, "the requests that are counted");
+    interns_again(&mut rodeo, rt.alloc())?;
+    is_so(&rt, memory.requests() == before, "present texts");
+    is_found!(&rt, rodeo);
+    is_read!(&rt, &rodeo, key);
+    is_so(
+        &rt,
+        rodeo == other && rodeo.capacity() >= TEXTS.len(),
+        "the same",
+    );
+    rodeo.set_memory_limits(MemoryLimits::new(7));
+    is_so(&rt, rodeo.max_memory_usage() == 7, "the limit");
+    is_so(&rt, rodeo.current_memory_usage() == 4096, "the usage");
+    is_so(&rt, memory.requests() == before, "an interner");
+    let reader = rodeo.into_reader();
+    is_found!(&rt, reader);
+    is_read!(&rt, &reader, key);
+    is_so(
+        &rt,
+        other.eq_reader(&reader) && reader.eq_rodeo(&other),
+        "a reader",
+    );
+    is_so(&rt, memory.requests() == before, "the requests of a reader");
+    let resolver = reader.into_resolver();
+    is_read!(&rt, &resolver, key);
+    is_so(
+        &rt,
+        other.eq_resolver(&resolver) && resolver.eq_rodeo(&other),
+        "a resolver",
+    );
+    other.clear();
+    is_so(&rt, other.is_empty(), "a clear");
+    is_so(
+        &rt,
+        memory.requests() == before,
+        "the requests of a resolver and a clear",
+    );
     Ok(())
 }
 
