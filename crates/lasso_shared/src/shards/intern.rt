@@ -74,12 +74,7 @@ impl<K: Key, S: BuildHasher + Drop> Shards<K, S> {
     /// Returns the text's key, and appends an absent text first. A new text may fail out of memory (`FailedAllocation`); else a copied
     /// one fails if the memory limit leaves no room for its bytes (`MemoryLimitReached`), or either if the key type has no key for its
     /// position (`KeySpaceExhaustion`). In the last case the bytes of a copied one may stay taken; otherwise no event is added.
-    pub fn intern<R: Wait>(
-        &self,
-        rt: &R,
-        pass: &mut Pass<K>,
-        text: NewText<'_>,
-    ) -> LassoResult<K>
+    pub fn intern<R: Wait>(&self, rt: &R, pass: &mut Pass<K>, text: NewText<'_>) -> LassoResult<K>
         requires { pass.old.of ≡ self.now.log }
         ensures same { IsSamePass pass.new pass.old }
         ensures call { IsPassCall K.key_at self.now.log pass.old pass.new (intern_of text.entry) (Interned result) }

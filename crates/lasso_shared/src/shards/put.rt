@@ -31,8 +31,8 @@ use std::hash::BuildHasher;
 use std::hint::spin_loop;
 use std::sync::Wait;
 
-// The reply of a call that doesn't wait. It waits for ever if there is none, which can't be for a text that is appended while
-// the spine is held.
+// The reply of a call that doesn't wait. If there is none it waits for ever, which can't be for a text whose cell is made and
+// that is appended while the spine is held: nobody else is in the way then.
 pub(super) fn or_wait<R: Wait, K: Key>(rt: &R, reply: Option<LassoResult<K>>) -> LassoResult<K>
     ensures { reply ≡ Some result }
 {
@@ -242,10 +242,7 @@ impl<K: Key, S: BuildHasher + Drop> Shards<K, S> {
             let (guard, mut held) = self.lock_current(rt, shard, pass, number_of(hash));
             let tally: &mut Tally<K, S> = &mut held.tally;
             if let Some(cell) = self.log.reserve_ahead(&mut tally.spine, &ahead) {
-                let reply = or_wait(
-                    rt,
-                    self.append_at_now(tally, shard, pass, cell, hash, text),
-                );
+                let reply = or_wait(rt, self.append_at_now(tally, shard, pass, cell, hash, text));
                 guard.unlock(rt, held);
                 return reply;
             }
