@@ -1,4 +1,4 @@
-use Rattle.std.proofs.Common.{◌≡◌, ℕ, subst}
+use Rattle.std.proofs.Common.{ℕ, subst}
 use Rattle.std.specs.Prelude.{IfSome}
 use Rattle.lasso_shared.specs.Shards.{PutsLast}
 use Rattle.lasso_shared.proofs.Now.{puts_later_if}

@@ -10,7 +10,7 @@ use Rattle.lasso_shared.proofs.shards.Shards.intern_once.Goals as goal
 
 pub returns-in-Some : goal.returns-in-Some
 returns-in-Some g c =
-    let told = c.in-Some.ensures.told in
+    let told = rw c.as_str-letters.ensures at c.in-Some.ensures.told in
     let log = c.args.self.now.log in
     let p = unused (history told.0) in record {
       call = plain g.K.Key.key_at log.opening p [] told.0 (intern_of c.args.text) (Interned (Ok c.in-Some.key)) refl

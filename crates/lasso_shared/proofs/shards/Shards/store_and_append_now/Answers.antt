@@ -1,4 +1,4 @@
-use Rattle.std.proofs.Common.{◌≡◌, ℕ, [], inl, inr, refl, ap, sym, ◌∙◌, subst}
+use Rattle.std.proofs.Common.{ℕ, [], inl, inr, refl, ap, sym, ◌∙◌, subst}
 use Rattle.std.specs.Prelude.{Err, IfSome, Result}
 use Rattle.lasso_parts.specs.Texts.{Text}
 use Rattle.lasso_parts.specs.Hashing.{hash_by}
