@@ -69,6 +69,7 @@ pub use Rattle.lasso_shared.specs.Filling as SharedFilling
 pub use Rattle.lasso_shared.specs.Json as SharedJson
 pub use Rattle.lasso_shared.specs.Machine
 pub use Rattle.lasso_shared.specs.MachineCalls
+pub use Rattle.lasso_shared.specs.NewTexts
 pub use Rattle.lasso_shared.specs.Now
 pub use Rattle.lasso_shared.specs.OpenedTexts
 pub use Rattle.lasso_shared.specs.PassCalls

@@ -22,4 +22,3 @@ pub mod Meeting
 pub mod Crossing
 pub mod FillCalls
 pub mod Reserved
-pub mod Charged

@@ -1,11 +1,10 @@
 -- A reservation after steps that added no event of the pass.
 use Rattle.std.proofs.Common.{◌≡◌, ℕ, List, [], ◌∷◌, Option, Some, None, IfSome, IfNone, subst}
 use Rattle.lasso_log.specs.History.{Event, Reserve}
-use Rattle.lasso_log.specs.LentBuckets.{Site}
 use Rattle.lasso_log.specs.Notes.{NoteView, Since}
 use Rattle.lasso_log.specs.Pieces.{RangeView}
-use Rattle.lasso_log.specs.SharedBuckets.{SharedView, IsNoteOf, IsReserved, ReservesAmong}
-use Rattle.lasso_log.specs.Views.{InternerId, PassView}
+use Rattle.lasso_log.specs.SharedBuckets.{SharedView, IsNoteOf, IsReserved}
+use Rattle.lasso_log.specs.Views.{InternerId}
 use Rattle.lasso_log.proofs.Tickets.{since_trans}
 
 -- a longer time without an event of the pass
@@ -36,15 +35,3 @@ reserved_after (Some r) of p q a b c bytes is before taken = reserved_later of p
 pub taken_after : (o : Option RangeView) (p q : ℕ) (a b c : List NoteView) (own : Event) → q ≡ p → Since p a b [] → IfSome o (λ r. Since q b c (own ∷ [])) → IfSome o (λ r. Since p a c (own ∷ []))
 taken_after None p q a b c own is before taken = tt
 taken_after (Some r) p q a b c own is before taken = since_trans p a b c (own ∷ []) before (subst (λ (n : ℕ). Since n b c (own ∷ [])) is taken)
-
--- and of its note
-pub noted_after : (o : Option RangeView) (p q : ℕ) (notes : List NoteView) (own : Event) (site : Site) → q ≡ p → IfSome o (λ r. IsNoteOf q notes own site) → IfSome o (λ r. IsNoteOf p notes own site)
-noted_after None p q notes own site is note = tt
-noted_after (Some r) p q notes own site is note = subst (λ (n : ℕ). IsNoteOf n notes own site) is note
-
--- and of one of the first buckets
-pub among_after : (o : Option RangeView) (of : InternerId) (count : ℕ) (before mid after : PassView) (bytes : ℕ) → mid.number ≡ before.number → Since before.number before.notes mid.notes [] → IfSome o (λ r. ReservesAmong of count mid after r bytes)
-    → IfSome o (λ r. ReservesAmong of count before after r bytes)
-among_after None of count before mid after bytes is since taken = tt
-among_after (Some r) of count before mid after bytes is since taken =
-    (taken.0, taken.1, taken.2, reserved_whole taken.0 before.number mid.number before.notes mid.notes after.notes r bytes is since taken.3)

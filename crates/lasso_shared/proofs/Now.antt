@@ -13,7 +13,7 @@ use Rattle.lasso_log.specs.Views.{InternerId, list_of}
 use Rattle.lasso_shared.specs.Shards.{PutsLast}
 use Rattle.lasso_log.proofs.Tickets.{since_trans}
 use Rattle.lasso_shared.proofs.Called.{called_later, got}
-use Rattle.lasso_shared.proofs.Stored.{called_put, charged_bytes, refused_later, since_append, takes_later}
+use Rattle.lasso_shared.proofs.Stored.{called_put, charged_bytes, puts_later, refused_later, since_append, takes_later}
 
 -- what a pass may have stored, after steps without an event
 pub store_later : (p : ℕ) (a b c : List NoteView) (text : Text) → Since p a b [] → ((own : List Event) × ((own ≡ []) ⊎ Stores Copied text own) × Since p b c own) → (own : List Event) × ((own ≡ []) ⊎ Stores Copied text own) × Since p a c own
@@ -52,7 +52,12 @@ module _ {K : Type 0} (key_at : ℕ → Option K) (of : InternerId) (p : ℕ) wh
   called_puts before mid after stored text None s stores put = tt
   called_puts before mid after stored text (Some r) s stores put = called_put key_at of p Copied before mid after stored text r s stores put
 
-  -- what the pass saw before, without an event of its own, may be counted to the call
+  -- what the pass saw before, without an event of its own, may be counted to what put the text last
+  pub puts_later_if : (before mid after : List NoteView) (text : Text) (o : Option (Result K LassoErrorKind)) → Since p before mid [] → IfSome o (PutsLast key_at of p mid after text) → IfSome o (PutsLast key_at of p before after text)
+  puts_later_if before mid after text None s put = tt
+  puts_later_if before mid after text (Some r) s put = puts_later key_at of p before mid after text r s put
+
+  -- and to the call
   pub called_later_if : (before mid : List NoteView) (after : History) (q : Question) (o : Option (Result K LassoErrorKind)) → Since p before mid []
       → IfSome o (λ r. IsCall key_at of.opening (history mid) after p q (Interned r)) → IfSome o (λ r. IsCall key_at of.opening (history before) after p q (Interned r))
   called_later_if before mid after q None s call = tt

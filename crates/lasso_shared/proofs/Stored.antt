@@ -2,7 +2,7 @@
 --
 -- What a pass saw comes in parts, each with its own events: none until the bytes are stored, then those that store them, then none or
 -- the append. The whole is a call, whose reply is explained at its end, or for a refusal by the limit at the step that has its ground.
-use Rattle.std.proofs.Common.{◌≡◌, ◌≢◌, ℕ, List, [], ◌∷◌, ◌++◌, length, Option, Some, None, refl, ap, sym, ◌∙◌, subst, inl, inr, append_assoc, append-nil, arith}
+use Rattle.std.proofs.Common.{◌≡◌, ℕ, List, [], ◌∷◌, ◌++◌, length, Option, Some, None, refl, ap, sym, ◌∙◌, subst, inl, inr, append_assoc, append-nil, arith}
 use Rattle.std.specs.Prelude.{◌⊎◌, Result, Ok, Err, IfOk, IfErr, OnErr, IsSomeAnd, option_and_then}
 use mathlib.Core.List.{IsPrefix}
 use Rattle.lasso_parts.specs.Texts.{Text, IsDistinct, position_of, key_of}
@@ -11,9 +11,11 @@ use Rattle.lasso_parts.proofs.IndexLaws.{position_of_at, slice_get_push}
 use Rattle.lasso_parts.specs.declared.util.LassoErrorKind.{LassoErrorKind}
 use Rattle.lasso_parts.specs.declared.util.LassoErrorKind.TheVariants.{FailedAllocation, KeySpaceExhaustion, MemoryLimitReached}
 use Rattle.lasso_log.specs.Calls.{events_of, TakesBytes, Stores, Makes, IsCall}
+use Rattle.lasso_log.specs.Charges.{IsRefusal}
 use Rattle.lasso_log.specs.History.{Event, Append, Charge, History, Totals, totals, Lacks}
 use Rattle.lasso_log.specs.Notes.{NoteView, history, state, Since}
 use Rattle.lasso_log.specs.Replies.{Keeping, Copied, Intern, Reply, Interned, MayReply}
+use Rattle.lasso_shared.specs.NewTexts.{IsUnstored}
 use Rattle.lasso_shared.specs.Shards.{PutsLast}
 use Rattle.lasso_log.specs.Turns.{IsPastLimit}
 use Rattle.lasso_log.specs.Views.{InternerId, list_of}
@@ -39,10 +41,15 @@ cancel (x ∷ xs) ys zs e = cancel xs ys zs (cc e)
 pub takes_later : (p : ℕ) (a b c : List NoteView) (n : ℕ) → Since p a b [] → ((own : List Event) × TakesBytes n own × Since p b c own) → (own : List Event) × TakesBytes n own × Since p a c own
 takes_later p a b c n s t = (t.0, t.1, since_trans p a b c t.0 s t.2)
 
-pub takes_later_where : {A E : Type 0} (p q : ℕ) (a b c : List NoteView) (n : ℕ) (r : Result A E) → q ≡ p → Since p a b [] → IfOk r (λ x. (own : List Event) × TakesBytes n own × Since q b c own)
-    → IfOk r (λ x. (own : List Event) × TakesBytes n own × Since p a c own)
-takes_later_where p q a b c n (Ok x) same s t = takes_later p a b c n s (t.0, t.1, subst (λ (i : ℕ). Since i b c t.0) same t.2)
-takes_later_where p q a b c n (Err e) same s t = tt
+-- the same of a result
+pub stores_later : {A E : Type 0} (p q : ℕ) (a b c : List NoteView) (text : Text) (r : Result A E) → q ≡ p → Since p a b [] → IfOk r (λ x. (own : List Event) × Stores Copied text own × Since q b c own)
+    → IfOk r (λ x. (own : List Event) × Stores Copied text own × Since p a c own)
+stores_later p q a b c text (Ok x) same s t = (t.0, t.1, since_trans p a b c t.0 s (subst (λ (i : ℕ). Since i b c t.0) same t.2))
+stores_later p q a b c text (Err e) same s t = tt
+
+pub none_later : {A E : Type 0} (p q : ℕ) (a b c : List NoteView) (r : Result A E) → q ≡ p → Since p a b [] → OnErr r (Since q b c []) → OnErr r (Since p a c [])
+none_later p q a b c (Ok x) same s none = tt
+none_later p q a b c (Err e) same s none = since_trans p a b c [] s (subst (λ (i : ℕ). Since i b c []) same none)
 
 -- ---- the bytes
 
@@ -50,17 +57,6 @@ takes_later_where p q a b c n (Err e) same s t = tt
 pub charged_bytes : (p : ℕ) (a b : List NoteView) (n : ℕ) (size : Option ℕ) → IsSomeAnd size (λ m. Since p a b (Charge m n ∷ [])) → (own : List Event) × TakesBytes n own × Since p a b own
 charged_bytes p a b n (Some m) s = (Charge m n ∷ [], inr (m, refl), s)
 charged_bytes p a b n None s = absurd s
-
--- the same of what adds a bucket, or is refused
-pub charged_later : {A E : Type 0} (p q : ℕ) (a b c : List NoteView) (n : ℕ) (size : Option ℕ) (r : Result A E) → q ≡ p → Since p a b [] → IfOk r (λ x. IsSomeAnd size (λ m. Since q b c (Charge m n ∷ [])))
-    → IfOk r (λ x. (own : List Event) × TakesBytes n own × Since p a c own)
-charged_later p q a b c n size (Ok x) same s charged =
-    takes_later p a b c n s (charged_bytes p b c n size (subst (λ (i : ℕ). IsSomeAnd size (λ m. Since i b c (Charge m n ∷ []))) same charged))
-charged_later p q a b c n size (Err e) same s charged = tt
-
-pub none_later : {A E : Type 0} (X : Type 0) (p q : ℕ) (a b c : List NoteView) (r : Result A E) → q ≡ p → Since p a b [] → OnErr r (Since q b c [] × X) → OnErr r (Since p a c [])
-none_later X p q a b c (Ok x) same s none = tt
-none_later X p q a b c (Err e) same s none = since_trans p a b c [] s (subst (λ (i : ℕ). Since i b c []) same none.0)
 
 pub is_none : (text : Text) → length text ≡ 0 → text ≡ []
 is_none [] e = refl
@@ -86,6 +82,13 @@ pub refused_later : {A : Type 0} (o : Totals) (a b c : List NoteView) (len n : �
     → IfErr r (λ e. (e ≡ FailedAllocation) ⊎ ((e ≡ MemoryLimitReached) × IsPastLimit o a c len n))
 refused_later o a b c len n (Ok x) before refused = tt
 refused_later o a b c len n (Err e) before refused = elim refused [ inl want ↦ inl want | inr l ↦ inr (l.0, past_earlier o a b c len n before l.1) ]
+
+-- the same of a text
+pub unstored_later : {A : Type 0} (of : InternerId) (list old a b c : List NoteView) (text : Text) (r : Result A LassoErrorKind) → old ≡ list → IsPrefix a b → IfErr r (IsUnstored of old b c text) → IfErr r (IsUnstored of list a c text)
+unstored_later of list old a b c text (Ok x) same before unstored = tt
+unstored_later of list old a b c text (Err e) same before unstored =
+    let r : Result ℕ LassoErrorKind = Err e in
+    (unstored.0, refused_later of.opening a b c (length (list_of of list)) (length text) r before (subst (λ (l : List NoteView). IsRefusal of l b c (length text) e) same unstored.1))
 
 module _ {K : Type 0} (key_at : ℕ → Option K) where
   -- the key of a new last text
@@ -132,16 +135,16 @@ module _ {K : Type 0} (key_at : ℕ → Option K) where
 
     -- the bytes are refused after a step at which the list lacks the text: out of memory, or by the limit at
     -- a later step at which the list is as long, and so the same
-    pub called_refused : {A : Type 0} (before mid after : List NoteView) (text : Text) (len : ℕ) (r : Result A LassoErrorKind) → text ≢ [] → Since p before mid [] → Lacks (list_of of mid) text → length (list_of of mid) ≡ len
-        → IfErr r (λ e. (e ≡ FailedAllocation) ⊎ ((e ≡ MemoryLimitReached) × IsPastLimit of.opening mid after len (length text))) → OnErr r (Since p mid after [])
+    pub called_refused : {A : Type 0} (list before mid after : List NoteView) (text : Text) (r : Result A LassoErrorKind) → Since p before mid [] → Lacks (list_of of mid) text → list_of of mid ≡ list_of of list
+        → IfErr r (IsUnstored of list mid after text) → OnErr r (Since p mid after [])
         → IfErr r (λ e. IsCall key_at of.opening (history before) (history after) p (Intern Copied text) (Interned (Err e)))
-    called_refused before mid after text len (Ok x) some s lacks long refused none = tt
-    called_refused before mid after text len (Err e) some s lacks long refused none =
+    called_refused list before mid after text (Ok x) s lacks is unstored none = tt
+    called_refused list before mid after text (Err e) s lacks is unstored none =
         let all = since_trans p before mid after [] s none in
-        let first : IsPrefix before mid = (s.rest, s.begins) in elim refused [
+        let first : IsPrefix before mid = (s.rest, s.begins) in elim unstored.1 [
           | inl want ↦ rw want (explained_at before mid after Copied text (Interned (Err FailedAllocation)) all first (none.rest, none.begins) lacks refl)
           | inr l ↦ (let x = l.1 in
-              let same : list_of of mid ≡ list_of of x.notes = same_texts of.opening mid x.notes x.past (long ∙ sym x.list) in
+              let same : list_of of mid ≡ list_of of x.notes = same_texts of.opening mid x.notes x.past (ap (λ (ts : List Text). length ts) is ∙ sym x.list) in
               rw l.0 (explained_at before x.notes after Copied text (Interned (Err MemoryLimitReached)) all (prefix_trans before mid x.notes first x.past) x.begins
-              (subst (λ (ts : List Text). Lacks ts text) same lacks, refl, some, x.room, x.limit) refl))
+              (subst (λ (ts : List Text). Lacks ts text) same lacks, refl, unstored.0, x.room, x.limit) refl))
         ]

@@ -18,7 +18,7 @@ mod intern;
 mod limits;
 mod look;
 mod memory;
-mod new_text;
+pub mod new_text;
 mod now;
 mod open;
 pub mod parts;

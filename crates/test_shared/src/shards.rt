@@ -1,5 +1,6 @@
 //! Calls of different shards, which do not wait for each other; many texts in one shard; and the cells of
 //! refused texts, which are freed.
+mod batches;
 mod hints;
 mod writers;
 
@@ -10,6 +11,7 @@ use lasso_parts::index::hash_text;
 use lasso_parts::keys::{Key, MicroSpur, Spur};
 use lasso_parts::util::{FixedState, LassoErrorKind, LassoResult};
 use lasso_shared::shards::Shards;
+use lasso_shared::shards::new_text::NewText;
 use lasso_shared::shards::tag::number_of;
 use lasso_shared::threaded::ThreadedRodeo;
 use std::alloc::Global;
@@ -56,7 +58,7 @@ fn intern_static<K: Key, S: BuildHasher + Drop>(
     shards: &Shards<K, S>,
     text: &'static str,
 ) -> LassoResult<usize> {
-    numbered(shards.intern_static(rt, &mut shards.log.pass(), text))
+    numbered(shards.intern(rt, &mut shards.log.pass(), NewText::Static(text)))
 }
 
 // `0` and `a` are texts of shards 3 and 6. Another thread interns `a` while the shard of `0` is locked for writing.
@@ -88,8 +90,8 @@ fn find_and_set(
 ) {
     let mut pass = shards.log.pass();
     let found = shards.get(rt, &mut pass, text).is_some();
-    let kept = shards.intern_static(rt, &mut pass, text).is_ok();
-    let copied = shards.intern_copied(rt, &mut pass, text).is_ok();
+    let kept = shards.intern(rt, &mut pass, NewText::Static(text)).is_ok();
+    let copied = shards.intern(rt, &mut pass, NewText::Copied(text)).is_ok();
     if found && kept && copied {
         flag.store(1, Ordering::SeqCst);
     }
@@ -176,7 +178,7 @@ fn refuses(
     text: &str,
     wanted: LassoErrorKind,
 ) {
-    let reply = answered(shards.intern_copied(rt, &mut shards.log.pass(), text));
+    let reply = answered(shards.intern(rt, &mut shards.log.pass(), NewText::Copied(text)));
     is_so(rt, reply.err() == Some(wanted), text);
     is_so(rt, kept_cells(rt, shards) == 0, "the cells");
 }

@@ -116,7 +116,8 @@ fn fits_anywhere(rt: &impl Host, log: &Log<Spur>, list: &BucketList<Spur>, text:
 }
 
 // Copies the text into a bucket that has room for it, or else into a new one. A new one that is not in the
-// list then is reported as out of memory: a later walk with the spine would wait for it for ever.
+// list then is reported as out of memory: no later walk with the spine would end. So is a walk or a charge that
+// others are in the way of, since there are none.
 fn stores(
     rt: &impl Host,
     log: &Log<Spur>,
@@ -126,15 +127,18 @@ fn stores(
     text: &str,
 ) -> LassoResult<()> {
     let bytes = text.len() as u64;
-    let range = match log.reserve(rt, list, spine, pass, bytes) {
-        Some(range) => range,
-        None => log.charge(rt, rt.alloc(), list, spine, pass, bytes)?,
+    let range = match log.reserve_now(list, spine, pass, bytes) {
+        Some(Some(range)) => Some(range),
+        Some(None) => match log.charge_now(rt.alloc(), list, spine, pass, bytes) {
+            Some(made) => Some(made?),
+            None => None,
+        },
+        None => None,
     };
-    drop(range.fill(log.era(), text));
-    if list.len() < spine.buckets() {
-        return Err(LassoError::new(LassoErrorKind::FailedAllocation));
+    if fills_range(log, range, text) && list.len() == spine.buckets() {
+        return Ok(());
     }
-    Ok(())
+    Err(LassoError::new(LassoErrorKind::FailedAllocation))
 }
 
 // Takes the steps with a log whose first bucket has `bytes` bytes, under the limit.
@@ -150,8 +154,10 @@ pub(super) fn run_steps(
         let is_right = match *step {
             Stores(text) => stores(rt, &log, &list, &mut spine, &mut pass, text).is_ok(),
             Fits(text, wanted) => {
-                let range = log.reserve(rt, &list, &spine, &mut pass, text.len() as u64);
-                fills_range(&log, range, text) == wanted
+                match log.reserve_now(&list, &spine, &mut pass, text.len() as u64) {
+                    Some(range) => fills_range(&log, range, text) == wanted,
+                    None => false,
+                }
             }
             FitsAnywhere(text, wanted) => fits_anywhere(rt, &log, &list, text) == wanted,
             SetsLimit(limit) => {

@@ -12,6 +12,7 @@ use crate::timing::{
 use anyhow::{Result, bail};
 use lasso_log::log::bucket::SharedBucket;
 use lasso_log::log::{Log, NewLog, Opened, OpeningTexts, Pass, Spine};
+use lasso_log::shared_memory::piece::Piece;
 use lasso_parts::keys::{Key, Spur};
 use std::alloc::{AllocError, Global};
 use std::rt::Clock;
@@ -48,7 +49,9 @@ fn fill<R: AllocGlobal + Wait>(
         let Ok(cell) = log.reserve_next(rt.alloc(), &mut spine) else {
             bail!("no memory for a text");
         };
-        log.append_static(rt, &mut spine, &mut pass, cell, text);
+        if !log.append_now(&mut spine, &mut pass, cell, Piece::from_static(text)) {
+            bail!("a text has no cell");
+        }
     }
     Ok(())
 }

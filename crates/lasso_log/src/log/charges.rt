@@ -24,49 +24,15 @@ use crate::shared_memory::piece::Range;
 use lasso_parts::keys::Key;
 use lasso_parts::util::{LassoError, LassoErrorKind, LassoResult};
 use std::alloc::Global;
-use std::hint::spin_loop;
-use std::sync::Wait;
 
 impl<K: Key> Log<K> {
     /// Adds a bucket for `bytes` bytes, at least one, and returns the right to fill its first `bytes` bytes.
     /// None of the buckets that the spine's turns know has room for them. The bucket has the size that
     /// *store* gives. It is refused by the limit (`MemoryLimitReached`), at a step at which the list is as
     /// long as the spine's; or it fails out of memory (`FailedAllocation`), which it also returns for more
-    /// than 2^64 - 3 buckets. No event is added then. It waits if the turns are not the spine's, and does
-    /// not return if the turn word is 2^64 - 1. That the bucket is in the list from then on is tested, and
-    /// not proved.
-    pub fn charge<R: Wait>(
-        &self,
-        rt: &R,
-        alloc: Global,
-        list: &BucketList<K>,
-        spine: &mut Spine<K>,
-        pass: &mut Pass<K>,
-        bytes: u64,
-    ) -> LassoResult<Range>
-        requires of { (pass.old.of ≡ self.now) × (spine.old.of ≡ self.now) × (list.now ≡ names_with_book self.now) }
-        requires some { bytes ≢ 0 }
-        requires room { NoneHasRoom (state self.now.opening pass.old.notes) spine.old.turns.count bytes }
-        ensures same { IsSamePass pass.new pass.old × IsSameSpine spine.new spine.old × (spine.new.kept ≡ spine.old.kept) }
-        ensures event { IfOk result (λ r. AddsCharge spine.old.turns bytes pass.old pass.new) }
-        ensures range { IfOk result (λ r. (r.era ≡ era_named self.now.chunks) × (r.len ≡ bytes)) }
-        ensures bucket { IfOk result (λ r. NotesCharge spine.old.turns bytes pass.old pass.new (site_of r)) }
-        ensures turns { OnOk result ((spine.new.turns.notes ≡ pass.new.notes) × (spine.new.turns.count ≡ spine.old.turns.count + 1)) }
-        ensures refused { IfErr result (IsRefusal self.now spine.old.notes pass.old.notes pass.new.notes bytes) }
-        ensures err { OnErr result (Since pass.old.number pass.old.notes pass.new.notes [] × (spine.new ≡ spine.old)) }
-        ensures legal { IsLegal K.key_at self.now.opening (seen pass.new) }
-    {
-        for _ in rt.forever() {
-            if let Some(reply) = self.charge_now(alloc, list, spine, pass, bytes) {
-                return reply;
-            }
-            spin_loop();
-        }
-        unreachable!()
-    }
-
-    /// Adds a bucket as `charge` does, without waiting. It returns `None` if `charge` would wait; no event is added then,
-    /// and the spine stays as it is.
+    /// than 2^64 - 3 buckets. It returns `None` if the turns are not the spine's, if the turn word is 2^64 - 1,
+    /// or while another thread adds a bucket. In each of these cases no event is added, and the spine stays as
+    /// it is. That the bucket is in the list from then on is tested, and not proved. It does not wait.
     pub fn charge_now(
         &self,
         alloc: Global,

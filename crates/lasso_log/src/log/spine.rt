@@ -1,11 +1,10 @@
 //! The spine: the numbers of the list and of the turns, which one thread at a time has, and the cells that it keeps.
-ghost use Rattle.std.specs.Prelude.{◌≡◌, ◌+◌, ◌-◌, ◌^◌, ◌<◌, ◌∷◌, ◌++◌, [], length};
+ghost use Rattle.std.specs.Prelude.{◌≡◌, ◌+◌, ◌-◌, ◌^◌, ◌<◌, length};
 ghost use Rattle.std.specs.Prelude.{OnOk, OnErr, IfOk, IfErr, IfSome, IfNone, IsFalse, IsSome, IsTrue};
-ghost use mathlib.Core.List.{IsPrefix};
 ghost use Rattle.lasso_parts.specs.declared.util.LassoErrorKind.TheVariants.{FailedAllocation};
 ghost use Rattle.lasso_parts.specs.Texts.{Fits};
 ghost use Rattle.lasso_log.specs.History.{Append, MayFollow, IsLegal};
-ghost use Rattle.lasso_log.specs.Notes.{Since, state, history};
+ghost use Rattle.lasso_log.specs.Notes.{state, history};
 ghost use Rattle.lasso_log.specs.Views.{PassView, InternerId, SpineView, IsSamePass, IsSameSpine, IsAheadOf, IsAppended, TriesAppend, list_of, position_to_keep, seen};
 ghost use base.Fml.{Incl};
 ghost use Rattle.lasso_log.specs.Eras.{life};
@@ -19,13 +18,11 @@ use crate::log::rule::{LogRule, StoredText};
 use crate::log::shared_log::{Exchange, Log};
 use crate::log::ticket::CellProof;
 use crate::log::turns::Turns;
-use crate::shared_memory::piece::Piece;
 use lasso_parts::keys::Key;
 use lasso_parts::util::{LassoError, LassoErrorKind, LassoResult};
 use logbook::Seen;
 use std::alloc::Global;
 use std::marker::Model;
-use std::sync::Wait;
 
 /// The length of the list in a history that was seen, as the texts of the opening and those appended, and how many
 /// cells past it are kept for texts to come; and the turns. It is under a lock. Contracts see the cells kept, the interner, and what
@@ -159,71 +156,9 @@ impl<K: Key> Log<K> {
 
     /// Puts the text last, in a cell that was kept. The text must stay where it is as long as the interner's
     /// era. The list of the spine must lack it, and have a key for its length. The text's cell is filled
-    /// before the length moves. It waits if the length isn't the spine's, if the spine keeps no cell,
-    /// if the chunk of its position isn't made, and if the cell is filled.
-    pub fn append<R: Wait>(
-        &self,
-        rt: &R,
-        spine: &mut Spine<K>,
-        pass: &mut Pass<K>,
-        cell: KeptCell<K>,
-        text: StoredText,
-    )
-        requires of { (pass.old.of ≡ self.now) × (spine.old.of ≡ self.now) × (cell ≡ self.now) }
-        requires lasts { Incl (life (era_named self.now.chunks)) text.until }
-        requires may { MayFollow K.key_at (state self.now.opening spine.old.notes) (Append text.text) }
-        ensures same { IsSamePass pass.new pass.old × (spine.new.of ≡ spine.old.of) }
-        ensures kept { spine.new.kept + 1 ≡ spine.old.kept }
-        ensures event { Since pass.old.number pass.old.notes pass.new.notes (Append text.text ∷ []) }
-        ensures legal { IsLegal K.key_at self.now.opening (seen pass.new) }
-        ensures spine { spine.new.notes ≡ pass.new.notes }
-        ensures turns { spine.new.turns ≡ spine.old.turns }
-        ensures begins { IsPrefix spine.old.notes spine.new.notes }
-        ensures list { list_of self.now pass.new.notes ≡ list_of self.now spine.old.notes ++ text.text ∷ [] }
-    {
-        let position = spine.len();
-        let (chunk, item) = self.memory.chunks.fill(rt, position, text);
-        let text = self
-            .memory
-            .chunks
-            .value(position, &chunk, &item)
-            .text(self.memory.chunks.era());
-        for _ in rt.forever() {
-            let cell_proof = (chunk.again(), item.again());
-            if self.try_append(spine, pass, text, cell_proof) {
-                cell.end();
-                pass.prove_legal();
-                return;
-            }
-        }
-        unreachable!()
-    }
-
-    /// Puts a static text last, as `append` does a copied one. It lasts as long as any era, and is kept where it is.
-    pub fn append_static<R: Wait>(
-        &self,
-        rt: &R,
-        spine: &mut Spine<K>,
-        pass: &mut Pass<K>,
-        cell: KeptCell<K>,
-        text: &'static str,
-    )
-        requires of { (pass.old.of ≡ self.now) × (spine.old.of ≡ self.now) × (cell ≡ self.now) }
-        requires may { MayFollow K.key_at (state self.now.opening spine.old.notes) (Append text.now) }
-        ensures same { IsSamePass pass.new pass.old × (spine.new.of ≡ spine.old.of) }
-        ensures kept { spine.new.kept + 1 ≡ spine.old.kept }
-        ensures event { Since pass.old.number pass.old.notes pass.new.notes (Append text.now ∷ []) }
-        ensures legal { IsLegal K.key_at self.now.opening (seen pass.new) }
-        ensures spine { spine.new.notes ≡ pass.new.notes }
-        ensures turns { spine.new.turns ≡ spine.old.turns }
-        ensures begins { IsPrefix spine.old.notes spine.new.notes }
-        ensures list { list_of self.now pass.new.notes ≡ list_of self.now spine.old.notes ++ text.now ∷ [] }
-    {
-        self.append(rt, spine, pass, cell, Piece::from_static(text));
-    }
-
-    /// Puts the text last as `append` does, without waiting. If `append` would wait, it returns false, nothing is
-    /// appended, and the cell is given back. Either way the spine keeps one cell less.
+    /// before the length moves. It returns false, nothing is appended, and the cell is given back, if the length
+    /// isn't the spine's, if the spine keeps no cell, if the chunk of its position isn't made, and if the cell is
+    /// filled. Either way the spine keeps one cell less. It does not wait.
     pub fn append_now(
         &self,
         spine: &mut Spine<K>,
@@ -240,14 +175,16 @@ impl<K: Key> Log<K> {
         // On failure nothing is appended.
         ensures refused { IsFalse result → (pass.new ≡ pass.old) × IsSameSpine spine.new spine.old }
 
-        // Either way the spine keeps one cell less. The pass and the spine stay the same ones, and so do the turns.
+        // Either way the spine keeps one cell less. The pass and the spine stay the same ones, and so do the turns. The list is legal.
         ensures kept { spine.new.kept ≡ spine.old.kept - 1 }
         ensures same { IsSamePass pass.new pass.old × (spine.new.of ≡ spine.old.of) }
         ensures turns { spine.new.turns ≡ spine.old.turns }
+        ensures legal { IsLegal K.key_at self.now.opening (seen pass.new) }
     {
         let position = spine.len();
         let Ok((chunk, item)) = self.memory.chunks.try_fill(position, text) else {
             spine.give_back(cell);
+            pass.prove_legal();
             return false;
         };
         let text = self
@@ -257,9 +194,11 @@ impl<K: Key> Log<K> {
             .text(self.memory.chunks.era());
         if self.try_append(spine, pass, text, (chunk, item)) {
             cell.end();
+            pass.prove_legal();
             return true;
         }
         spine.give_back(cell);
+        pass.prove_legal();
         false
     }
 

@@ -15,7 +15,6 @@ use crate::log::shared_log::Log;
 use crate::log::spine::Spine;
 use crate::shared_memory::piece::Range;
 use lasso_parts::keys::Key;
-use std::hint::spin_loop;
 use std::sync::Wait;
 
 impl<K: Key> Log<K> {
@@ -28,38 +27,10 @@ impl<K: Key> Log<K> {
         both.learn(&bucket.seen);
     }
 
-    /// Takes bytes, at least one, in a bucket that the spine's turns know, and returns the right to fill
-    /// them. It returns `None` only if none of these buckets has room for them, and adds no event then. It
-    /// takes no memory. It waits while another thread takes bytes at the same time, and if a bucket is not
-    /// in the list yet.
-    pub fn reserve<R: Wait>(
-        &self,
-        rt: &R,
-        list: &BucketList<K>,
-        spine: &Spine<K>,
-        pass: &mut Pass<K>,
-        bytes: u64,
-    ) -> Option<Range>
-        requires of { (pass.old.of ≡ self.now) × (spine.now.of ≡ self.now) × (list.now ≡ names_with_book self.now) }
-        requires some { bytes ≢ 0 }
-        ensures same { IsSamePass pass.new pass.old }
-        ensures event { IfSome result (λ r. ReservesAmong self.now spine.now.turns.count pass.old pass.new r bytes) }
-        ensures range { IfSome result (λ r. (r.era ≡ era_named self.now.chunks) × (r.len ≡ bytes)) }
-        ensures none { IfNone result (Since pass.old.number pass.old.notes pass.new.notes []) }
-        ensures full { IfNone result (NoneHasRoom (state self.now.opening pass.new.notes) spine.now.turns.count bytes) }
-        ensures legal { IsLegal K.key_at self.now.opening (seen pass.new) }
-    {
-        for _ in rt.forever() {
-            if let Some(found) = self.reserve_now(list, spine, pass, bytes) {
-                return found;
-            }
-            spin_loop();
-        }
-        unreachable!()
-    }
-
-    /// Takes bytes as `reserve` does, without waiting, in the newest bucket that has room. It returns `None` if `reserve`
-    /// would wait, and an inner `None` if none of the buckets has room. No event is added in either case.
+    /// Takes bytes, at least one, in the newest bucket that has room of those that the spine's turns know, and
+    /// returns the right to fill them. It returns an inner `None` only if none of these buckets has room for them,
+    /// and `None` if another thread takes bytes at the same time, or if a bucket is not in the list yet. No event
+    /// is added in either case. It takes no memory and does not wait.
     pub fn reserve_now(
         &self,
         list: &BucketList<K>,

@@ -159,14 +159,14 @@ impl<K: Key, S: BuildHasher + Drop> Shards<K, S> {
         ensures call { IsPassCall K.key_at self.now.log pass.old pass.new (Intern Copied text.now) (Interned result) }
     {
         if ahead.guesses.leaves_out_next() {
-            return self.intern_copied(rt, pass, text);
+            return self.intern(rt, pass, NewText::Copied(text));
         }
         let guess = ahead.guesses.take();
         if let Some(key) = self.key_guessed(pass, &ahead.list, guess, text) {
             return Ok(key);
         }
         if guess.position.is_some() {
-            return self.intern_copied(rt, pass, text);
+            return self.intern(rt, pass, NewText::Copied(text));
         }
         self.intern_new(
             rt,

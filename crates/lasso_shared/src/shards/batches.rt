@@ -9,6 +9,7 @@ ghost use Rattle.lasso_log.specs.Views.{PassView, InternerId, IsSamePass};
 ghost use Rattle.lasso_shared.specs.PassCalls.{PassInterns, PassGets, PassStopsAt};
 
 use crate::shards::Shards;
+use crate::shards::new_text::NewText;
 use lasso_log::log::Pass;
 use lasso_parts::keys::Key;
 use lasso_parts::util::LassoResult;
@@ -95,7 +96,7 @@ impl<K: Key, S: BuildHasher + Drop> Shards<K, S> {
         ensures refused { IfErr result (λ error. PassStopsAt K.key_at self.now.log pass.old pass.new (map (λ t. t.now) texts.now) keys.old.items keys.new.items error) }
     {
         for i in 0..texts.len() {
-            let key = self.intern_copied(rt, pass, texts[i])?;
+            let key = self.intern(rt, pass, NewText::Copied(texts[i]))?;
             keys.push_reserved(key);
         }
         Ok(())

@@ -6,7 +6,7 @@
 //! to the end: so what was looked up stays. A text that is static or empty has no bytes to be stored.
 ghost use Rattle.std.specs.Prelude.{◌≡◌};
 ghost use Rattle.lasso_parts.specs.Hashing.{hash_by};
-ghost use Rattle.lasso_log.specs.Replies.{Copied, Static, Intern, Interned};
+ghost use Rattle.lasso_log.specs.Replies.{Interned};
 ghost use Rattle.lasso_log.specs.Calls.{IsPlainCall};
 ghost use Rattle.lasso_log.specs.Views.{PassView, InternerId, IsSamePass};
 ghost use Rattle.lasso_shared.specs.NewTexts.{text_of, intern_of};
@@ -71,67 +71,34 @@ impl<K: Key, S: BuildHasher + Drop> Shards<K, S> {
         reply
     }
 
-    /// Returns the text's key, and appends an absent text first. A new text may fail out of memory
-    /// (`FailedAllocation`), and else fails if the key type has no key for its position
-    /// (`KeySpaceExhaustion`); no event is added then.
-    pub fn intern_static<R: Wait>(
-        &self,
-        rt: &R,
-        pass: &mut Pass<K>,
-        text: &'static str,
-    ) -> LassoResult<K>
+    /// Returns the text's key, and appends an absent text first. A new text may fail out of memory (`FailedAllocation`); else a copied
+    /// one fails if the memory limit leaves no room for its bytes (`MemoryLimitReached`), or either if the key type has no key for its
+    /// position (`KeySpaceExhaustion`). In the last case the bytes of a copied one may stay taken; otherwise no event is added.
+    pub fn intern<R: Wait>(&self, rt: &R, pass: &mut Pass<K>, text: NewText<'_>) -> LassoResult<K>
         requires { pass.old.of ≡ self.now.log }
         ensures same { IsSamePass pass.new pass.old }
-        ensures call { IsPassCall K.key_at self.now.log pass.old pass.new (Intern Static text.now) (Interned result) }
+        ensures call { IsPassCall K.key_at self.now.log pass.old pass.new (intern_of text.entry) (Interned result) }
     {
-        let hash = hash_text(&self.hasher, text);
-        if let Some(key) = self.peek(rt, pass, hash, text) {
+        let letters = text.as_str();
+        let hash = hash_text(&self.hasher, letters);
+        if let Some(key) = self.peek(rt, pass, hash, letters) {
             return Ok(key);
         }
-        self.intern_new(rt, pass, hash, NewText::Static(text))
+        self.intern_new(rt, pass, hash, text)
     }
 
-    /// Interns a static text without a pass. A present one is found in the history that its shard has seen; for
-    /// an absent one a pass is made.
-    pub fn intern_static_once<R: Wait>(&self, rt: &R, text: &'static str) -> LassoResult<K>
-        ensures call { IsPlainCall K.key_at self.now.log.opening (Intern Static text.now) (Interned result) }
+    /// Interns a text without a pass. A present one is found in the history that its shard has seen; for an absent one a pass is
+    /// made.
+    pub fn intern_once<R: Wait>(&self, rt: &R, text: NewText<'_>) -> LassoResult<K>
+        ensures call { IsPlainCall K.key_at self.now.log.opening (intern_of text.entry) (Interned result) }
     {
-        let hash = hash_text(&self.hasher, text);
-        if let Some(key) = self.glance(rt, hash, text) {
+        let letters = text.as_str();
+        let hash = hash_text(&self.hasher, letters);
+        if let Some(key) = self.glance(rt, hash, letters) {
             return Ok(key);
         }
         let mut pass = self.log.pass();
-        let reply = self.intern_new(rt, &mut pass, hash, NewText::Static(text));
-        pass.prove_legal();
-        reply
-    }
-
-    /// Returns the text's key, and appends a copy of an absent text first. A new text may fail out of memory
-    /// (`FailedAllocation`); else it fails if the memory limit leaves no room for its bytes
-    /// (`MemoryLimitReached`), or if the key type has no key for its position (`KeySpaceExhaustion`). In
-    /// the last case its bytes may stay taken; otherwise no event is added.
-    pub fn intern_copied<R: Wait>(&self, rt: &R, pass: &mut Pass<K>, text: &str) -> LassoResult<K>
-        requires { pass.old.of ≡ self.now.log }
-        ensures same { IsSamePass pass.new pass.old }
-        ensures call { IsPassCall K.key_at self.now.log pass.old pass.new (Intern Copied text.now) (Interned result) }
-    {
-        let hash = hash_text(&self.hasher, text);
-        if let Some(key) = self.peek(rt, pass, hash, text) {
-            return Ok(key);
-        }
-        self.intern_new(rt, pass, hash, NewText::Copied(text))
-    }
-
-    /// Interns a copied text without a pass, as `intern_static_once` does a static one.
-    pub fn intern_copied_once<R: Wait>(&self, rt: &R, text: &str) -> LassoResult<K>
-        ensures call { IsPlainCall K.key_at self.now.log.opening (Intern Copied text.now) (Interned result) }
-    {
-        let hash = hash_text(&self.hasher, text);
-        if let Some(key) = self.glance(rt, hash, text) {
-            return Ok(key);
-        }
-        let mut pass = self.log.pass();
-        let reply = self.intern_new(rt, &mut pass, hash, NewText::Copied(text));
+        let reply = self.intern_new(rt, &mut pass, hash, text);
         pass.prove_legal();
         reply
     }

@@ -4,7 +4,7 @@ ghost use Rattle.lasso_shared.specs.NewTexts.{text_of};
 
 /// A text to intern.
 #[derive(Clone, Copy)]
-pub(super) enum NewText<'a> {
+pub enum NewText<'a> {
     /// It is kept where it is.
     Static(&'static str),
     /// Its bytes are copied into a bucket.
@@ -12,7 +12,8 @@ pub(super) enum NewText<'a> {
 }
 
 impl<'a> NewText<'a> {
-    // The text.
+    /// The text.
+    #[inline(always)]
     pub(super) fn as_str(self) -> &'a str
         ensures { result.now ≡ text_of self.entry }
     {

@@ -3,36 +3,28 @@
 //! Where a waiting call waits for a lock, these look a few times, and then return `None`. No text was appended then, and the
 //! caller may try again. A new text's shard and the spine are locked before its bytes are taken: so nobody is in the way from then
 //! on. That is not proved: the bytes may stay taken if a word moves while the spine is locked, as the contracts say.
-ghost use Rattle.std.specs.Prelude.{◌≡◌, ◌≢◌, ◌<◌, ◌-◌, [], List, Err, IfErr, IfOk, IfSome, IsNone, OnErr, OnOk};
-ghost use base.Fml.{Incl};
+ghost use Rattle.std.specs.Prelude.{◌≡◌, ◌<◌, [], IfSome, IsNone};
 ghost use mathlib.Core.List.{IsPrefix};
-ghost use Rattle.lasso_parts.specs.declared.util.LassoErrorKind.TheVariants.{FailedAllocation};
 ghost use Rattle.lasso_parts.specs.Hashing.{hash_by};
 ghost use Rattle.lasso_parts.specs.Index.{room};
 ghost use Rattle.lasso_parts.specs.Texts.{key_of};
-ghost use Rattle.lasso_log.specs.Calls.{Stores, TakesBytes};
-ghost use Rattle.lasso_log.specs.Charges.{IsRefusal};
-ghost use Rattle.lasso_log.specs.Chunks.{era_named};
-ghost use Rattle.lasso_log.specs.Eras.{life};
-ghost use Rattle.lasso_log.specs.History.{Event, Lacks};
+ghost use Rattle.lasso_log.specs.History.{Lacks};
 ghost use Rattle.lasso_log.specs.Notes.{Since};
-ghost use Rattle.lasso_log.specs.Pieces.{PieceView, RangeView};
 ghost use Rattle.lasso_log.specs.Replies.{Copied, Found, Get, Intern, Interned};
-ghost use Rattle.lasso_log.specs.Views.{PassView, InternerId, SnapshotView, SpineView, IsSamePass, IsSameSpine, list_of};
+ghost use Rattle.lasso_log.specs.Views.{PassView, InternerId, SnapshotView, SpineView, IsSamePass, list_of};
 ghost use Rattle.lasso_shared.specs.Locked.{IsLocked, IsWholeFor};
 ghost use Rattle.lasso_shared.specs.Now.{MayStore};
 ghost use Rattle.lasso_shared.specs.PassCalls.{IsPassCall};
-ghost use Rattle.lasso_shared.specs.Shards.{IsTally, PutsLast, shard_of};
+ghost use Rattle.lasso_shared.specs.Shards.{IsTally, shard_of};
 
 use crate::shards::Shards;
 use crate::shards::shard::{BoxedTally, Shard, Tally};
 use crate::shards::tag::number_of;
 use lasso_lock::locks::TaggedMutexGuard;
 use lasso_log::log::{KeptCell, Pass};
-use lasso_log::shared_memory::piece::{Piece, Range};
 use lasso_parts::index::hash_text;
 use lasso_parts::keys::Key;
-use lasso_parts::util::{LassoError, LassoErrorKind, LassoResult};
+use lasso_parts::util::LassoResult;
 use std::hash::BuildHasher;
 
 impl<K: Key, S: BuildHasher + Drop> Shards<K, S> {
@@ -116,119 +108,6 @@ impl<K: Key, S: BuildHasher + Drop> Shards<K, S> {
         self.get_locked_now(pass, hash, text)
     }
 
-    // Makes room for one text in the shard's index. Out of memory, the shard keeps its texts.
-    fn grow_index(&self, shard: &mut Shard<K, S>, pass: &Pass<K>, number: usize) -> LassoResult<()>
-        requires of { pass.now.of ≡ self.now.log }
-        requires held { IsLocked (hash_by S.BuildHasher S.Hasher.Hasher self.now.hasher) number self.now.log shard.old }
-        requires begins { IsPrefix shard.old.known.notes pass.now.notes }
-        ensures held { IsLocked (hash_by S.BuildHasher S.Hasher.Hasher self.now.hasher) number self.now.log shard.new }
-        ensures known { shard.new.known ≡ shard.old.known }
-        ensures room { OnOk result (0 < room shard.new.index.slots) }
-        ensures refused { IfErr result (λ error. error ≡ FailedAllocation) }
-    {
-        let seen_texts = self.log.seen_texts(pass);
-        shard.index.reserve_one(&seen_texts, &self.hasher)?;
-        Ok(())
-    }
-
-    // Takes `bytes` bytes, at least one, with the spine locked, as `reserve_or_charge` does.
-    fn reserve_or_charge_now(
-        &self,
-        tally: &mut Tally<K, S>,
-        pass: &mut Pass<K>,
-        bytes: u64,
-    ) -> Option<LassoResult<Range>>
-        requires of { (pass.old.of ≡ self.now.log) × (tally.old.spine.of ≡ self.now.log) }
-        requires some { bytes ≢ 0 }
-        ensures same { IsSamePass pass.new pass.old }
-        ensures tally { IsSameSpine tally.new.spine tally.old.spine × (tally.new.counts ≡ tally.old.counts) }
-        ensures event { IfSome result (λ r. OnOk r ((own : List Event) × TakesBytes bytes own × Since pass.old.number pass.old.notes pass.new.notes own)) }
-        ensures range { IfSome result (λ r. IfOk r (λ range. (range.era ≡ era_named self.now.log.chunks) × (range.len ≡ bytes))) }
-        ensures refused { IfSome result (λ r. IfErr r (IsRefusal self.now.log tally.old.spine.notes pass.old.notes pass.new.notes bytes)) }
-        ensures err { IfSome result (λ r. OnErr r (Since pass.old.number pass.old.notes pass.new.notes [])) }
-        ensures busy { IsNone result → Since pass.old.number pass.old.notes pass.new.notes [] }
-    {
-        if let Some(range) = self
-            .log
-            .reserve_now(&self.buckets, &tally.spine, pass, bytes)?
-        {
-            return Some(Ok(range));
-        }
-        self.log
-            .charge_now(self.alloc, &self.buckets, &mut tally.spine, pass, bytes)
-    }
-
-    // Copies a text that the list lacks into a bucket of the history, as `store` does. The spine is locked, and its list is the
-    // pass's.
-    fn store_now(
-        &self,
-        tally: &mut Tally<K, S>,
-        pass: &mut Pass<K>,
-        text: &str,
-    ) -> Option<LassoResult<Piece>>
-        requires of { (pass.old.of ≡ self.now.log) × (tally.old.spine.of ≡ self.now.log) }
-        requires list { list_of self.now.log pass.old.notes ≡ list_of self.now.log tally.old.spine.notes }
-        requires lacks { Lacks (list_of self.now.log pass.old.notes) text.now }
-        ensures same { IsSamePass pass.new pass.old }
-        ensures tally { IsSameSpine tally.new.spine tally.old.spine × (tally.new.counts ≡ tally.old.counts) }
-        ensures event { IfSome result (λ r. OnOk r ((own : List Event) × Stores Copied text.now own × Since pass.old.number pass.old.notes pass.new.notes own)) }
-        ensures piece { IfSome result (λ r. IfOk r (λ p. (p.text ≡ text.now) × Incl (life (era_named self.now.log.chunks)) p.until)) }
-        ensures refused { IfSome result (λ r. IfErr r (λ error. IsPassCall K.key_at self.now.log pass.old pass.new (Intern Copied text.now) (Interned (Err error)))) }
-        ensures busy { IsNone result → Since pass.old.number pass.old.notes pass.new.notes [] }
-    {
-        if text.is_empty() {
-            return Some(Ok(Piece::from_static("")));
-        }
-        let reply = self.reserve_or_charge_now(tally, pass, text.len() as u64)?;
-        let range = match reply {
-            Ok(range) => range,
-            Err(error) => return Some(Err(error)),
-        };
-        Some(Ok(range.fill(self.log.era(), text)))
-    }
-
-    // Appends the text as `append_at` does. Where that would wait, it returns `None`, and nothing is appended.
-    fn append_at_now(
-        &self,
-        tally: &mut Tally<K, S>,
-        shard: &mut Shard<K, S>,
-        pass: &mut Pass<K>,
-        cell: KeptCell<K>,
-        hash: u64,
-        text: Piece,
-    ) -> Option<LassoResult<K>>
-        requires of { (pass.old.of ≡ self.now.log) × (cell ≡ self.now.log) }
-        requires lasts { Incl (life (era_named self.now.log.chunks)) text.until }
-        requires hashed { hash ≡ hash_by S.BuildHasher S.Hasher.Hasher self.now.hasher text.text }
-        requires held { IsLocked (hash_by S.BuildHasher S.Hasher.Hasher self.now.hasher) (shard_of hash) self.now.log shard.old }
-        requires tally { IsTally (hash_by S.BuildHasher S.Hasher.Hasher self.now.hasher) self.now.log tally.old.spine tally.old.counts }
-        requires whole { IsWholeFor (hash_by S.BuildHasher S.Hasher.Hasher self.now.hasher) (shard_of hash) self.now.log shard.old pass.old }
-        requires list { list_of self.now.log pass.old.notes ≡ list_of self.now.log tally.old.spine.notes }
-        requires lacks { Lacks (list_of self.now.log shard.old.known.notes) text.text }
-        requires room { 0 < room shard.old.index.slots }
-        ensures same { IsSamePass pass.new pass.old }
-        ensures put { IfSome result (PutsLast K.key_at self.now.log pass.old.number pass.old.notes pass.new.notes text.text) }
-        ensures busy { IsNone result → pass.new ≡ pass.old }
-        ensures held { IsLocked (hash_by S.BuildHasher S.Hasher.Hasher self.now.hasher) (shard_of hash) self.now.log shard.new }
-        ensures tally { IsTally (hash_by S.BuildHasher S.Hasher.Hasher self.now.hasher) self.now.log tally.new.spine tally.new.counts }
-    {
-        pass.prove_legal();
-        let Some(key) = K::try_from_usize(tally.spine.len() as usize) else {
-            tally.spine.give_back(cell);
-            return Some(Err(LassoError::new(LassoErrorKind::KeySpaceExhaustion)));
-        };
-        if !self.log.append_now(&mut tally.spine, pass, cell, text) {
-            return None;
-        }
-        // The length of the longer list fits in 64 bits, so the shard's count, which is not above it, can't overflow.
-        let _len = tally.spine.len();
-        shard.index.insert_reserved(hash, key);
-        shard.known = pass.snapshot();
-        shard.count += 1;
-        tally.counts[number_of(hash)] = shard.count;
-        Some(Ok(key))
-    }
-
     // Stores the bytes of a text that the shard lacks, and puts the text last in the cell that was kept for it. The shard is
     // locked, and so is the spine.
     fn store_and_append_now(
@@ -265,11 +144,7 @@ impl<K: Key, S: BuildHasher + Drop> Shards<K, S> {
                 return Some(Err(error));
             }
         };
-        if !self.is_current(tally, shard, pass, number_of(hash)) {
-            tally.spine.give_back(cell);
-            return None;
-        }
-        self.append_at_now(tally, shard, pass, cell, hash, piece)
+        self.append_current_now(tally, shard, pass, cell, hash, piece)
     }
 
     // Interns a text that the shard lacks. The shard is locked, and so is the spine.
@@ -370,7 +245,7 @@ impl<K: Key, S: BuildHasher + Drop> Shards<K, S> {
         Some(found)
     }
 
-    /// Returns the text's key, and appends a copy of an absent text first, as `intern_copied` does. If it returns `None`, no text was
+    /// Returns the text's key, and appends a copy of an absent text first, as `intern` does. If it returns `None`, no text was
     /// appended; the bytes of an absent one may stay taken.
     pub fn intern_now(&self, pass: &mut Pass<K>, text: &str) -> Option<LassoResult<K>>
         requires of { pass.old.of ≡ self.now.log }

@@ -7,101 +7,32 @@
 //! Who waits for the spine may hold a shard, so one that holds the spine must not wait for a shard. It tries to lock it
 //! a few times, and else ends the hold. So it does before an index grows or cells are made, which takes long. The next
 //! text is then interned as if alone.
-ghost use Rattle.std.specs.Prelude.{◌≡◌, ◌≢◌, ◌+◌, ◌-◌, ◌<◌, ◌≤◌, [], List, length, map, Err, IfOk, IfErr, IfSome, IsNone, OnErr, vec_len};
+ghost use Rattle.std.specs.Prelude.{◌≡◌, ◌+◌, ◌-◌, ◌<◌, ◌≤◌, [], length, map, IfOk, IfErr, IfSome, IsNone, vec_len};
 ghost use Rattle.std.specs.Vec.{vec_capacity};
-ghost use base.Fml.{Incl};
-ghost use mathlib.Core.List.{IsPrefix};
 ghost use Rattle.lasso_parts.specs.Hashing.{hash_by};
 ghost use Rattle.lasso_parts.specs.Index.{room};
-ghost use Rattle.lasso_log.specs.Calls.{Stores};
-ghost use Rattle.lasso_log.specs.Chunks.{era_named};
-ghost use Rattle.lasso_log.specs.Eras.{life};
-ghost use Rattle.lasso_log.specs.History.{Event, Lacks};
+ghost use Rattle.lasso_log.specs.History.{Lacks};
 ghost use Rattle.lasso_log.specs.Notes.{Since};
-ghost use Rattle.lasso_log.specs.Pieces.{PieceView};
 ghost use Rattle.lasso_log.specs.Replies.{Copied, Intern, Interned};
-ghost use Rattle.lasso_log.specs.Views.{PassView, InternerId, SnapshotView, SpineView, IsSamePass, IsSameSpine, list_of};
+ghost use Rattle.lasso_log.specs.Views.{PassView, InternerId, SnapshotView, SpineView, IsSamePass, list_of};
 ghost use Rattle.lasso_shared.specs.Locked.{IsLocked, IsWholeFor};
 ghost use Rattle.lasso_shared.specs.PassCalls.{IsPassCall, InternsFurther, StopsFurther};
-ghost use Rattle.lasso_shared.specs.Shards.{IsTally, PutsLast, shard_of};
+ghost use Rattle.lasso_shared.specs.Shards.{IsTally, shard_of};
 
 use crate::shards::Shards;
 use crate::shards::ahead::Ahead;
+use crate::shards::put::or_wait;
 use crate::shards::shard::{Shard, Tally};
 use crate::shards::tag::number_of;
-use lasso_log::log::{KeptCell, Pass};
-use lasso_log::shared_memory::piece::Piece;
+use lasso_log::log::Pass;
 use lasso_parts::index::hash_text;
 use lasso_parts::keys::Key;
 use lasso_parts::util::LassoResult;
 use std::alloc::Allocator;
 use std::hash::BuildHasher;
-use std::hint::spin_loop;
 use std::sync::Wait;
 
 impl<K: Key, S: BuildHasher + Drop> Shards<K, S> {
-    // Copies a text that the list lacks into a bucket of the history, as `store` does. The spine is locked, and its list is the
-    // pass's.
-    fn store_held<R: Wait>(
-        &self,
-        rt: &R,
-        tally: &mut Tally<K, S>,
-        pass: &mut Pass<K>,
-        text: &str,
-    ) -> LassoResult<Piece>
-        requires of { (pass.old.of ≡ self.now.log) × (tally.old.spine.of ≡ self.now.log) }
-        requires list { list_of self.now.log pass.old.notes ≡ list_of self.now.log tally.old.spine.notes }
-        requires lacks { Lacks (list_of self.now.log pass.old.notes) text.now }
-        ensures same { IsSamePass pass.new pass.old }
-        ensures tally { IsSameSpine tally.new.spine tally.old.spine × (tally.new.counts ≡ tally.old.counts) }
-        ensures event { IfOk result (λ p. (own : List Event) × Stores Copied text.now own × Since pass.old.number pass.old.notes pass.new.notes own) }
-        ensures piece { IfOk result (λ p. (p.text ≡ text.now) × Incl (life (era_named self.now.log.chunks)) p.until) }
-        ensures refused { IfErr result (λ error. IsPassCall K.key_at self.now.log pass.old pass.new (Intern Copied text.now) (Interned (Err error))) }
-    {
-        if text.is_empty() {
-            return Ok(Piece::from_static(""));
-        }
-        let range = match self.reserve_or_charge(rt, tally, pass, text.len() as u64) {
-            Ok(range) => range,
-            Err(error) => return Err(error),
-        };
-        Ok(range.fill(self.log.era(), text))
-    }
-
-    // Appends the text, once the shard is whole for what the pass has then seen. It tries again if the list is not the
-    // spine's, which can't happen while each caller locks the spine.
-    fn append_current<R: Wait>(
-        &self,
-        rt: &R,
-        tally: &mut Tally<K, S>,
-        shard: &mut Shard<K, S>,
-        pass: &mut Pass<K>,
-        cell: KeptCell<K>,
-        hash: u64,
-        text: Piece,
-    ) -> LassoResult<K>
-        requires of { (pass.old.of ≡ self.now.log) × (cell ≡ self.now.log) }
-        requires lasts { Incl (life (era_named self.now.log.chunks)) text.until }
-        requires hashed { hash ≡ hash_by S.BuildHasher S.Hasher.Hasher self.now.hasher text.text }
-        requires held { IsLocked (hash_by S.BuildHasher S.Hasher.Hasher self.now.hasher) (shard_of hash) self.now.log shard.old }
-        requires tally { IsTally (hash_by S.BuildHasher S.Hasher.Hasher self.now.hasher) self.now.log tally.old.spine tally.old.counts }
-        requires begins { IsPrefix shard.old.known.notes pass.old.notes }
-        requires lacks { Lacks (list_of self.now.log shard.old.known.notes) text.text }
-        requires room { 0 < room shard.old.index.slots }
-        ensures same { IsSamePass pass.new pass.old }
-        ensures put { PutsLast K.key_at self.now.log pass.old.number pass.old.notes pass.new.notes text.text result }
-        ensures held { IsLocked (hash_by S.BuildHasher S.Hasher.Hasher self.now.hasher) (shard_of hash) self.now.log shard.new }
-        ensures tally { IsTally (hash_by S.BuildHasher S.Hasher.Hasher self.now.hasher) self.now.log tally.new.spine tally.new.counts }
-    {
-        for _ in rt.forever() {
-            if self.is_current(tally, shard, pass, number_of(hash)) {
-                return self.append_at(rt, tally, shard, pass, cell, hash, text);
-            }
-            spin_loop();
-        }
-        unreachable!()
-    }
-
     // Interns a text that the shard lacks. The shard is locked, and so is the spine, whose list is the pass's.
     fn put_held<R: Wait>(
         &self,
@@ -136,7 +67,10 @@ impl<K: Key, S: BuildHasher + Drop> Shards<K, S> {
                 return Err(error);
             }
         };
-        self.append_current(rt, tally, shard, pass, cell, hash, piece)
+        or_wait(
+            rt,
+            self.append_current_now(tally, shard, pass, cell, hash, piece),
+        )
     }
 
     // Interns a text whose shard the caller has locked. The spine is locked too. It returns `None`, with no event, if the

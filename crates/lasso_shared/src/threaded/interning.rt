@@ -7,6 +7,7 @@ ghost use Rattle.lasso_log.specs.Views.{PassView, InternerId, IsSamePass, seen};
 ghost use Rattle.lasso_shared.specs.CallerLaws.{HasKey};
 ghost use Rattle.lasso_shared.specs.PassCalls.{IsPassCall};
 
+use crate::shards::new_text::NewText;
 use crate::threaded::ThreadedRodeo;
 use lasso_log::log::Pass;
 use lasso_parts::keys::Key;
@@ -48,7 +49,7 @@ impl<K: Key, S: BuildHasher + Drop> ThreadedRodeo<K, S> {
         ensures opening { IsOpening K.key_at self.now.opening }
         ensures legal { IsLegal K.key_at self.now.opening (seen pass.new) }
     {
-        let reply = self.shards.intern_copied(rt, pass, text);
+        let reply = self.shards.intern(rt, pass, NewText::Copied(text));
         pass.prove_legal();
         reply
     }
@@ -86,7 +87,7 @@ impl<K: Key, S: BuildHasher + Drop> ThreadedRodeo<K, S> {
         ensures opening { IsOpening K.key_at self.now.opening }
         ensures legal { IsLegal K.key_at self.now.opening (seen pass.new) }
     {
-        let reply = self.shards.intern_static(rt, pass, text);
+        let reply = self.shards.intern(rt, pass, NewText::Static(text));
         pass.prove_legal();
         reply
     }

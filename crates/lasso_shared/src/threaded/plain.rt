@@ -10,6 +10,7 @@ ghost use Rattle.lasso_log.specs.Replies as replies;
 ghost use Rattle.lasso_log.specs.Calls.{IsPlainCall};
 ghost use Rattle.lasso_log.specs.Views.{InternerId};
 
+use crate::shards::new_text::NewText;
 use crate::threaded::{Iter, Strings, ThreadedRodeo};
 use lasso_parts::keys::Key;
 use lasso_parts::util::{LassoResult, MemoryLimits};
@@ -40,7 +41,7 @@ impl<K: Key, S: BuildHasher + Drop> ThreadedRodeo<K, S> {
         ensures opening { IsOpening K.key_at self.now.opening }
     {
         self.prove_opening();
-        self.shards.intern_copied_once(rt, text)
+        self.shards.intern_once(rt, NewText::Copied(text))
     }
 
     /// Returns the text's key, and appends a copy of an absent text first: `try_get_or_intern` by another name.
@@ -76,7 +77,7 @@ impl<K: Key, S: BuildHasher + Drop> ThreadedRodeo<K, S> {
         ensures opening { IsOpening K.key_at self.now.opening }
     {
         self.prove_opening();
-        self.shards.intern_static_once(rt, text)
+        self.shards.intern_once(rt, NewText::Static(text))
     }
 
     /// Returns the text's key, and appends an absent text first, without a copy: `try_get_or_intern_static` by

@@ -3,9 +3,11 @@
 use crate::checks::{is_so, is_so_at};
 use crate::shards::{is_seen, opened};
 use lasso_log::log::{Log, Opened, Pass};
+use lasso_log::shared_memory::piece::Piece;
 use lasso_parts::keys::Spur;
 use lasso_parts::util::{LassoError, LassoErrorKind, LassoResult};
 use lasso_shared::shards::Shards;
+use lasso_shared::shards::new_text::NewText;
 use std::alloc::Global;
 use std::sync::atomic::{AtomicU64, Ordering};
 use std::test::*;
@@ -58,8 +60,8 @@ fn finds(
     text: &'static str,
 ) -> LassoResult<bool> {
     let is_found = shards.get(rt, pass, text).is_some();
-    let is_kept = shards.intern_static(rt, pass, text).is_ok();
-    let is_copied = shards.intern_copied(rt, pass, text).is_ok();
+    let is_kept = shards.intern(rt, pass, NewText::Static(text)).is_ok();
+    let is_copied = shards.intern(rt, pass, NewText::Copied(text)).is_ok();
     let texts = [text; 70];
     let (mut found, mut keys) = (Vec::new(rt.alloc()), Vec::new(rt.alloc()));
     shards.get_all(rt, pass, &texts, &mut found)?;
@@ -91,7 +93,7 @@ fn know(
     match way {
         Way::One => {
             hint(rt.alloc(), pass)?;
-            shards.intern_static(rt, pass, text)?;
+            shards.intern(rt, pass, NewText::Static(text))?;
             let _found = shards.get(rt, pass, text);
         }
         // the second list meets the text, which is then looked up as often as it takes for hints that find nothing
@@ -103,7 +105,7 @@ fn know(
             shards.get_all(rt, pass, &vec![in rt.alloc(); text; ROUND]?, &mut found)?;
         }
         Way::Other => {
-            shards.intern_static(rt, &mut shards.log.pass(), text)?;
+            shards.intern(rt, &mut shards.log.pass(), NewText::Static(text))?;
         }
     }
     Ok(())
@@ -285,7 +287,8 @@ fn hints_tell_the_texts_that_they_were_kept_of(rt: HostRuntime) -> Result<(), Fa
     let mut pass = log.pass();
     for text in TEXTS.iter() {
         let cell = log.reserve_next(rt.alloc(), &mut spine)?;
-        log.append_static(&rt, &mut spine, &mut pass, cell, *text);
+        let is_last = log.append_now(&mut spine, &mut pass, cell, Piece::from_static(*text));
+        is_so(&rt, is_last, text);
     }
     let mut asked = Asked { log: &log, pass };
     // without a table nothing is kept

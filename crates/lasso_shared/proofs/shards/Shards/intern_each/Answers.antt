@@ -16,8 +16,8 @@ loop-i-preserved g c =
     let o = c.args.self.now.log.opening in
     let told = c.in_ok-key.ensures in
     let key = c.in_ok-key.key in
-    let more = interned_push g.K.Key.key_at o c.args.pass.now c.loop-i.pass c.intern_copied.new.pass _ _ key c.args.keys.now.items c.loop-i.keys.items c.push_reserved.new.self.items c.loop-i.invariant.interned told.same told.call c.push_reserved.ensures.items in record {
-      interned = subst (λ (ts : List Text). InternedSo g.K.Key.key_at o c.args.pass.now c.intern_copied.new.pass ts c.args.keys.now.items c.push_reserved.new.self.items) (sym (texts_more c.args.texts.now c.loop-i.i _ c.loop-i-test.true)) more;
+    let more = interned_push g.K.Key.key_at o c.args.pass.now c.loop-i.pass c.intern.new.pass _ _ key c.args.keys.now.items c.loop-i.keys.items c.push_reserved.new.self.items c.loop-i.invariant.interned told.same told.call c.push_reserved.ensures.items in record {
+      interned = subst (λ (ts : List Text). InternedSo g.K.Key.key_at o c.args.pass.now c.intern.new.pass ts c.args.keys.now.items c.push_reserved.new.self.items) (sym (texts_more c.args.texts.now c.loop-i.i _ c.loop-i-test.true)) more;
       room = omega (arith, c.loop-i.invariant.room, c.push_reserved.ensures.len, c.push_reserved.ensures.capacity, c.loop-i-test.true);
     }
 
@@ -26,4 +26,4 @@ returns-in_err-key-clause-refused g c =
     let o = c.args.self.now.log.opening in
     let error = c.in_err-key.field-0.0 in
     let p = err_from_is_err_and c.from_residual.result c.from_residual.ensures.1 in
-    rw (p.1, p.2) (stopped_at g.K.Key.key_at o c.args.pass.now c.loop-i.pass c.intern_copied.new.pass _ _ _ _ error c.args.keys.now.items c.loop-i.keys.items (texts_split c.args.texts.now c.loop-i.i _ c.loop-i-test.true) c.loop-i.invariant.interned c.in_err-key.ensures.call)
+    rw (p.1, p.2) (stopped_at g.K.Key.key_at o c.args.pass.now c.loop-i.pass c.intern.new.pass _ _ _ _ error c.args.keys.now.items c.loop-i.keys.items (texts_split c.args.texts.now c.loop-i.i _ c.loop-i-test.true) c.loop-i.invariant.interned c.in_err-key.ensures.call)

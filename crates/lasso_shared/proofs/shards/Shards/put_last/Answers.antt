@@ -11,10 +11,12 @@ returns-in-Some-reserve_ahead-clause-put g c =
     let w = c.lock_current-guard.ensures in
     let log = c.args.self.now.log in
     let mid = c.lock_current-guard.new.pass.notes in
-    let after = c.append_at-reply.new.pass.notes in
+    let after = c.append_at_now.new.pass.notes in
+    let r = c.or_wait-reply.result in
+    let tried = rw c.or_wait-reply.ensures at c.append_at_now.ensures.put in
     let same : c.lock_current-guard.new.pass.number ≡ p = w.same.0 ∙ i.2.0 in
-    let put : PutsLast g.K.Key.key_at log p mid after c.args.text.text c.append_at-reply.result = subst (λ (n : ℕ). PutsLast g.K.Key.key_at log n mid after c.args.text.text c.append_at-reply.result) same c.append_at-reply.ensures.put in
-    puts_later g.K.Key.key_at log p c.args.pass.now.notes mid after c.args.text.text c.append_at-reply.result
+    let put : PutsLast g.K.Key.key_at log p mid after c.args.text.text r = subst (λ (n : ℕ). PutsLast g.K.Key.key_at log n mid after c.args.text.text r) same tried in
+    puts_later g.K.Key.key_at log p c.args.pass.now.notes mid after c.args.text.text r
     (since_both p c.loop.pass.number c.args.pass.now.notes c.loop.pass.notes mid i.2.0 i.3 w.since) put
 
 pub loop-preserved : goal.loop-preserved

@@ -1,13 +1,9 @@
-use Rattle.std.proofs.Common.{◌≡◌, ◌≢◌, List, [], length, ap, sym, arith, ◌∙◌}
+use Rattle.std.proofs.Common.{◌≡◌, ◌≢◌, [], length, ap, sym, arith, ◌∙◌}
 use mathlib.Core.List.{ne-nil_of_mem}
-use Rattle.std.specs.Prelude.{Err, Result}
 use Rattle.std.proofs.lemmas.Bool.Decides.{nat_tests}
 use Rattle.lasso_parts.specs.Texts.{Text}
-use Rattle.lasso_parts.specs.declared.util.LassoErrorKind.{LassoErrorKind}
-use Rattle.lasso_log.specs.Pieces.{RangeView}
-use Rattle.lasso_log.specs.Views.{list_of}
 use Rattle.lasso_shared.proofs.Now.{stores_some}
-use Rattle.lasso_shared.proofs.Stored.{called_refused, is_none, stores_none}
+use Rattle.lasso_shared.proofs.Stored.{is_none, stores_none}
 use Rattle.lasso_shared.proofs.Whole.{since_self}
 use Rattle.lasso_shared.proofs.shards.Shards.store_now.Goals as goal
 
@@ -22,6 +18,11 @@ returns-then-is_empty-clause-piece g c =
     let lasting = c.from_static.ensures in
     (lasting.text ∙ sym (is_none c.args.text.now zero), λ a mem. absurd (ne-nil_of_mem mem lasting.until))
 
+pub returns-then-is_empty-clause-lies : goal.returns-then-is_empty-clause-lies
+returns-then-is_empty-clause-lies g c =
+    let zero : length c.args.text.now ≡ 0 = grind (arith, nat_tests, c.if-is_empty.true, c.is_empty.ensures) in
+    λ some. absurd (some (is_none c.args.text.now zero))
+
 pub returns-clause-event : goal.returns-clause-event
 returns-clause-event g c =
     let some : c.args.text.now ≢ [] = λ none. let zero : length c.args.text.now ≡ 0 = ap (λ (t : Text). length t) none in grind (arith, nat_tests, c.if-is_empty.false, c.is_empty.ensures, zero) in
@@ -31,9 +32,7 @@ returns-clause-event g c =
 pub returns-in-Err-clause-refused : goal.returns-in-Err-clause-refused
 returns-in-Err-clause-refused g c =
     let some : c.args.text.now ≢ [] = λ none. let zero : length c.args.text.now ≡ 0 = ap (λ (t : Text). length t) none in grind (arith, nat_tests, c.if-is_empty.false, c.is_empty.ensures, zero) in
-    let log = c.args.self.now.log in
-    let p = c.args.pass.now.number in
-    let notes = c.args.pass.now.notes in
-    let long = ap (λ (ts : List Text). length ts) c.requires.list in
-    let r : Result RangeView LassoErrorKind = Err c.in-Err.error in
-    called_refused g.K.Key.key_at log p notes notes c.reserve_or_charge_now.new.pass.notes c.args.text.now (length (list_of log c.args.tally.now.spine.notes)) r some (since_self p notes) c.requires.lacks long (rw c.in-Err.is at c.in_ok-reply.ensures.refused) (rw c.in-Err.is at c.in_ok-reply.ensures.err)
+    (some, rw c.in-Err.is at c.in_ok-reply.ensures.refused)
+
+pub returns-in-Err-clause-err : goal.returns-in-Err-clause-err
+returns-in-Err-clause-err g c = rw c.in-Err.is at c.in_ok-reply.ensures.err

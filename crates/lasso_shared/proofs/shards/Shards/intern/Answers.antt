@@ -1,15 +1,16 @@
 use Rattle.std.proofs.Common.{ℕ, subst}
-use Rattle.lasso_log.specs.Replies.{Static, Intern, Interned}
+use Rattle.lasso_log.specs.Replies.{Interned}
 use Rattle.lasso_log.specs.Calls.{IsCall}
 use Rattle.lasso_log.specs.Views.{seen}
+use Rattle.lasso_shared.specs.NewTexts.{intern_of}
 use Rattle.lasso_shared.proofs.Called.{called_later}
-use Rattle.lasso_shared.proofs.shards.Shards.intern_static.Goals as goal
+use Rattle.lasso_shared.proofs.shards.Shards.intern.Goals as goal
 
 pub returns-clause-call : goal.returns-clause-call
 returns-clause-call g c =
     let p = c.args.pass.now.number in
     let o = c.args.self.now.log.opening in
-    let q = Intern Static c.args.text.now in
+    let q = intern_of c.args.text in
     let after = seen c.intern_new.new.pass in
     let r = c.intern_new.result in
     let call : IsCall g.K.Key.key_at o (seen c.peek.new.pass) after p q (Interned r) =
