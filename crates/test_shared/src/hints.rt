@@ -1,6 +1,7 @@
 //! Hints of a pass: which calls keep and follow them, how many a table keeps, and that no other call loses one.
 use crate::checks::{is_so, is_so_at};
 use lasso_log::log::{Log, Opened, Pass, Spine};
+use lasso_log::shared_memory::piece::Piece;
 use lasso_parts::index::hash_text;
 use lasso_parts::keys::Spur;
 use lasso_parts::util::{FixedState, LassoResult};
@@ -121,7 +122,8 @@ fn log_of(rt: &impl Host, count: usize) -> Result<(Log<Spur>, Spine<Spur>), Fail
     let mut pass = log.pass();
     for text in items_of(rt.alloc(), Numbers(0, count))?.iter() {
         let cell = log.reserve_next(rt.alloc(), &mut spine)?;
-        log.append_static(rt, &mut spine, &mut pass, cell, *text);
+        let is_last = log.append_now(&mut spine, &mut pass, cell, Piece::from_static(*text));
+        is_so(rt, is_last, *text);
     }
     Ok((log, spine))
 }
@@ -280,7 +282,8 @@ fn act(
         Act::Lists => drop(log.seen_list(pass)),
         Act::Appends => {
             let cell = log.reserve_next(rt.alloc(), spine)?;
-            log.append_static(rt, spine, pass, cell, "new");
+            let is_last = log.append_now(spine, pass, cell, Piece::from_static("new"));
+            is_so(rt, is_last, "new");
         }
         Act::Limits => log.set_limit(rt, spine, pass, 5000),
     }
