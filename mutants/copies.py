@@ -8,6 +8,7 @@ import tempfile
 from dataclasses import dataclass
 
 from edits import HERE, Edit, Unfit, of_heir, places, proof_files
+from holes import with_holes
 from common import copy_sources, listed_files, module_in, read, write
 
 
@@ -142,10 +143,15 @@ def put(path, text):
         os.rmdir(os.path.dirname(path))
 
 
-@contextlib.contextmanager
-def applied(edits, folder):
-    """The crate's files with the mutants, and afterwards as they were."""
+def applied(edits, folder, functions=()):
+    """The crate's files with the mutants, and afterwards as they were. If functions are named, the others have holes."""
     texts = texts_with(edits, folder)
+    return changed(with_holes(folder, functions, texts) if functions else texts, folder)
+
+
+@contextlib.contextmanager
+def changed(texts, folder):
+    """The files in the folder with their second texts, and afterwards with their first."""
     for file, (_, text) in texts.items():
         put(os.path.join(folder, file), text)
     try:

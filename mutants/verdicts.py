@@ -7,12 +7,14 @@ import signal
 import tempfile
 
 from edits import Unfit, files_with_tests, made, places
-from copies import Outcome, Result, applied, end_of, tell
+from copies import Outcome, Result, applied, changed, end_of, tell
+from switches import texts_with_switches
 from common import COUNTS, ran, read, write
 
 VERDICT = re.compile(r"^fn (\S+): (.*)$", re.MULTILINE)
 PROOF_ERROR = re.compile(r"^\./proofs/(\S+)/(?:Answers|Proof)\.antt:\d+:\d+: error: ", re.MULTILINE)
-CALLS = re.compile(r"(?:no proof: |not proved; )(?:it calls|it passes the block) ")
+CALLS = re.compile(r"(?:no proof: |not proved; )(?:it calls|it passes the block|the borrow checker's part in its proof is not made yet: a call of) ")
+PROVED = ("proved", "no holes", "depends on a hole in ")
 BY_HAND = "not proved; the borrow checker does not cover"
 JUDGED = re.compile(r"^(?:only=|logic=not-proved)", re.MULTILINE)
 ENDED = re.compile(r"^checked (\S+), \d+ of \d+$", re.MULTILINE)
@@ -25,6 +27,8 @@ TEST_SECONDS, ENDLESS_SECONDS = 600, 40
 # What rt says of a test; and below a failed one, after what that wrote, why.
 RAN = re.compile(r"^test (\S+) \.\.\. (ok|FAILED)$", re.MULTILINE)
 WHY = re.compile(r"^\s*checked: (.*)$", re.MULTILINE)
+# How many mutants are built at once, and what the name of a test that runs without one ends in.
+MOST_AT_ONCE, AS_IT_IS = 12, "_as_it_is"
 # What says nothing of a mutant, though rt and cases/run call it failed: it took too long, or memory was short and the system killed it.
 LATE, KILLED = "had not ended in time", "was killed"
 SAID_OF_KILLED = "signal 9 (SIGKILL)"
@@ -51,9 +55,9 @@ def next_round(edits, most):
 
 
 def check(folder, functions=(), seconds=None):
-    """How `rt check` ends of the crate, or of these functions alone, what it says of each function, and all it says. The status is None if it is not done in time."""
+    """How `rt check` ends of the crate, or of these functions alone past holes, what it says of each function, and all it says. The status is None if it is not done in time."""
     jobs = os.environ.get("RT_JOBS")
-    words = ["rt", "check", *(["--jobs", jobs] if jobs else [])]
+    words = ["rt", "check", *(["--jobs", jobs] if jobs else []), *(["--allow-holes"] if functions else [])]
     words += [word for function in functions for word in ("--only", function)]
     status, said = ran(words, seconds, cwd=folder)
     return status, dict(VERDICT.findall(said)), said
@@ -62,7 +66,7 @@ def check(folder, functions=(), seconds=None):
 def outcome(edit, verdicts, said):
     """What came of a mutant that names a function, by what rt said of that; None if rt did not judge it."""
     verdict = verdicts.get(edit.function, "")
-    if verdict.startswith("proved"):
+    if verdict.startswith(PROVED):
         return Outcome.LET_THROUGH
     if not verdict.startswith(("no proof: ", "not proved")):
         return None
@@ -80,8 +84,9 @@ def lines_of(edit, folder):
 
 def try_round(edits, folder, seconds):
     """Of each mutant of the round what came of it."""
-    with applied(edits, folder):
-        status, verdicts, said = check(folder, [edit.function for edit in edits if edit.function], seconds)
+    functions = [edit.function for edit in edits if edit.function]
+    with applied(edits, folder, functions):
+        status, verdicts, said = check(folder, functions, seconds)
     if status is None:
         ended = ENDED.findall(said)
         raise Unjudged("rt was not done in time with this round", edits, [edit for edit in edits if edit.function not in ended], said)
@@ -124,9 +129,12 @@ def test_as_it_is(crate, edits, folder, proved):
     if not functions or "" in proved:
         return
     print(f"{crate}: proving it as it is, before {len(edits)} mutants", flush=True)
-    status, verdicts, said = check(folder, () if "" in functions else sorted(functions))
-    absent = sorted(function for function in functions if function and function not in verdicts)
-    if status != 0 or absent:
+    named = sorted(functions - {""})
+    whole = "" in functions
+    with applied([], folder, () if whole else named):
+        status, verdicts, said = check(folder, () if whole else named)
+    absent = [function for function in named if not verdicts.get(function, "").startswith(PROVED)]
+    if whole and status != 0 or absent:
         raise Unfit(f"{crate} is not proved as it is, or has no function {', '.join(absent)}:\n{end_of(said)}")
     proved |= functions
 
@@ -151,20 +159,18 @@ def try_proofs(crate, edits, folder, rule, is_proved=False, keep=lambda results:
     return results
 
 
-@contextlib.contextmanager
-def alone(copy, crate, names):
-    """The test crate with the tests of these names as its only ones, so that no other is run; and afterwards as it was."""
+def alone(copy, crate, names, more=""):
+    """The test crate with the tests of these names as its only ones, so that no other is run, and each once more if there are letters for its name then;
+    and afterwards as it was."""
     functions = "|".join(re.escape(name.rsplit("::", 1)[-1]) for name in names)
     others = re.compile(rf"^(?:///? .*\n)*#\[test\]\n(?:#.*\n)*fn (?!(?:{functions})\b)(?:.*\n)*?}}\n", re.MULTILINE)
-    before = {}
+    own = re.compile(r"^(#\[test\]\n(?:#.*\n)*fn \w+)((?:.*\n)*?}\n)", re.MULTILINE)
+    texts = {}
     for file in files_with_tests(copy, crate):
-        before[file] = read(file)
-        write(file, others.sub("", before[file]))
-    try:
-        yield
-    finally:
-        for file, text in before.items():
-            write(file, text)
+        text = read(file)
+        left = others.sub("", text)
+        texts[file] = (text, own.sub(rf"\g<0>\n\g<1>{more}\g<2>", left) if more else left)
+    return changed(texts, copy)
 
 
 def test_results(copy, crate, seconds=TEST_SECONDS):
@@ -198,17 +204,53 @@ def try_tests(edit, copy, as_it_is):
     """Whether each test that the mutant names passes without it, unless `as_it_is` is None, and fails with it."""
     folder = os.path.join(copy, "crates", edit.crate)
     for crate in dict.fromkeys(crate for crate, _ in edit.tests):
-        names = [name for other, name in edit.tests if other == crate]
         if as_it_is is not None and crate not in as_it_is:
             as_it_is[crate] = test_results(copy, crate)
-        with applied([edit], folder), alone(copy, crate, names):
+        with applied([edit], folder), alone(copy, crate, [name for other, name in edit.tests if other == crate]):
             with_edit = test_results(copy, crate, TEST_SECONDS if edit.ends else ENDLESS_SECONDS)
-        for name in names:
-            if as_it_is is not None and as_it_is[crate].get(name) != "ok" or name not in with_edit:
-                raise Unfit(f"{edit.crate}/{edit.name}: the test {name} of {crate} does not pass as it is, or did not run with the mutant")
-            if with_edit[name] == "ok":
-                return Outcome.LET_THROUGH
-            refuse_late(edit, name, with_edit[name])
+        if outcome_of_tests(edit, crate, as_it_is and as_it_is[crate], with_edit) is Outcome.LET_THROUGH:
+            return Outcome.LET_THROUGH
+    return Outcome.BY_A_TEST
+
+
+def together(edits):
+    """The mutants that tests refuse, in parts that one build has: those of one crate, with other tests of one other."""
+    parts = []
+    for edit in edits:
+        kind = (edit.crate, edit.ends, {crate for crate, _ in edit.tests})
+        for part in parts:
+            if part[0] == kind and len(part) <= MOST_AT_ONCE and not any(test in other.tests for other in part[1:] for test in edit.tests):
+                part.append(edit)
+                break
+        else:
+            parts += [[kind, edit]] if len(kind[2]) == 1 else []
+    return [part[1:] for part in parts]
+
+
+def try_together(edits, copy):
+    """Tells what came of each of these mutants in one build, where that says so: each of its tests fails with it, and passes in a process without one."""
+    crate, names = edits[0].tests[0][0], [name for edit in edits for _, name in edit.tests]
+    try:
+        with changed(texts_with_switches(edits, copy), copy), alone(copy, crate, names, AS_IT_IS):
+            ended = test_results(copy, crate, TEST_SECONDS if edits[0].ends else ENDLESS_SECONDS)
+    except Unfit as fault:
+        print(fault, flush=True)
+        return []
+    results = []
+    for edit in edits:
+        with contextlib.suppress(Unfit):
+            results += tell_run(edit, outcome_of_tests(edit, crate, {name: ended.get(name + AS_IT_IS) for name in names}, ended))
+    return results
+
+
+def outcome_of_tests(edit, crate, as_it_is, with_edit):
+    """Whether each test that the mutant names of the crate passes without it, unless that is None, and fails with it."""
+    for name in [name for other, name in edit.tests if other == crate]:
+        if as_it_is is not None and as_it_is.get(name) != "ok" or name not in with_edit:
+            raise Unfit(f"{edit.crate}/{edit.name}: the test {name} of {crate} does not pass as it is, or did not run with the mutant")
+        if with_edit[name] == "ok":
+            return Outcome.LET_THROUGH
+        refuse_late(edit, name, with_edit[name])
     return Outcome.BY_A_TEST
 
 
@@ -278,18 +320,29 @@ def try_cases(edit, copy, built, room):
     return Outcome.BY_A_TEST
 
 
+def tell_run(edit, result):
+    """Tells what its tests or its cases say of a mutant."""
+    named = [f"test {name} of {crate}" for crate, name in edit.tests] or [f"case {name} of {program}" for program, name in edit.cases]
+    return tell([Result(edit, result, ", ".join(named))])
+
+
 def try_runs(edits, copy, as_it_is=True, keep=lambda results: None):
-    """What its test or its case says of each of these mutants, which goes to `keep`. They are first tried without it, if `as_it_is` says so."""
+    """What its test or its case says of each of these mutants, which goes to `keep`. If `as_it_is` says so, those that one build does not judge are
+    first tried without it."""
     results = []
+    for part in together(edits):
+        came = try_together(part, copy)
+        keep(came)
+        results += came
+    left = [edit for edit in edits if edit not in [result.edit for result in results]]
     tests, built = ({}, {}) if as_it_is else (None, None)
     with tempfile.TemporaryDirectory() as room:
-        for edit in edits:
+        for edit in left:
             try:
                 result = try_tests(edit, copy, tests) if edit.tests else try_cases(edit, copy, built, room)
             except Unfit as fault:
                 print(fault, flush=True)
                 result = Outcome.NOT_TRIED
-            named = [f"test {name} of {crate}" for crate, name in edit.tests] or [f"case {name} of {program}" for program, name in edit.cases]
-            results += tell([Result(edit, result, ", ".join(named))])
+            results += tell_run(edit, result)
             keep(results[-1:])
     return results
