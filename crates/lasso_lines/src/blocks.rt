@@ -7,6 +7,7 @@
 ghost use Rattle.std.specs.Prelude.{◌≡◌, ◌+◌, ◌-◌, ◌≤◌, ◌++◌, ◌∷◌, [], List, OnOk, IfErr, length, map, vec_len};
 ghost use Rattle.std.specs.Vec.{vec_capacity};
 ghost use Rattle.lasso_parts.specs.Texts.{Text};
+ghost use Rattle.lasso_parts.specs.declared.util.LassoErrorKind.TheVariants.{FailedAllocation};
 ghost use Rattle.lasso_log.specs.Views.{PassView, InternerId, list_of, seen};
 ghost use Rattle.lasso_lines.specs.Blocks.{AreTaken, IsRefusedAt};
 
@@ -63,9 +64,9 @@ impl<'a> Block<'a> {
         ensures refused { (lines : List Text) → AreTaken (list_of rodeo.now pass.old.notes) lines self.old.codes.items (map (λ t. t.now) self.old.waiting.items)
             → IfErr result (IsRefusedAt rodeo.now.opening (seen pass.new) (lines ++ line.now ∷ [])) }
     {
-        if self.waiting.push(line).is_err() {
-            return Err((self.codes.len(), LassoError::new(LassoErrorKind::FailedAllocation)));
-        }
+        let Ok(()) = self.waiting.push(line) else {
+            return Err((self.codes.len(), no_memory()));
+        };
         if self.waiting.len() < self.size {
             return Ok(());
         }
@@ -83,16 +84,16 @@ impl<'a> Block<'a> {
         ensures of { pass.new.of ≡ rodeo.now }
         ensures none { OnOk result (self.new.waiting.items ≡ []) }
         ensures taken { (lines : List Text) → AreTaken (list_of rodeo.now pass.old.notes) lines self.old.codes.items (map (λ t. t.now) self.old.waiting.items)
-            → OnOk result (AreTaken (list_of rodeo.now pass.new.notes) lines self.new.codes.items []) }
+            → OnOk result (AreTaken (list_of rodeo.now pass.new.notes) lines self.new.codes.items (map (λ t. t.now) self.new.waiting.items)) }
         ensures refused { (lines : List Text) → AreTaken (list_of rodeo.now pass.old.notes) lines self.old.codes.items (map (λ t. t.now) self.old.waiting.items)
             → IfErr result (IsRefusedAt rodeo.now.opening (seen pass.new) lines) }
     {
         if self.waiting.is_empty() {
             return Ok(());
         }
-        if self.codes.reserve(self.waiting.len()).is_err() {
-            return Err((self.codes.len(), LassoError::new(LassoErrorKind::FailedAllocation)));
-        }
+        let Ok(()) = self.codes.reserve(self.waiting.len()) else {
+            return Err((self.codes.len(), no_memory()));
+        };
         self.keys.clear();
         let reply = rodeo.try_get_or_intern_all_as(rt, pass, &self.waiting, &mut self.keys);
         add_positions(&self.keys, &mut self.codes);
@@ -114,4 +115,10 @@ fn add_positions(keys: &[Spur], codes: &mut Vec<u32>)
     for key in keys {
         codes.push_reserved(key.into_position());
     }
+}
+
+fn no_memory() -> LassoError
+    ensures { result ≡ FailedAllocation }
+{
+    LassoError::new(LassoErrorKind::FailedAllocation)
 }

@@ -155,13 +155,34 @@ fn intern_share<R: AllocGlobal + Wait, G: Gate>(
     ensures { IsShareOf rodeo.now (lines_of lines.now) worker workers result.known result.codes }
 {
     let mut pass = rodeo.pass_with_hints(rt.alloc());
-    let codes = match intern_by(rt, rodeo, &mut pass, lines, worker, workers, gate) {
-        Ok(codes) => Ok(codes),
-        Err((before, error)) => Err((number_of(rt, worker, workers, before), error)),
-    };
+    let codes = intern_by(rt, rodeo, &mut pass, lines, worker, workers, gate);
     Share {
         known: pass.snapshot(),
         codes,
+    }
+}
+
+// Interns the worker's lines, and returns the positions of their texts. Stops at the first refused line and returns its
+// error.
+fn intern_by<R: AllocGlobal + Wait, G: Gate>(
+    rt: &R,
+    rodeo: &SpurThreadedRodeo,
+    pass: &mut Pass<Spur>,
+    lines: &Stretch<'_>,
+    worker: usize,
+    workers: usize,
+    gate: &G,
+) -> Result<Vec<u32>, NumberedError>
+    requires some { 0 < workers }
+    requires texts { AreTexts (lines_of lines.now) }
+    requires of { pass.old.of ≡ rodeo.now }
+    ensures of { pass.new.of ≡ rodeo.now }
+    ensures refused { IfErr result (IsRefusedBy rodeo.now.opening (seen pass.new) (lines_of lines.now) worker workers) }
+    ensures codes { IfOk result (λ codes. HasCodes (list_of rodeo.now pass.new.notes) (lines_of lines.now) worker workers codes.items) }
+{
+    match intern_in_blocks(rt, rodeo, pass, lines, worker, workers, gate) {
+        Ok(codes) => Ok(codes),
+        Err((before, error)) => Err((number_of(rt, worker, workers, before), error)),
     }
 }
 
@@ -179,9 +200,8 @@ fn number_of<R: Wait>(rt: &R, worker: usize, workers: usize, before: usize) -> u
 }
 
 // Interns the worker's lines: those at the positions `worker`, `worker + workers`, `worker + 2 * workers` and so
-// on. It skips the lines between them in the input, so no list of lines is kept. Returns the positions of their
-// texts. Stops at the first refused line.
-fn intern_by<R: AllocGlobal + Wait, G: Gate>(
+// on. It skips the lines between them in the input, so no list of lines is kept. Otherwise as `intern_by`.
+fn intern_in_blocks<R: AllocGlobal + Wait, G: Gate>(
     rt: &R,
     rodeo: &SpurThreadedRodeo,
     pass: &mut Pass<Spur>,

@@ -25,6 +25,6 @@ loop-key-preserved c =
       room = omega (arith, c.loop-key.invariant.room, c.push_reserved.ensures.len, c.push_reserved.ensures.capacity, c.loop-key-test.true);
     }
 
-pub returns-clause : goal.returns-clause
-returns-clause c =
+pub returns : goal.returns
+returns c =
     c.loop-key.invariant.put ∙ ap (λ (ks : List ℕ). c.args.codes.now.items ++ map (λ k. k - 1) ks) (take_all c.loop-key.key-index c.args.keys.now (omega (arith, c.loop-key-test.false)))

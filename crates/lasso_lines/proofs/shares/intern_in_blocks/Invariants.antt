@@ -2,7 +2,7 @@ use Rattle.std.proofs.Common.{◌≡◌, length, map}
 use Rattle.lasso_input.specs.Lines.{lines_of}
 use Rattle.lasso_log.specs.Views.{list_of}
 use Rattle.lasso_lines.proofs.Turns.{Worked}
-use Rattle.lasso_lines.proofs.shares.intern_by.Given as goal
+use Rattle.lasso_lines.proofs.shares.intern_in_blocks.Given as goal
 
 -- of the worker's lines before those that are left, some wait, and those before them have their codes in the list that
 -- the pass has seen
