@@ -3,7 +3,7 @@
 -- The lines that were interned have their codes in the list that the pass has seen. That list only grows, so these
 -- codes stay, and those of the first lines that wait go after them: the positions of the keys that a batch adds. If it
 -- stops, the next line is the one that was refused, and all lines before it have codes, and so are in the list.
-use Rattle.std.proofs.Common.{ℕ, ◌≡◌, ◌+◌, ◌-◌, ◌<◌, ◌≤◌, ◌⊎◌, inl, inr, List, [], ◌∷◌, ◌++◌, length, map, take, drop, Some, Ok, Err, refl, sym, ap, subst, ◌∙◌, append_assoc, length-append, length-take, arith}
+use Rattle.std.proofs.Common.{ℕ, ◌≡◌, ◌-◌, ◌<◌, ◌≤◌, ◌⊎◌, inl, inr, List, [], ◌∷◌, ◌++◌, length, map, take, drop, Some, Ok, refl, sym, ap, subst, ◌∙◌, append_assoc, length-append, length-take, arith}
 use Rattle.std.specs.Prelude.{Contains}
 use Rattle.std.proofs.Math.Seq.{drop-append_seam, get_or-append_seam}
 use Rattle.std.proofs.lemmas.List.{drop_all, get_or_append_left, length-map, take-append-drop}

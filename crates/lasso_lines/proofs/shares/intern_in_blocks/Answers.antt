@@ -1,4 +1,4 @@
-use Rattle.std.proofs.Common.{ℕ, ◌≡◌, ◌-◌, ◌+◌, ◌*◌, ◌++◌, ◌∷◌, [], List, Bor, map, ap, sym, subst, arith}
+use Rattle.std.proofs.Common.{ℕ, ◌-◌, ◌++◌, ◌∷◌, [], List, Bor, map, sym, subst, arith}
 use Rattle.std.proofs.lemmas.Result.{err_from_is_err_and}
 use Rattle.lasso_parts.specs.Texts.{Text}
 use Rattle.lasso_input.specs.Lines.{lines_of}
@@ -83,7 +83,7 @@ returns-clause-codes g c =
 -- the refused line is the worker's next one, or waited before it
 pub returns-in_err-take-clause-refused : goal.returns-in_err-take-clause-refused
 returns-in_err-take-clause-refused g c =
-    let p = err_from_is_err_and c.from_residual-in_err-take.result c.from_residual-in_err-take.ensures.1 in
+    let p = err_from_is_err_and c.from_residual.result c.from_residual.ensures.1 in
     let of = c.args.rodeo.now in
     let before = list_of of c.loop-line.pass.notes in
     let past = seen c.take.new.pass in
