@@ -22,3 +22,4 @@ pub mod Turns
 pub mod Refusals
 pub mod Lowest
 pub mod Explaining
+pub mod Taken
