@@ -1,6 +1,6 @@
 //! Frozen forms of an interner that threads share, and whether readers and resolvers have a list of texts; and copies of
 //! its list.
-use crate::checks::{Look, Origin, Shown, freezes_as, is_so, runs_in, shows_as};
+use crate::checks::{Look, Origin, Shown, bytes_of, freezes_as, is_so, runs_in, shows_as};
 use Look::{Copies, Does};
 use Step::{Counts, Extends, Finds, Interns, IsLimited, Limits, Takes, Uses};
 use lasso_parts::iter::Strings;
@@ -11,6 +11,7 @@ use lasso_single::reader::RodeoReader;
 use lasso_single::resolver::RodeoResolver;
 use lasso_single::rodeo::Rodeo;
 use std::alloc::Global;
+use std::fmt::Debug;
 use std::hash::BuildHasher;
 use std::test::*;
 use std::thread::join;
@@ -183,6 +184,23 @@ fn resolves_just<K: Key>(resolver: &RodeoResolver<K, Global>, texts: &[&str]) ->
         && yields(resolver.strings(), texts)
 }
 
+// Whether the debug text of the frozen form tells of one bucket of the bytes of the texts, or of 4096 if they have none, and
+// of no limit.
+fn has_one_bucket<T: Debug>(alloc: Global, form: &T, texts: &[&str]) -> LassoResult<bool> {
+    let bytes = match bytes_of(texts) {
+        0 => 4096,
+        bytes => bytes,
+    };
+    let arena = format!(in alloc;
+        "{{ buckets: ... 1 bucket, bucket_capacity: {bytes}, memory_usage: {bytes}, max_memory_usage: 18446744073709551615 }}"
+    )?;
+    Ok(
+        format!(in alloc; "{form:?}")?
+            .as_str()
+            .contains(arena.as_str()),
+    )
+}
+
 /// How an interner is frozen.
 #[derive(Clone, Copy)]
 pub(super) enum Frozen {
@@ -194,7 +212,7 @@ pub(super) enum Frozen {
 /// Each of them.
 pub(super) static FROZEN: [Frozen; 3] = [Frozen::Reader, Frozen::ReaderByPass, Frozen::Resolver];
 
-/// Freezes the interner. Returns whether it then has exactly these texts. `absent` is not one of them.
+/// Freezes the interner. Returns whether it then has exactly these texts, in one bucket. `absent` is not one of them.
 pub(super) fn is_frozen<K: Key, S: BuildHasher + Drop>(
     rt: &impl Host,
     shared: ThreadedRodeo<K, S>,
@@ -202,13 +220,21 @@ pub(super) fn is_frozen<K: Key, S: BuildHasher + Drop>(
     texts: &[&str],
     absent: &str,
 ) -> LassoResult<bool> {
+    let alloc = rt.alloc();
     match frozen {
-        Frozen::Reader => Ok(reads_just(&shared.into_reader(rt)?, texts, absent)),
+        Frozen::Reader => {
+            let reader = shared.into_reader(rt)?;
+            Ok(reads_just(&reader, texts, absent) && has_one_bucket(alloc, &reader, texts)?)
+        }
         Frozen::ReaderByPass => {
             let mut pass = shared.pass();
-            Ok(reads_just(&shared.into_reader_as(rt, &mut pass)?, texts, absent))
+            let reader = shared.into_reader_as(rt, &mut pass)?;
+            Ok(reads_just(&reader, texts, absent) && has_one_bucket(alloc, &reader, texts)?)
         }
-        Frozen::Resolver => Ok(resolves_just(&shared.into_resolver(rt)?, texts)),
+        Frozen::Resolver => {
+            let resolver = shared.into_resolver(rt)?;
+            Ok(resolves_just(&resolver, texts) && has_one_bucket(alloc, &resolver, texts)?)
+        }
     }
 }
 

@@ -1,6 +1,7 @@
 //! Runs of commands, with replies worked out by hand.
 use crate::interners::{
-    Host, LIMIT, MEMORY, Small, holds, interner, is_so, is_so_at, key_at, number_of, of_texts,
+    Host, LIMIT, MEMORY, Small, SpurReader, SpurResolver, holds, interner, is_so, is_so_at, key_at,
+    number_of, of_texts,
 };
 use lasso_parts::hasher::TextState;
 use lasso_parts::json::{JsonError, JsonKey, read_map, write_array, write_map};
@@ -338,5 +339,32 @@ fn debug_text_on_lines_has_no_seed(rt: HostRuntime) -> Result<(), Fail> {
         is_pretty(alloc, &resolver, "RodeoResolver", "}")?,
         "a resolver",
     );
+    Ok(())
+}
+
+// JSON arrays, the texts that are read from each, and how many bytes they have, or 4096 without texts.
+static READ: [(&str, &str, usize); 2] = [
+    ("[]", "[]", 4096),
+    (r#"["red","blue"]"#, r#"["red", "blue"]"#, 7),
+];
+
+// A frozen form that is read has one bucket of just the bytes of its texts, and no limit.
+#[test]
+fn debug_text_of_frozen_forms_that_are_read(rt: HostRuntime) -> Result<(), Fail> {
+    for (json, texts, bytes) in &READ {
+        let value = Value::from_str(rt.alloc(), json)?;
+        let parts = format!(in rt.alloc();
+            "strings: {texts}, arena: Arena {{ buckets: ... 1 bucket, bucket_capacity: {bytes}, memory_usage: {bytes}, max_memory_usage: 18446744073709551615 }}"
+        )?;
+        let parts = parts.as_str();
+        let reader = SpurReader::deserialize(rt.alloc(), &value)?;
+        let wanted = format!(in rt.alloc(); "RodeoReader {{ {parts}, .. }}")?;
+        let printed = format!(in rt.alloc(); "{reader:?}")?;
+        is_so(&rt, printed.as_str() == wanted.as_str(), "a reader");
+        let resolver = SpurResolver::deserialize(rt.alloc(), &value)?;
+        let wanted = format!(in rt.alloc(); "RodeoResolver {{ {parts} }}")?;
+        let printed = format!(in rt.alloc(); "{resolver:?}")?;
+        is_so(&rt, printed.as_str() == wanted.as_str(), "a resolver");
+    }
     Ok(())
 }
