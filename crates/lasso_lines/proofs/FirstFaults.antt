@@ -3,7 +3,7 @@
 -- The search goes on after a line that is UTF-8, with the next number. So if all lines before a line are
 -- UTF-8 and it is not, it is the first such line; and if the search reaches the end, there is none. A line
 -- that is reached is one of the lines, so its number is at most the number of lines.
-use Rattle.std.proofs.Common.{ℕ, ◌≡◌, ◌+◌, inl, inr, cond, List, ◌∷◌, Bool, true, false, Option, Some, None, Result, Ok, Err, ap, sym, subst, refl, arith}
+use Rattle.std.proofs.Common.{ℕ, ◌≡◌, ◌+◌, ◌≤◌, ◌⊎◌, inl, inr, cond, List, ◌∷◌, ◌++◌, length, Bool, true, false, Option, Some, None, Result, Ok, Err, ap, sym, subst, ◌∙◌, refl, arith, length-append}
 use Rattle.std.specs.Prelude.{IfErr, OnOk}
 use Rattle.std.specs.Str.{IsUtf8, is_utf8}
 use Rattle.std.proofs.lemmas.Str.{IsUtf8-from_is_utf8, is_utf8-from_IsUtf8}

@@ -22,4 +22,3 @@ pub mod Turns
 pub mod Refusals
 pub mod Lowest
 pub mod Explaining
-pub mod Taken

@@ -12,13 +12,10 @@ use Rattle.lasso_log.specs.Replies.{Question, Reply, Strings, Listed}
 use Rattle.lasso_log.proofs.Legal.{totals_append, list_grows, list_kept}
 use Rattle.lasso_single.specs.Coding.{spur_at}
 
--- the list before is a beginning of the list after
-pub seen_grows : (o : Totals) (before after : History) → IsPrefix before after → IsPrefix (totals o before).texts (totals o after).texts
-seen_grows o before after begins =
-    subst (λ (s : Totals). IsPrefix (totals o before).texts s.texts) (sym (totals_append o before begins.0) ∙ ap (totals o) begins.1) (list_grows (totals o before) begins.0)
-
+-- the list before a call is a beginning of the list after it
 pub call_grows : (o : Totals) (before after : History) (pass : ℕ) (question : Question) (reply : Reply ℕ) → IsCall {K = ℕ} spur_at o before after pass question reply → IsPrefix (totals o before).texts (totals o after).texts
-call_grows o before after pass question reply call = seen_grows o before after (call.past, call.begins)
+call_grows o before after pass question reply call =
+    subst (λ (s : Totals). IsPrefix (totals o before).texts s.texts) (sym (totals_append o before call.past) ∙ ap (totals o) call.begins) (list_grows (totals o before) call.past)
 
 -- a walk gives the whole list
 pub walk_listed : (o : Totals) (before after : History) (pass : ℕ) (texts : List Text) → IsCall {K = ℕ} spur_at o before after pass Strings (Listed (Ok texts)) → texts ≡ (totals o after).texts

@@ -3,12 +3,11 @@
 -- Each of a worker's lines is one of the lines. The line at position i belongs to worker i modulo the
 -- number of workers, and is there at position i divided by it. So the shares of all workers have all lines.
 -- The list that a pass sees only grows, so the codes that the workers returned are codes in one list.
-use Rattle.std.proofs.Common.{ℕ, zero, suc, ◌≡◌, ◌+◌, ◌*◌, ◌/◌, ◌%◌, ◌<◌, ◌≤◌, List, [], ◌∷◌, ◌++◌, length, Vec, Result, Ok, Err, refl, sym, ap, subst, ◌∙◌, arith, length-append, add-one, mul-le-mul_right, div-add-mod', ◌⊎◌, inl, inr}
+use Rattle.std.proofs.Common.{ℕ, zero, suc, ◌≡◌, ◌+◌, ◌*◌, ◌/◌, ◌%◌, ◌<◌, ◌≤◌, List, [], ◌∷◌, ◌++◌, length, Vec, Result, Ok, Err, refl, sym, ap, subst, ◌∙◌, arith, add-one, mul-le-mul_right, div-add-mod', ◌⊎◌, inl, inr}
 use Rattle.std.specs.Prelude.{Contains, MatchResult}
 use Rattle.std.proofs.lemmas.Bool.{cases_lt}
 use Rattle.std.proofs.lemmas.Nat.{mod_below}
-use Rattle.std.proofs.lemmas.List.{get_or_default, get_or_append_left}
-use Rattle.std.proofs.Math.Seq.{get_or-append_seam}
+use Rattle.std.proofs.lemmas.List.{get_or_default}
 use Rattle.std.proofs.lemmas.List.Elements.{Contains-get_or, Contains-append_left, Contains-append_right, Contains-push, Contains-push_cases, Contains-append_cases}
 use Rattle.lasso_parts.specs.Texts.{Text, position_of}
 use Rattle.lasso_single.specs.Codes.{AreCodes}
@@ -37,24 +36,6 @@ share_more lines worker workers n j small (inr last) has =
 pub share_has : (lines : List Text) (worker workers count j : ℕ) → j < count → Contains (share lines worker workers count) (line_at lines (worker + j * workers))
 share_has lines worker workers zero j small = absurd (omega arith)
 share_has lines worker workers (suc n) j small = share_more lines worker workers n j small (cases_lt j n) (λ before. share_has lines worker workers n j before)
-
--- how many lines it has
-pub share_length : (lines : List Text) (worker workers count : ℕ) → length (share lines worker workers count) ≡ count
-share_length lines worker workers zero = refl
-share_length lines worker workers (suc n) = omega (arith, share_length lines worker workers n, length-append (share lines worker workers n) (line_at lines (worker + n * workers) ∷ []))
-
-at_more : (lines : List Text) (worker workers m n : ℕ) → n < suc m → ((n < m) ⊎ (m ≤ n)) → (n < m → line_at (share lines worker workers m) n ≡ line_at lines (worker + n * workers)) → line_at (share lines worker workers (suc m)) n ≡ line_at lines (worker + n * workers)
-at_more lines worker workers m n small (inl before) earlier =
-    get_or_append_left (share lines worker workers m) (line_at lines (worker + m * workers) ∷ []) [] n (omega (arith, share_length lines worker workers m)) ∙ earlier before
-at_more lines worker workers m n small (inr last) earlier =
-    let is : n ≡ m = omega arith in
-    let long : n ≡ length (share lines worker workers m) = omega (arith, share_length lines worker workers m) in
-    ap (line_at (share lines worker workers (suc m))) long ∙ get_or-append_seam (share lines worker workers m) (line_at lines (worker + m * workers)) [] [] ∙ ap (λ k. line_at lines (worker + k * workers)) (sym is)
-
--- and which lines these are
-pub share_at : (lines : List Text) (worker workers count n : ℕ) → n < count → line_at (share lines worker workers count) n ≡ line_at lines (worker + n * workers)
-share_at lines worker workers zero n small = absurd (omega arith)
-share_at lines worker workers (suc m) n small = at_more lines worker workers m n small (cases_lt n m) (λ before. share_at lines worker workers m n before)
 
 below_count : (lines : List Text) (worker workers count j : ℕ) → IsShare lines worker workers count → worker + j * workers < length lines → ((j < count) ⊎ (count ≤ j)) → j < count
 below_count lines worker workers count j is small (inl below) = below

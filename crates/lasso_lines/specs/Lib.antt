@@ -7,7 +7,6 @@ pub mod Stretch
 pub mod Fronts
 pub mod Ordered
 pub mod Shares
-pub mod Blocks
 pub mod LineFaults
 pub mod Explained
 pub mod Help

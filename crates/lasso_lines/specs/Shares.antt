@@ -90,3 +90,7 @@ IsShareOf of lines worker workers known outcome =
 -- the codes are the positions of the lines' texts in the list, in some order
 abbrev pub AreCodesOf : List Text → List Text → List ℕ → Type 0
 AreCodesOf list lines codes = (texts : List Text) × AreSameTexts texts lines × AreCodes list texts codes
+
+-- codes of some texts in the list before are, afterwards, codes of these texts and then this one
+abbrev pub AddsCode : List Text → List ℕ → List Text → List ℕ → Text → Type 0
+AddsCode before codes after codes' text = (texts : List Text) → AreCodes before texts codes → AreCodes after (texts ++ text ∷ []) codes'

@@ -5,12 +5,12 @@
 
 mod answers;
 pub mod arguments;
-mod blocks;
 mod cutting;
 pub mod engine;
 mod expected;
 pub mod fault;
 pub mod help;
+mod in_turn;
 mod ordered;
 pub mod program;
 mod shares;

@@ -1,24 +1,25 @@
 //! Gives each worker its lines, and joins what the workers return.
-ghost use Rattle.std.specs.Prelude.{◌≡◌, ◌<◌, ◌+◌, ◌*◌, ◌++◌, IfOk, IfErr, IsSomeAnd, MatchResult, None};
+ghost use Rattle.std.specs.Prelude.{◌≡◌, ◌<◌, ◌+◌, ◌++◌, ◌∷◌, [], OnOk, IfOk, IfErr, IsSomeAnd, MatchResult, None, vec_len};
+ghost use mathlib.Core.List.{IsPrefix};
 ghost use Rattle.lasso_input.specs.Lines.{lines_of};
 ghost use Rattle.lasso_single.specs.Coding.{spur_at};
 ghost use Rattle.lasso_log.specs.History.{IsLegal};
 ghost use Rattle.lasso_log.specs.Views.{PassView, InternerId, IsSamePass, list_of, seen};
 ghost use Rattle.lasso_lines.specs.LineFaults.{AreTexts};
-ghost use Rattle.lasso_lines.specs.Shares.{AreCodesOf, HasCodes, IsLower, IsRefusalOf, IsRefusedBy, IsShareOf};
+ghost use Rattle.lasso_lines.specs.Shares.{AddsCode, AreCodesOf, HasCodes, IsLower, IsRefusalIn, IsRefusalOf, IsRefusedBy, IsShareOf};
 ghost use Rattle.lasso_lines.specs.declared.fault.RunFault.TheVariants.{Refused};
 ghost use Rattle.lasso_parts.specs.declared.util.LassoErrorKind.TheVariants.{FailedAllocation};
 
-use crate::blocks::{Block, RefusedLine};
 use crate::fault::RunFault;
+use crate::in_turn::Turns;
 use crate::stretches::{later_number, next_number};
 use crate::workers::Gate;
 use lasso_input::Stretch;
 use lasso_log::log::{Pass, Snapshot};
 use lasso_parts::keys::Spur;
-use lasso_parts::util::LassoError;
+use lasso_parts::util::{LassoError, LassoErrorKind};
 use lasso_shared::threaded::SpurThreadedRodeo;
-use std::sync::Wait;
+use std::sync::{Mutex, Wait};
 use std::thread::{Threads, map_indices};
 
 // A refused line: its number, counted from 1, and the error.
@@ -87,11 +88,13 @@ fn share_once<R: AllocGlobal + Threads + Wait + Sync, G: Gate>(
     ensures legal { IsLegal spur_at rodeo.now.opening (seen pass.new) }
 {
     pass.prove_legal();
+    let turn = Mutex::new(());
+    let turn = &turn;
     let work = move |worker: usize| -> Share
         requires some { 0 < workers }
         requires texts { AreTexts (lines_of lines.now) }
         ensures { IsShareOf rodeo.entry.now (lines_of lines.entry.now) worker workers result.known result.codes }
-    { intern_share(rt, rodeo, lines, worker, workers, gate) };
+    { intern_share(rt, rodeo, lines, worker, workers, gate, turn) };
     let Ok(shares) = map_indices(rt, rt.alloc(), workers, &work) else {
         return Err(RunFault::no_memory(0));
     };
@@ -141,7 +144,7 @@ fn lower(lowest: Option<NumberedError>, other: &NumberedError) -> NumberedError
     }
 }
 
-// Interns the worker's lines with a new pass, which keeps hints.
+// Interns the worker's lines with a new pass, which keeps hints. `turn` is for the turns of all workers.
 fn intern_share<R: AllocGlobal + Wait, G: Gate>(
     rt: &R,
     rodeo: &SpurThreadedRodeo,
@@ -149,21 +152,23 @@ fn intern_share<R: AllocGlobal + Wait, G: Gate>(
     worker: usize,
     workers: usize,
     gate: &G,
+    turn: &Mutex<()>,
 ) -> Share
     requires some { 0 < workers }
     requires texts { AreTexts (lines_of lines.now) }
     ensures { IsShareOf rodeo.now (lines_of lines.now) worker workers result.known result.codes }
 {
     let mut pass = rodeo.pass_with_hints(rt.alloc());
-    let codes = intern_by(rt, rodeo, &mut pass, lines, worker, workers, gate);
+    let codes = intern_by(rt, rodeo, &mut pass, lines, worker, workers, gate, turn);
     Share {
         known: pass.snapshot(),
         codes,
     }
 }
 
-// Interns the worker's lines, and returns the positions of their texts. Stops at the first refused line and returns its
-// error.
+// Interns the worker's lines: those at the positions `worker`, `worker + workers`, `worker + 2 * workers` and so
+// on. It skips the lines between them in the input, so no list of lines is kept. Returns the positions of their
+// texts. Stops at the first refused line and returns its error.
 fn intern_by<R: AllocGlobal + Wait, G: Gate>(
     rt: &R,
     rodeo: &SpurThreadedRodeo,
@@ -172,6 +177,7 @@ fn intern_by<R: AllocGlobal + Wait, G: Gate>(
     worker: usize,
     workers: usize,
     gate: &G,
+    turn: &Mutex<()>,
 ) -> Result<Vec<u32>, NumberedError>
     requires some { 0 < workers }
     requires texts { AreTexts (lines_of lines.now) }
@@ -180,48 +186,15 @@ fn intern_by<R: AllocGlobal + Wait, G: Gate>(
     ensures refused { IfErr result (IsRefusedBy rodeo.now.opening (seen pass.new) (lines_of lines.now) worker workers) }
     ensures codes { IfOk result (λ codes. HasCodes (list_of rodeo.now pass.new.notes) (lines_of lines.now) worker workers codes.items) }
 {
-    match intern_in_blocks(rt, rodeo, pass, lines, worker, workers, gate) {
-        Ok(codes) => Ok(codes),
-        Err((before, error)) => Err((number_of(rt, worker, workers, before), error)),
-    }
-}
-
-// The number of the worker's line that has `before` of its lines before it, counted from 1. Waits forever past the
-// greatest number, which no line has.
-fn number_of<R: Wait>(rt: &R, worker: usize, workers: usize, before: usize) -> u64
-    ensures { result ≡ worker + before * workers + 1 }
-{
-    let first = next_number(rt, worker as u64);
-    if let Some(lines) = before.checked_mul(workers) {
-        return later_number(rt, first, lines);
-    }
-    for _ in rt.forever() {}
-    unreachable!()
-}
-
-// Interns the worker's lines: those at the positions `worker`, `worker + workers`, `worker + 2 * workers` and so
-// on. It skips the lines between them in the input, so no list of lines is kept. Otherwise as `intern_by`.
-fn intern_in_blocks<R: AllocGlobal + Wait, G: Gate>(
-    rt: &R,
-    rodeo: &SpurThreadedRodeo,
-    pass: &mut Pass<Spur>,
-    lines: &Stretch<'_>,
-    worker: usize,
-    workers: usize,
-    gate: &G,
-) -> Result<Vec<u32>, RefusedLine>
-    requires some { 0 < workers }
-    requires texts { AreTexts (lines_of lines.now) }
-    requires of { pass.old.of ≡ rodeo.now }
-    ensures of { pass.new.of ≡ rodeo.now }
-    ensures refused { IfErr result (λ refusal. IsRefusedBy rodeo.now.opening (seen pass.new) (lines_of lines.now) worker workers (worker + refusal.0 * workers + 1, refusal.1)) }
-    ensures codes { IfOk result (λ codes. HasCodes (list_of rodeo.now pass.new.notes) (lines_of lines.now) worker workers codes.items) }
-{
-    let mut block = Block::new(rt.alloc(), gate.is_open());
+    let mut codes = Vec::new(rt.alloc());
+    let mut turns = Turns::new(turn, gate.is_open());
     let mut rest = lines.copy();
+    let mut next = 1u64;
     // The number of other workers' lines before this worker's next one.
     let mut others = worker;
     while let Some(line) = rest.next_line() {
+        let number = next;
+        next = next_number(rt, number);
         if others > 0 {
             others -= 1;
             continue;
@@ -230,11 +203,41 @@ fn intern_in_blocks<R: AllocGlobal + Wait, G: Gate>(
             unreachable!();
         };
         gate.enter(worker);
-        block.take(rt, rodeo, pass, text)?;
+        intern_line(rt, rodeo, pass, text, number, &mut codes, &mut turns)?;
         others = workers - 1;
         let skipped = rest.skip(others);
         others -= skipped;
+        next = later_number(rt, next, skipped);
     }
-    block.intern_waiting(rt, rodeo, pass)?;
-    Ok(block.codes)
+    Ok(codes)
+}
+
+// Interns the line of this number, and appends its text's position.
+fn intern_line<R: Wait>(
+    rt: &R,
+    rodeo: &SpurThreadedRodeo,
+    pass: &mut Pass<Spur>,
+    line: &str,
+    number: u64,
+    codes: &mut Vec<u32>,
+    turns: &mut Turns<'_>,
+) -> Result<(), NumberedError>
+    requires { pass.old.of ≡ rodeo.now }
+    ensures of { pass.new.of ≡ rodeo.now }
+    ensures number { IfErr result (λ refusal. refusal.0 ≡ number) }
+    ensures reason { IfErr result (λ refusal. IsRefusalIn rodeo.now.opening (seen pass.new) (line.now ∷ []) refusal.1) }
+    ensures grows { IsPrefix (list_of rodeo.now pass.old.notes) (list_of rodeo.now pass.new.notes) }
+    ensures one { OnOk result (vec_len codes.new ≡ vec_len codes.old + 1) }
+    ensures coded { OnOk result (AddsCode (list_of rodeo.now pass.old.notes) codes.old.items (list_of rodeo.now pass.new.notes) codes.new.items line.now) }
+{
+    let key = match rodeo.try_get_or_intern_as(rt, pass, line) {
+        Ok(key) => key,
+        Err(error) => return Err((number, error)),
+    };
+    let position = key.into_position();
+    turns.count_line(rt, position);
+    match codes.push(position) {
+        Ok(()) => Ok(()),
+        Err(_) => Err((number, LassoError::new(LassoErrorKind::FailedAllocation))),
+    }
 }

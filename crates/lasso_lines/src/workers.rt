@@ -35,8 +35,8 @@ pub trait Gate: Sync {
     /// Returns when the worker of this number may go on. Workers are numbered from 0.
     fn enter(&self, worker: usize);
 
-    /// Whether `enter` returns at once for each worker at any time. If so, a worker may call it for many lines and
-    /// then intern them together.
+    /// Whether `enter` returns at once for each worker at any time. If so, a worker may call it while it keeps
+    /// others from interning, in its turn.
     fn is_open(&self) -> bool {
         false
     }
