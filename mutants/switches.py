@@ -16,7 +16,7 @@ ASKS = """
 fn runs_test(test: &str) -> bool {
     let mut word = [0u8; 256];
     let length = os::arg(1, &mut word);
-    length == test.len() && word[..length] == *test.as_bytes()
+    &word[..length] == test.as_bytes()
 }
 """
 
