@@ -5,6 +5,7 @@ import shutil
 import sys
 import tempfile
 import threading
+from collections.abc import Callable
 from dataclasses import dataclass
 
 sys.path.insert(1, f"{os.path.dirname(os.path.dirname(os.path.abspath(__file__)))}/trials")
@@ -15,12 +16,14 @@ CC = "cc"
 
 @dataclass
 class Part:
-    """A command with its words, and a name for what it tries. Where `is_shown` is set, what it writes is shown as it comes. It runs in a folder."""
+    """A command with its words, and a name for what it tries. It runs in a folder. If `is_shown` is set, what it writes is shown as it comes, and `on_line`
+    gets each line."""
 
     name: str
     words: list
     is_shown: bool = False
     folder: str = HERE
+    on_line: Callable = None
 
 
 @dataclass
@@ -44,7 +47,7 @@ def counts_of(said, status):
 def run(part):
     """Runs the part, and returns its result and what it wrote."""
     with tempfile.TemporaryFile() as said:
-        took = timed(part.words, said, part.is_shown, cwd=part.folder)
+        took = timed(part.words, said, part.is_shown, on_line=part.on_line, cwd=part.folder)
         said.seek(0)
         text = said.read()
     passed, failed = counts_of(text, took.status)

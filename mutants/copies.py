@@ -40,12 +40,12 @@ def copy_of_tree():
 
 
 @contextlib.contextmanager
-def copy_of_room(room):
-    """A folder with the sources of the room and the libraries that `rt ci` built in it, in which one crate can be tried beside others. It goes afterwards."""
-    stamp_libraries(room)
+def copy_of_room(room, crate):
+    """A folder with the sources of the room and the libraries below the crate, which `rt ci` has built in it. It may be at work there on others. The folder
+    goes afterwards."""
     with tempfile.TemporaryDirectory() as copy:
         copy_sources(room, copy)
-        copy_libraries(room, copy)
+        give_built(room, copy, crate)
         yield copy
 
 
@@ -56,15 +56,17 @@ def copy_libraries(tree, copy):
         shutil.copytree(built, os.path.join(copy, os.path.relpath(built, tree)), copy_function=link)
 
 
-def stamp_libraries(room):
-    """Has `rt check` take the libraries that rt ci proved and built in the folder: they are of its text, and rt ci leaves no stamp that says so."""
+def give_built(room, copy, crate):
+    """Gives the libraries below the crate that rt ci proved and built in the room to the copy of its sources, where `rt check` takes them: rt ci leaves no
+    stamp that says that they are of this text."""
     # The module of rt that knows the crates of a tree, from the folder of the command.
     rt = module_in(f"{os.path.dirname(os.path.realpath(shutil.which('rt')))}/rtlib.py", "rtlib")
-    for crate in rt.crates_below(room):
-        if crate.makes_rlib():
-            if not os.path.isdir(crate.rlib):
-                raise Unfit(f"{crate.name} was not proved and built in {room}")
-            write(f"{crate.folder}/out/rlib/stamp", crate.stamp())
+    for library in {other.name: other for other in rt.crates_below(copy)}[crate].below():
+        built = os.path.join(room, os.path.relpath(library.rlib, copy))
+        if not os.path.isdir(built):
+            raise Unfit(f"{library.name} was not proved and built in {room}")
+        shutil.copytree(built, library.rlib, copy_function=link)
+        write(f"{library.folder}/out/rlib/stamp", library.stamp())
 
 
 class Outcome(enum.Enum):

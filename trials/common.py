@@ -121,8 +121,9 @@ class Took:
     system: float
 
 
-def timed(words, target, is_shown=False, begin=None, **options):
-    """Runs a command, which writes to the target. Shows it as it comes if `is_shown` says so. `begin` gets the process. What it took."""
+def timed(words, target, is_shown=False, begin=None, on_line=None, **options):
+    """Runs a command, which writes to the target. Shows it as it comes if `is_shown` says so; `on_line` then gets each line. `begin` gets the process. What
+    it took."""
     begun = time.perf_counter()
     started = subprocess.Popen(words, stdout=subprocess.PIPE if is_shown else target, **{"stdin": subprocess.DEVNULL, "stderr": subprocess.STDOUT, **options})
     if begin:
@@ -131,6 +132,8 @@ def timed(words, target, is_shown=False, begin=None, **options):
         for each in (target, sys.stdout.buffer):
             each.write(line)
             each.flush()
+        if on_line:
+            on_line(line)
     _, status, used = os.wait4(started.pid, 0)
     started.returncode = os.waitstatus_to_exitcode(status)
     return Took(started.returncode, time.perf_counter() - begun, used.ru_utime, used.ru_stime)

@@ -529,8 +529,9 @@ void lasso_free(struct lasso *lasso);
  * lasso_shared_limit and lasso_shared_set_limit return LASSO_BUSY if another thread is inside a step of the interner,
  * after they looked about a hundred times. The caller tries again, as the inline calls do whose names end with _wait.
  * What to rely on:
- * - With LASSO_BUSY, no text was added, no limit was set, and nothing was written; a batch has interned the texts
- *   before the busy one, and written their codes. The next call may be about another text.
+ * - With LASSO_BUSY, no text was added, no limit was set, and no argument was written, though memory for the text may
+ *   stay taken; a batch has interned the texts before the busy one, and written their codes. The next call may be about
+ *   another text.
  * - The other calls never return LASSO_BUSY: no thread can hold them up.
  * - If no other thread is inside a call, no call returns LASSO_BUSY. (This is tested, not proved.)
  * What not to rely on:
