@@ -35,13 +35,18 @@ function rankForm(entry, asked) {
   return entry[3].toLowerCase().includes(asked) ? 3 : NONE;
 }
 
+// Of entries that fit alike, calls come first.
+function isCall(entry) {
+  return entry[1] === "call";
+}
+
 function show() {
   const asked = search.value.trim().toLowerCase();
   found.replaceChildren();
   found.hidden = asked === "";
   if (found.hidden) return;
   const ranked = SEARCH.map((entry) => [rank(entry, asked), entry]).filter((pair) => pair[0] < NONE);
-  ranked.sort((one, other) => one[0] - other[0] || one[1][0].length - other[1][0].length);
+  ranked.sort((one, other) => one[0] - other[0] || isCall(other[1]) - isCall(one[1]) || one[1][0].length - other[1][0].length);
   for (const [, [name, kind, url, summary]] of ranked.slice(0, MOST)) {
     const line = document.createElement("li");
     const link = document.createElement("a");
