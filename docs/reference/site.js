@@ -35,9 +35,9 @@ function rankForm(entry, asked) {
   return entry[3].toLowerCase().includes(asked) ? 3 : NONE;
 }
 
-// Of entries that fit alike, calls come first.
-function isCall(entry) {
-  return entry[1] === "call";
+// Of entries that fit alike, calls that a reader may want come first, then the other calls.
+function weight(entry) {
+  return entry[1] !== "call" ? 0 : entry.length > 4 ? 2 : 1;
 }
 
 function show() {
@@ -46,7 +46,7 @@ function show() {
   found.hidden = asked === "";
   if (found.hidden) return;
   const ranked = SEARCH.map((entry) => [rank(entry, asked), entry]).filter((pair) => pair[0] < NONE);
-  ranked.sort((one, other) => one[0] - other[0] || isCall(other[1]) - isCall(one[1]) || one[1][0].length - other[1][0].length);
+  ranked.sort((one, other) => one[0] - other[0] || weight(other[1]) - weight(one[1]) || one[1][0].length - other[1][0].length);
   for (const [, [name, kind, url, summary]] of ranked.slice(0, MOST)) {
     const line = document.createElement("li");
     const link = document.createElement("a");
