@@ -1,4 +1,4 @@
-"""Draws the pictures of the last `bench/run lasso`: `plots.py FIGURES PICTURES`, two folders. Colours and letters are legible on white
+"""Draws the pictures of the last `bench/run lasso` and `bench/run handles`: `plots.py FIGURES PICTURES`, two folders. Colours and letters are legible on white
 and on dark pages, and a picture has no background."""
 
 import os
@@ -10,12 +10,20 @@ matplotlib.use("svg")
 import matplotlib.pyplot as pyplot  # noqa: E402
 from matplotlib.ticker import FixedLocator, NullLocator, StrMethodFormatter  # noqa: E402
 
-from lasso import CALLS, COUNTS, RIVALS, SIZES, THREADS, Figures  # noqa: E402
+from lasso import CALLS, COUNTS, RIVALS, SIZES, THREADS, Figures, lines_of  # noqa: E402
+from measuring import times_by_key  # noqa: E402
 
 GREY = "#7d7d7d"
 COLOURS = {"lasso": "#c2571a", "lasso, fastest hasher": "#2f7fd0", "std": "#8a63d2"}
 MARKS = {"lasso": "o", "lasso, fastest hasher": "s", "std": "^"}
 EQUAL = "as fast"
+# How many words of the legend fit side by side.
+MOST_IN_A_ROW = 4
+# Interners that threads share: of each line in the picture, our program and theirs; of each input, its words and how the line is drawn.
+HANDLES = {"C, to GLib under a mutex": ("c", "glib"), "Rust, to lasso 0.7.3": ("rust", "lasso")}
+HANDLE_COLOURS = ("#c2571a", "#2f7fd0")
+HANDLE_INPUTS = {"zipf": (", few texts often", "-"), "distinct": (", each text once", "--")}
+HANDLE_CALLS = {"new": "intern new texts", "present": "intern present texts", "resolve": "resolve keys"}
 # The bytes of a text in the picture of single calls.
 SIZE = 11
 
@@ -43,8 +51,9 @@ STYLE = {
 def save(figure, folder, name, title):
     """Writes the picture, with one legend at its top, and the title as its description."""
     handles, labels = figure.axes[0].get_legend_handles_labels()
-    figure.legend(handles, labels, loc="upper center", ncol=len(labels))
-    figure.tight_layout(rect=(0, 0, 1, 0.92))
+    rows = -(-len(labels) // MOST_IN_A_ROW)
+    figure.legend(handles, labels, loc="upper center", ncol=-(-len(labels) // rows))
+    figure.tight_layout(rect=(0, 0, 1, 1 - 0.08 * rows))
     figure.savefig(os.path.join(folder, name), metadata={"Date": None, "Creator": None, "Title": title})
     pyplot.close(figure)
 
@@ -84,13 +93,33 @@ def draw_threads(figures, folder):
             for rival in RIVALS:
                 ratios = [figures.thread(name, ours, call, threads, rival) for threads in THREADS]
                 axes.plot(range(len(THREADS)), ratios, color=COLOURS[rival], marker=MARKS[rival], label=rival)
-            axes.set_yscale("log")
-            axes.yaxis.set_major_locator(FixedLocator([2.0**power for power in range(-10, 4)]))
-            axes.yaxis.set_minor_locator(NullLocator())
-            axes.yaxis.set_major_formatter(StrMethodFormatter("{x:g}"))
+            draw_powers(axes)
             finish(axes, f"{words}, {name}", range(len(THREADS)), list(map(str, THREADS)), "threads")
         line[0].set_ylabel("our time to theirs")
     save(figure, folder, "threads.svg", "Time of calls by threads that share an interner, ours to theirs: below 1 ours is faster; scales are logarithmic")
+
+
+def draw_powers(axes):
+    """A logarithmic scale of ratios, with the powers of two."""
+    axes.set_yscale("log")
+    axes.yaxis.set_major_locator(FixedLocator([2.0**power for power in range(-10, 4)]))
+    axes.yaxis.set_minor_locator(NullLocator())
+    axes.yaxis.set_major_formatter(StrMethodFormatter("{x:g}"))
+
+
+def draw_handles(times, folder):
+    figure, panels = pyplot.subplots(1, len(HANDLE_CALLS), figsize=(11, 3.8), sharey=True)
+    for axes, (call, title) in zip(panels, HANDLE_CALLS.items()):
+        draw_equal(axes)
+        for (words, pair), colour in zip(HANDLES.items(), HANDLE_COLOURS):
+            for name, (texts, style) in HANDLE_INPUTS.items():
+                ours, theirs = ([min(times[name, program, call, str(threads)]) for threads in THREADS] for program in pair)
+                ratios = [one / other for one, other in zip(ours, theirs)]
+                axes.plot(range(len(THREADS)), ratios, style, color=colour, marker="o", label=words + texts)
+        draw_powers(axes)
+        finish(axes, title, range(len(THREADS)), list(map(str, THREADS)), "threads")
+    panels[0].set_ylabel("our time to theirs")
+    save(figure, folder, "handles.svg", "Threads that share an interner from C and Rust, our time to theirs: below 1 ours is faster; scales are logarithmic")
 
 
 def draw_lines(figures, folder):
@@ -117,6 +146,9 @@ def main():
         for draw, known in ((draw_calls, figures.calls), (draw_threads, figures.threads), (draw_lines, figures.lines)):
             if known:
                 draw(figures, sys.argv[2])
+        handles = times_by_key(lines_of(sys.argv[1], "handles"), 4)
+        if handles:
+            draw_handles(handles, sys.argv[2])
 
 
 main()
