@@ -126,6 +126,13 @@ def print_batches(times):
         table.row(f"{name}, {title}", times[name, what], {names[name, other]: times[name, other]} if other else {})
 
 
+def build_module():
+    """Builds the Python module over the library that was built here, whatever other one is installed or named."""
+    shutil.rmtree(f"{OUT}/python", ignore_errors=True)
+    shutil.copytree("python", f"{OUT}/python")
+    said_of([PYTHON, f"{OUT}/python/backend.py"], env={**os.environ, "LASSO_LIBRARY": "", "PKG_CONFIG_PATH": os.path.abspath("out")})
+
+
 def measure_c():
     """The table of batches, and that of a pandas column."""
     build_library()
@@ -138,8 +145,6 @@ def measure_c():
     if not has_pandas():
         return
     print(flush=True)
-    shutil.rmtree(f"{OUT}/python", ignore_errors=True)
-    shutil.copytree("python", f"{OUT}/python")
-    said_of([PYTHON, f"{OUT}/python/backend.py"])
+    build_module()
     for sizes in PANDAS_SIZES:
         start([*first, PYTHON, "examples/python/categorical.py", *sizes.split()], env={**os.environ, "PYTHONPATH": f"{OUT}/python"})

@@ -101,7 +101,9 @@ class Interner(Core):
 
     def __reduce__(self) -> tuple[Any, ...]:
         """What pickle keeps: the class, the texts, the limit and attributes. It raises InternerClosed once the interner is closed."""
-        return _loaded, (type(self), self.texts(), self.limit), self.__dict__ or None
+        # Before the texts: these raise InternerClosed if another thread has closed the interner, and the limit is 0 then.
+        limit = self.limit
+        return _loaded, (type(self), self.texts(), limit), self.__dict__ or None
 
 
 def _distinct(texts: Any) -> Any:

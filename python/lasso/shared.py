@@ -153,7 +153,7 @@ class SharedInterner:
 
     def copy(self: _Kind) -> _Kind:
         """Another shared interner of the same class, with the texts of now, their codes, the limit and the attributes. It is not frozen."""
-        made = _loaded(type(self), self.texts(), self.limit)
+        made = _loaded(*self._to_load())
         made.__dict__.update(self.__dict__)
         return made
 
@@ -161,7 +161,13 @@ class SharedInterner:
 
     def __reduce__(self) -> tuple[Any, ...]:
         """What pickle keeps: the class, the texts of now, the limit and attributes. It raises InternerClosed once the interner is closed."""
-        return _loaded, (type(self), self.texts(), self.limit), self.__dict__ or None
+        return _loaded, self._to_load(), self.__dict__ or None
+
+    def _to_load(self: _Kind) -> tuple[type[_Kind], list[str], int | None]:
+        """What `_loaded` makes another one of."""
+        # Before the texts: these raise InternerClosed if another thread has closed the interner, and the limit is 0 then.
+        limit = self.limit
+        return type(self), self.texts(), limit
 
 
 def _loaded(kind: type[_Kind], texts: list[str], limit: int | None) -> _Kind:

@@ -307,6 +307,31 @@ def test_refuses_a_pickle_in_which_a_text_comes_twice() -> None:
             load(kind, ["a", "a", "b"], *rest)
 
 
+class ClosedOwn(Interner):
+    """It is closed as if by another thread as soon as it has given its texts."""
+
+    def texts(self, start: int = 0, /) -> list[str]:
+        found = super().texts(start)
+        self.close()
+        return found
+
+
+class ClosedShared(SharedInterner):
+    """The same of one that threads share."""
+
+    def texts(self, start: int = 0) -> list[str]:
+        found = super().texts(start)
+        self.close()
+        return found
+
+
+def test_is_copied_and_pickled_with_its_limit_while_another_thread_closes_it() -> None:
+    assert ClosedShared(5000).copy().limit == 5000
+    for made in (ClosedOwn(5000), ClosedShared(5000)):
+        load, words, *_ = made.__reduce__()
+        assert load(*words).limit == 5000
+
+
 def test_is_copied_and_pickled_by_its_texts(shared: SharedInterner) -> None:
     class Named(SharedInterner):
         name = ""
