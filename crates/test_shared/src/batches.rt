@@ -141,7 +141,7 @@ fn many_new_texts_past_the_limit(rt: HostRuntime) -> Result<(), Fail> {
 // 255 texts have a key.
 #[test]
 fn many_new_texts_past_the_last_key(rt: HostRuntime) -> Result<(), Fail> {
-    static STEPS: [Step; 4] = [
+    static STEPS: [Step; 6] = [
         ByOne(TakesAll(Numbers(0, 250), From(0), None)),
         ByOther(TakesAll(
             Numbers(245, 300),
@@ -150,8 +150,11 @@ fn many_new_texts_past_the_last_key(rt: HostRuntime) -> Result<(), Fail> {
         )),
         Finds("00255", None),
         Counts(255),
+        // texts of five bytes are in buckets of 8, 16, 32 and so on up to 1024 bytes, and the first has 4
+        IsLimited(5000),
+        ByNew(Call::Sums(5000, 2044)),
     ];
-    runs_both::<MicroSpur, FixedState>(&rt, Maker::Sized(50, 4, usize::MAX), &STEPS)
+    runs_both::<MicroSpur, FixedState>(&rt, Maker::Sized(50, 4, 5000), &STEPS)
 }
 
 // Two threads intern both lists, each beginning with another one.
