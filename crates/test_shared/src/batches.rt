@@ -1,15 +1,16 @@
 //! Batches: one call that interns or looks up the texts of a list, with a pass. If its hints serve, it takes the texts one
 //! by one, as calls that take one text do.
 use crate::checks::{runs_as, runs_in_two};
-use Step::{ByNew, ByOne, ByOther, Counts, Finds, IsLimited, Limits, Lists, Reads};
+use Step::{ByNew, ByOne, ByOther, Counts, Finds, Interns, IsLimited, Limits, Lists, Reads, Uses};
 use lasso_parts::keys::{Key, MicroSpur, Spur};
 use lasso_parts::util::{FixedState, LassoErrorKind};
 use std::hash::BuildHasher;
 use std::test::*;
+use test_common::keys::WithoutTwo;
 use test_steps::Host;
 use test_steps::cases::{HINTED, Maker, PLAIN, SIZE, maker_for, sized, steps_of};
 use test_steps::steps::Call::{self, FindsAll, Serves, TakesAll};
-use test_steps::steps::Step;
+use test_steps::steps::{FULL, NO_KEY, Step, Way};
 use test_steps::texts::KeyNumbers::{Any, Are, From};
 use test_steps::texts::LENGTHS;
 use test_steps::texts::List::{Numbers, Texts};
@@ -152,6 +153,26 @@ fn many_new_texts_past_the_last_key(rt: HostRuntime) -> Result<(), Fail> {
         Counts(255),
     ];
     runs_both::<MicroSpur, FixedState>(&rt, Maker::Sized(50, 4, usize::MAX), &STEPS)
+}
+
+// Each text has a byte, and only two have a key. The third takes its byte. No later one does, nor a batch of present texts.
+#[test]
+fn batches_without_a_key_leave_the_bytes_of_later_texts(rt: HostRuntime) -> Result<(), Fail> {
+    static STEPS: [Step; 8] = [
+        ByOne(TakesAll(
+            Texts(&["p", "q", "r", "s", "t", "u", "v", "w", "x", "y"]),
+            Are(&[0, 1]),
+            Some(LassoErrorKind::KeySpaceExhaustion),
+        )),
+        ByOne(FindsAll(&["q", "p"], &[Some(1), Some(0)])),
+        ByOther(TakesAll(Texts(&["q", "p"]), Are(&[1, 0]), None)),
+        Interns(Way::TryCopied, "abc", NO_KEY),
+        Interns(Way::TryCopied, "z", FULL),
+        Counts(2),
+        Uses(6),
+        IsLimited(6),
+    ];
+    runs_as::<WithoutTwo, FixedState>(&rt, Maker::Full(6), &STEPS, PLAIN)
 }
 
 // Two threads intern both lists, each beginning with another one.

@@ -99,10 +99,11 @@ static REFUSED: [Look; 1] = [Does(&[
     ByNew(Call::Sums(1, 1)),
 ])];
 
-// One that keeps the text takes it without a byte, which is free then.
-static KEPT: [Look; 3] = [
+// One that keeps the text takes it without a byte, which is free then, also once the text is shown and written.
+static KEPT: [Look; 4] = [
     Does(&[Interns(Way::Given, "@", Ok(0))]),
     Shows(Texts(&["@"])),
+    Writes(Texts(&["@"])),
     Does(&[
         Finds("%", None),
         IsLimited(1),
@@ -231,4 +232,21 @@ fn no_text_has_a_key(rt: HostRuntime) -> Result<(), Fail> {
         Counts(0),
     ];
     runs_each::<WithoutZero>(&rt, Maker::Full(4), &STEPS, &[1], &COPYING)
+}
+
+// Static texts are refused, and take no byte: a copy takes all that `p` and `q` would have taken, though it has no key.
+#[test]
+fn a_static_text_without_a_key_leaves_the_bytes(rt: HostRuntime) -> Result<(), Fail> {
+    static STEPS: [Step; 9] = [
+        Interns(Way::Given, "p", Ok(0)),
+        Interns(Way::Given, "q", Ok(1)),
+        Interns(Way::Given, "r", NO_KEY),
+        Interns(Way::Given, "r", NO_KEY),
+        Interns(Way::TryCopied, "rest", NO_KEY),
+        Interns(Way::TryCopied, "r", FULL),
+        Counts(2),
+        Uses(4),
+        IsLimited(4),
+    ];
+    runs_each::<WithoutTwo>(&rt, Maker::Full(4), &STEPS, &[1], &KEEPING)
 }

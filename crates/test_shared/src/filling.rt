@@ -146,6 +146,42 @@ fn of_owned(rt: &impl Host, memory: &Refusing<Global>, call: usize) -> Result<us
     Ok(made.len())
 }
 
+// Fills an interner by the same call, where the limit or the keys refuse the third item.
+fn of_owned_but_refused(
+    rt: &impl Host,
+    memory: &Refusing<Global>,
+    call: usize,
+) -> Result<LassoErrorKind, Fail> {
+    let items = numbered(memory, 10)?;
+    let shared: Shared = limited(rt.alloc(), 10, 10)?;
+    let ended = match call {
+        0 => shared.extend(rt, items),
+        1 => shared.extend_as(rt, &mut shared.pass(), &mut items.into_iter()),
+        _ => {
+            let made: LassoResult<ThreadedRodeo<BelowTwo, FixedState>> = ThreadedRodeo::from_iter(
+                rt.alloc(),
+                rt,
+                items,
+            );
+            made.map(drop)
+        }
+    };
+    Ok(answered(ended).err().ok_or("not refused")?)
+}
+
+#[test]
+fn items_from_a_refused_one_on_are_freed(rt: HostRuntime) -> Result<(), Fail> {
+    let memory = Refusing::new(rt.alloc(), 0);
+    let limit = LassoErrorKind::MemoryLimitReached;
+    let refusals = [limit, limit, LassoErrorKind::KeySpaceExhaustion];
+    for (call, wanted) in refusals.iter().enumerate() {
+        let refusal = of_owned_but_refused(&rt, &memory, call)?;
+        is_so_at(&rt, refusal == *wanted, call);
+        is_so_at(&rt, memory.bytes_out() == 0, call);
+    }
+    Ok(())
+}
+
 #[test]
 fn items_that_own_memory_are_freed(rt: HostRuntime) -> Result<(), Fail> {
     let memory = Refusing::new(rt.alloc(), 0);

@@ -4,10 +4,10 @@ use lasso_log::log::{Log, Opened, Pass, Spine};
 use lasso_log::shared_memory::piece::Piece;
 use lasso_parts::index::hash_text;
 use lasso_parts::keys::Spur;
-use lasso_parts::util::{FixedState, LassoResult};
+use lasso_parts::util::{FixedState, LassoErrorKind, LassoResult};
 use std::test::*;
 use test_steps::Host;
-use test_steps::calls::{Shared, made, until_free};
+use test_steps::calls::{Shared, limited, made, numbered, refusal_of, until_free};
 use test_steps::texts::List::Numbers;
 use test_steps::texts::items_of;
 
@@ -106,6 +106,78 @@ fn each_call_follows_hints(rt: HostRuntime) -> Result<(), Fail> {
             make(&rt, &shared, &mut pass, *call, "red")?;
         }
         is_so_at(&rt, pass.hints_serve(), number);
+    }
+    Ok(())
+}
+
+// Fails unless each call that reads tells of `red` alone, if there is one text, and of four bytes.
+fn reads_by(rt: &impl Host, shared: &Shared, pass: &mut Pass<Spur>, count: usize) {
+    let red = if count == 1 { Some("red") } else { None };
+    let key = Spur::default();
+    is_so(rt, shared.len_as(pass) == count, "len_as");
+    is_so(
+        rt,
+        shared.contains_key_as(pass, key) == red.is_some(),
+        "contains_key_as",
+    );
+    is_so(
+        rt,
+        shared.try_resolve_as(pass, key) == red,
+        "try_resolve_as",
+    );
+    let list = shared.seen_list_as(pass);
+    is_so(rt, shared.text_at(&list, 0) == red, "seen_list_as");
+    is_so(rt, shared.strings_as(pass).next() == red, "strings_as");
+    is_so(rt, shared.iter_as(pass).len() == count, "iter_as");
+    is_so(
+        rt,
+        shared.serialize_as(rt.alloc(), pass).is_ok(),
+        "serialize_as",
+    );
+    let limit = until_free(rt, || shared.max_memory_usage_now_as(pass));
+    is_so(
+        rt,
+        limit == 4 && shared.max_memory_usage_as(rt, pass) == 4,
+        "the limit",
+    );
+    let usage = until_free(rt, || shared.current_memory_usage_now_as(pass));
+    is_so(
+        rt,
+        usage == 4 && shared.current_memory_usage_as(rt, pass) == 4,
+        "the usage",
+    );
+}
+
+// Fails unless the interner has this many texts, and so many of its four bytes left.
+fn has_left(rt: &impl Host, shared: &Shared, count: usize, bytes: usize) -> LassoResult<()> {
+    let rest = "-".repeat(rt.alloc(), bytes)?;
+    let number = numbered(shared.try_get_or_intern(rt, rest.as_str()))?;
+    is_so_at(rt, number == count, bytes);
+    let refusal = refusal_of(shared.try_get_or_intern(rt, "z"))?;
+    is_so_at(
+        rt,
+        refusal == Some(LassoErrorKind::MemoryLimitReached),
+        bytes,
+    );
+    is_so_at(rt, shared.max_memory_usage(rt) == 4, bytes);
+    Ok(())
+}
+
+// Whatever pass would do it: no call by a pass with hints takes another byte, interns another text or sets a limit. The
+// only bucket has four bytes, of which `red` takes three if it is copied.
+#[test]
+fn calls_by_a_pass_with_hints_do_no_more(rt: HostRuntime) -> Result<(), Fail> {
+    static BYTES: [usize; 8] = [3, 3, 0, 3, 3, 0, 0, 0];
+    for (number, call) in CALLS.iter().enumerate() {
+        let shared: Shared = limited(rt.alloc(), 4, 4)?;
+        let mut pass = shared.pass_with_hints(rt.alloc());
+        // the first call interns the text or finds none, the second keeps a hint, and the third follows it
+        for _ in 0..3u32 {
+            make(&rt, &shared, &mut pass, *call, "red")?;
+        }
+        let count = usize::from(number < INTERNING);
+        reads_by(&rt, &shared, &mut pass, count);
+        has_left(&rt, &shared, count, 4 - BYTES[number])?;
     }
     Ok(())
 }

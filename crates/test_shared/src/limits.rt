@@ -1,6 +1,6 @@
 //! Setting and reading limits. Changes that a call may not hide under a pass of its own: a call that reads takes no bytes,
 //! one that interns takes only the bytes of its text, and one that raises the limit never lowers it on the way.
-use crate::checks::{is_so, is_so_at, runs, runs_each, runs_in_one};
+use crate::checks::{is_so, is_so_at, runs, runs_each, runs_in, runs_in_one};
 use Step::{
     AllocatesOver, ByNew, ByOne, ByOther, Counts, EachCopies, Finds, Interns, IsLimited, Limits,
     Reads, Takes, Uses,
@@ -12,7 +12,7 @@ use std::test::*;
 use std::thread::join;
 use test_steps::Host;
 use test_steps::calls::{Caller, Shared, limited, made, refusal_of};
-use test_steps::cases::{Maker, SIZE};
+use test_steps::cases::{Maker, PLAIN, SIZE};
 use test_steps::steps::{Call, FULL, Step, Way};
 use test_steps::texts::LENGTHS;
 
@@ -81,7 +81,11 @@ static COPY: [Way; 1] = [Way::TryCopied];
 // The only bucket has room for two of the texts.
 #[test]
 fn a_static_text_takes_no_bytes(rt: HostRuntime) -> Result<(), Fail> {
-    static STEPS: [Step; 7] = [
+    static STEPS: [Step; 10] = [
+        ByOne(Call::Keeps("a-", Ok(0))),
+        Interns(Way::TryStatic, "b-", Ok(1)),
+        Interns(Way::Static, "c-", Ok(2)),
+        // nor if it is present
         ByOne(Call::Keeps("a-", Ok(0))),
         Interns(Way::TryStatic, "b-", Ok(1)),
         Interns(Way::Static, "c-", Ok(2)),
@@ -91,6 +95,54 @@ fn a_static_text_takes_no_bytes(rt: HostRuntime) -> Result<(), Fail> {
         ByOne(Call::Sums(2 * SIZE, 2 * SIZE)),
     ];
     runs_each::<Spur>(&rt, Maker::Full(2 * SIZE), &STEPS, &LENGTHS, &COPY)
+}
+
+// The only bucket has two bytes.
+#[test]
+fn no_new_limit_takes_a_byte(rt: HostRuntime) -> Result<(), Fail> {
+    static STEPS: [Step; 5] = [
+        Takes("ab", Ok(0)),
+        Takes("c", FULL),
+        Counts(1),
+        Uses(2),
+        IsLimited(2),
+    ];
+    let shared: Shared = limited(rt.alloc(), 2, 2)?;
+    let mut caller = Caller::new(&rt, &shared);
+    caller.set_limit_plainly(5);
+    caller.set_limit(3);
+    caller.set_limit_now(2);
+    runs_in(&rt, &shared, &STEPS, PLAIN)
+}
+
+// The calls that copy a text by itself, and wait.
+static WAITING: [Way; 4] = [Way::TryCopied, Way::Copied, Way::Item, Way::CopiedByPass];
+
+// Four buckets of 10, 20, 40 and 80 bytes, which are the limit, have room for 3, 4, 5 and 6 bytes. A text goes into the
+// newest, or else into the first with room.
+#[test]
+fn the_newest_bucket_is_asked_first_and_then_the_oldest(rt: HostRuntime) -> Result<(), Fail> {
+    static STEPS: [Step; 13] = [
+        Interns(Way::Given, "a seven", Ok(0)),
+        Interns(Way::Given, "a sixteen_______", Ok(1)),
+        Interns(Way::Given, "a thirty-five______________________", Ok(2)),
+        Interns(
+            Way::Given,
+            "a seventy-four____________________________________________________________",
+            Ok(3),
+        ),
+        Uses(150),
+        Interns(Way::Given, "abc", Ok(4)),
+        // only the newest had room for it before
+        Interns(Way::Given, "abcdef", FULL),
+        Interns(Way::Given, "def", Ok(5)),
+        Interns(Way::Given, "ghi", Ok(6)),
+        Interns(Way::Given, "abcd", Ok(7)),
+        Interns(Way::Given, "abcde", Ok(8)),
+        Interns(Way::Given, "z", FULL),
+        Uses(150),
+    ];
+    runs_each::<Spur>(&rt, Maker::Sized(50, 10, 150), &STEPS, &[1], &WAITING)
 }
 
 // The first bucket has one byte, and the limit leaves the bytes of one text for another. The copied text takes

@@ -5,6 +5,8 @@ use lasso_parts::hasher::{TextState, hash_with_seed};
 use lasso_parts::index::hash_text;
 use lasso_parts::keys::Spur;
 use lasso_parts::util::{Capacity, FixedState, LassoResult};
+use lasso_single::coding::{encode, encode_text, intern_code};
+use lasso_single::commands::{Command, run_commands};
 use lasso_single::rodeo::Rodeo;
 use std::alloc::Global;
 use std::cell::Cell;
@@ -179,24 +181,38 @@ enum Call {
     Static,
     Item,
     ItemFrom,
+    Keys,
+    Command,
+    Code,
+    Encoded,
+    Column,
     Get,
     Contains,
 }
 
-// Each call, with a text of its own. The first six intern it.
-static CALLS: [(Call, &str); 8] = [
+// How many of the calls intern the text.
+const INTERNING: usize = 11;
+
+// Each call, with a text of its own.
+static CALLS: [(Call, &str); 13] = [
     (Call::TryCopied, "a"),
     (Call::Copied, "b"),
     (Call::TryStatic, "c"),
     (Call::Static, "a static text of many bytes"),
     (Call::Item, ""),
     (Call::ItemFrom, "f"),
+    (Call::Keys, "i"),
+    (Call::Command, "j"),
+    (Call::Code, "k"),
+    (Call::Encoded, "l"),
+    (Call::Column, "m"),
     (Call::Get, "g"),
     (Call::Contains, "h"),
 ];
 
 // Makes the call.
-fn make(rodeo: &mut Counted<'_>, call: Call, text: &'static str) -> LassoResult<()> {
+fn make(alloc: Global, rodeo: &mut Counted<'_>, call: Call, text: &'static str) -> LassoResult<()> {
+    let (mut keys, mut codes) = (Vec::new(alloc), Vec::new(alloc));
     match call {
         Call::TryCopied => drop(rodeo.try_get_or_intern(text)?),
         Call::Copied => drop(rodeo.get_or_intern(text)?),
@@ -204,6 +220,11 @@ fn make(rodeo: &mut Counted<'_>, call: Call, text: &'static str) -> LassoResult<
         Call::Static => drop(rodeo.get_or_intern_static(text)?),
         Call::Item => rodeo.extend([text])?,
         Call::ItemFrom => rodeo.extend_from(&mut [text].into_iter())?,
+        Call::Keys => rodeo.try_get_or_intern_all(&[text], &mut keys)?,
+        Call::Command => drop(run_commands(alloc, rodeo, &[Command::Intern(text)])?),
+        Call::Code => drop(intern_code(rodeo, text)?),
+        Call::Encoded => encode_text(rodeo, text, &mut codes)?,
+        Call::Column => encode(rodeo, &[text], &mut codes)?,
         Call::Get => drop(rodeo.get(text)),
         Call::Contains => drop(rodeo.contains(text)),
     }
@@ -218,18 +239,26 @@ fn each_call_hashes_its_text_once(rt: HostRuntime) -> Result<(), Fail> {
     is_so(&rt, made.get() == 0, "a new interner");
     for (call, text) in &CALLS {
         let before = made.get();
-        make(&mut rodeo, *call, text)?;
+        make(rt.alloc(), &mut rodeo, *call, text)?;
         is_so(&rt, made.get().wrapping_sub(before) == 1, *text);
-        make(&mut rodeo, *call, text)?;
+        make(rt.alloc(), &mut rodeo, *call, text)?;
         is_so(&rt, made.get().wrapping_sub(before) == 2, *text);
     }
-    is_so(&rt, has_count(&rodeo, 6), "the texts that were interned");
+    is_so(
+        &rt,
+        has_count(&rodeo, INTERNING),
+        "the texts that were interned",
+    );
     let reader = rodeo.into_reader();
     for (number, (_, text)) in CALLS.iter().enumerate() {
         let before = made.get();
-        is_so(&rt, reader.get(*text).is_some() == (number < 6), *text);
+        is_so(
+            &rt,
+            reader.get(*text).is_some() == (number < INTERNING),
+            *text,
+        );
         is_so(&rt, made.get().wrapping_sub(before) == 1, *text);
-        is_so(&rt, reader.contains(*text) == (number < 6), *text);
+        is_so(&rt, reader.contains(*text) == (number < INTERNING), *text);
         is_so(&rt, made.get().wrapping_sub(before) == 2, *text);
     }
     Ok(())
