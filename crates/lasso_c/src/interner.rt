@@ -61,7 +61,7 @@ pub extern "C" fn lasso_intern(lasso: &mut Lasso, text: &[u8], code: &mut u32) -
     ensures present { IsTrue (is_utf8 text.now) → IsSomeAnd lasso.old.seat.value (λ i. IsPresent i.rodeo text.now)
         → (result ≡ DONE) × (account_in lasso.new.seat.value ≡ account_in lasso.old.seat.value) }
 
-    // Which failure: bytes that are not UTF-8 come first, then no interner, no code left, the limit, and memory, which may run out at any time.
+    // Which failure: bytes that are not UTF-8 come first, then no interner, no code left, the limit, and memory, which runs out only for an absent text.
     ensures not_utf8 { (result ≡ NOT_UTF8) ↔ (is_utf8 text.now ≡ false) }
     ensures no_interner { (result ≡ NO_INTERNER) ↔ (IsTrue (is_utf8 text.now) × (lasso.old.seat.value ≡ None)) }
     ensures no_code { (result ≡ NO_CODE_LEFT) ↔ (IsTrue (is_utf8 text.now)

@@ -65,7 +65,7 @@ pub fn encode_lines<S: BuildHasher, A: Allocator + Clone>(
         (λ text. (vec_capacity codes.new ≤ vec_len codes.new)
         ⊎ (IsAbsent rodeo.new text × IsSome (next_key spur_at rodeo.new) × IsSome (account_with rodeo.new text))) }
 
-    // The same facts as relations
+    // The same facts as relations: `fault` of each error, `lacking` of out of memory
     ensures list { InternsEach spur_at rodeo.old (encoded_texts codes.old.items codes.new.items (lines_of bytes.now)) rodeo.new }
     ensures fault { IfErr result (IsNextFault rodeo.new codes.old.items codes.new.items (lines_of bytes.now)) }
     ensures lacking { IfErr result (NextLineMayLackMemory rodeo.new codes.old.items codes.new (lines_of bytes.now)) }

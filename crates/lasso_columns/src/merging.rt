@@ -46,7 +46,7 @@ pub fn merge<S: BuildHasher, A: Allocator + Clone, T: BuildHasher, B: Allocator>
     ensures resolved { IfOk result (λ codes. StandFor into.new.texts codes.items from.now) }
     ensures texts { OnOk result (into.new.texts ≡ with_all_new into.old.texts from.now) }
 
-    // In each case texts are only added, and they alone take bytes.
+    // In each case texts are only added, and they alone take bytes. The first bucket's size and the record of clears stay.
     ensures account { account_with_all into.old (added_texts into.old into.new) ≡ Some into.new.account }
     ensures copied { into.new.copied ≡ into.old.copied + bytes_of (added_texts into.old into.new) }
     ensures origin { KeepsOrigin into.old into.new }
@@ -60,7 +60,7 @@ pub fn merge<S: BuildHasher, A: Allocator + Clone, T: BuildHasher, B: Allocator>
     ensures memory { result ≡ Err FailedAllocation → (into.new ≡ into.old) ⊎ MergesUpTo into.old into.new from.now
         (λ text. IsAbsent into.new text × IsSome (next_key spur_at into.new) × IsSome (account_with into.new text)) }
 
-    // The same facts as relations
+    // The same facts as relations: `refused` of each error, `lacking` of out of memory
     ensures list { OnOk result (InternsEach spur_at into.old from.now into.new) }
     ensures refused { IfErr result (λ error. StopsMerging into.old into.new from.now error) }
     ensures lacking { IfErr result (MayLackMemoryMerging into.old into.new from.now) }

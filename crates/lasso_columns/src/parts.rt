@@ -48,9 +48,14 @@ pub fn encode_in_parts<R: AllocGlobal + Threads + Sync, S: BuildHasher, A: Alloc
     codes: &mut Vec<u32>,
     workers: usize,
 ) -> LassoResult<()>
+    // Either way the first texts are interned, one for each added code, and a text's code is its position in the interner.
     ensures list { extend spur_at rodeo.old (encoded_texts codes.old.items codes.new.items (map (λ t. t.now) texts.now)) (Ok tt) rodeo.new }
     ensures codes { AddsCodes rodeo.new.texts (encoded_texts codes.old.items codes.new.items (map (λ t. t.now) texts.now)) codes.old.items codes.new.items }
+
+    // On success these are all texts.
     ensures whole { OnOk result (vec_len codes.new ≡ vec_len codes.old + length texts.now) }
+
+    // On failure the text after them was refused: no key left comes before the limit, and the limit before memory, unless `codes` is full.
     ensures refused { IfErr result (IsNextRefused rodeo.new codes.old.items codes.new.items (map (λ t. t.now) texts.now)) }
     ensures memory { IfErr result (MayLackMemoryNext rodeo.new codes.old.items codes.new (map (λ t. t.now) texts.now)) }
 {

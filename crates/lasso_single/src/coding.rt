@@ -61,7 +61,7 @@ pub fn encode<S: BuildHasher, A: Allocator + Clone>(
         (λ text. (vec_capacity codes.new ≤ vec_len codes.new)
         ⊎ (IsAbsent rodeo.new text × IsSome (next_key spur_at rodeo.new) × IsSome (account_with rodeo.new text))) }
 
-    // The same facts as relations
+    // The same facts as relations: `refused` of each error, `lacking` of out of memory
     ensures list { InternsEach spur_at rodeo.old (encoded_texts codes.old.items codes.new.items (map (λ t. t.now) texts.now)) rodeo.new }
     ensures refused { IfErr result (IsNextRefused rodeo.new codes.old.items codes.new.items (map (λ t. t.now) texts.now)) }
     ensures lacking { IfErr result (MayLackMemoryNext rodeo.new codes.old.items codes.new (map (λ t. t.now) texts.now)) }
@@ -164,7 +164,7 @@ pub fn intern_code<S: BuildHasher, A: Allocator + Clone>(
     // What stays in each case: the first bucket's size, and the record of clears
     ensures origin { KeepsOrigin rodeo.old rodeo.new }
 
-    // On failure nothing changes. No key left comes before the limit, and the limit before memory, which may run out at any time.
+    // On failure nothing changes. No key left comes before the limit, and the limit before memory, which runs out only for an absent text.
     ensures unchanged { OnErr result (rodeo.new ≡ rodeo.old) }
     ensures no_key { (result ≡ Err KeySpaceExhaustion) ↔ (IsAbsent rodeo.old text.now × (next_key spur_at rodeo.old ≡ None)) }
     ensures limit { (result ≡ Err MemoryLimitReached)

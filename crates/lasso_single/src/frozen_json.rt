@@ -31,10 +31,12 @@ impl<K: Key, S: BuildHasher + Default + Drop, A: Allocator + Clone> RodeoReader<
     /// A reader with the texts of an array, in order. It is the frozen form of what `Rodeo::deserialize`
     /// reads, and refused as that is.
     pub fn deserialize(alloc: A, value: &Value) -> Result<Self, JsonError>
-        // On success it has the texts that the value is read as.
+        // On success it has the texts that the value is read as: they are distinct.
         ensures texts { IfOk result (λ texts. read_array K.key_at true (view value.now) ≡ Ok texts) }
 
-        // On failure the error is what is wrong with the value, or memory ran out.
+        // On failure the error is the first of these: the value is no array (`NotAnArray`); or of the first faulty item, it is no text
+        // (`NotText`), an earlier item has its text (`Doubled`), or its position has no key (`TooMany`). Memory may run out (`Lasso`) in
+        // place of any, but not if the value is no array or its first item is faulty. It does if a `usize` can't count the texts' bytes.
         ensures fault { IfErr result (λ error. (read_array K.key_at true (view value.now) ≡ Err error) ⊎ IsOutOfMemory K.key_at true (view value.now) error) }
         ensures overflow { RefusesUncountableBytes K.key_at true (view value.now) result }
 
@@ -67,10 +69,12 @@ impl<K: Key, A: Allocator + Clone> RodeoResolver<K, A> {
     /// value is no array or its first item is faulty, and it does when a `usize` can't count the texts'
     /// bytes.
     pub fn deserialize(alloc: A, value: &Value) -> Result<Self, JsonError>
-        // On success it has the texts that the value is read as.
+        // On success it has the texts that the value is read as: they may repeat.
         ensures texts { IfOk result (λ texts. read_array K.key_at false (view value.now) ≡ Ok texts) }
 
-        // On failure the error is what is wrong with the value, or memory ran out.
+        // On failure the error is the first of these: the value is no array (`NotAnArray`); or of the first faulty item, it is no text
+        // (`NotText`), or its position has no key (`TooMany`). Memory may run out (`Lasso`) in place of any, but not if the value is no
+        // array or its first item is faulty. It does if a `usize` can't count the texts' bytes.
         ensures fault { IfErr result (λ error. (read_array K.key_at false (view value.now) ≡ Err error) ⊎ IsOutOfMemory K.key_at false (view value.now) error) }
         ensures overflow { RefusesUncountableBytes K.key_at false (view value.now) result }
 

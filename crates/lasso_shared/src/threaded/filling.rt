@@ -37,7 +37,8 @@ impl<K: Key, S: BuildHasher + Drop> ThreadedRodeo<K, S> {
         ensures filled { OnOk result ((it : I.IntoIter) × (xs : List T) × I.into_iter_gives items it
             × Drains I.IntoIter.next_gives it xs × IsPlainFilling K.key_at self.now.opening (map T.text xs) (Ok tt)) }
 
-        // On failure the items before the refused one are interned.
+        // On failure the items before the refused one are interned, and no later item is. The error is that of
+        // `try_get_or_intern` for it.
         ensures refused { IfErr result (λ error. (it : I.IntoIter) × (xs : List T) × I.into_iter_gives items it
             × ((rest : I.IntoIter) × Yields I.IntoIter.next_gives it xs rest) × IsPlainFilling K.key_at self.now.opening (map T.text xs) (Err error)) }
         ensures opening { IsOpening K.key_at self.now.opening }
@@ -74,7 +75,8 @@ impl<K: Key, S: BuildHasher + Drop> ThreadedRodeo<K, S> {
         ensures filled { OnOk result ((xs : List T) × YieldsThen I.next_gives items.old xs None items.new
             × InternsEach K.key_at self.now.opening (seen pass.old) (seen pass.new) pass.old.number (map T.text xs)) }
 
-        // On failure the items before the refused one are interned, and the iterator stands right after that one.
+        // On failure the items before the refused one are interned, and the iterator stands right after that one. The error is that of
+        // `try_get_or_intern_as` for it.
         ensures refused { IfErr result (λ error. (xs : List T) × Yields I.next_gives items.old xs items.new
             × FillingEndsRefused K.key_at self.now.opening (seen pass.old) (seen pass.new) pass.old.number (map T.text xs) error) }
 
@@ -108,10 +110,14 @@ impl<K: Key, S: BuildHasher + Default + Drop> ThreadedRodeo<K, S> {
         items: I,
     ) -> LassoResult<Self>
         requires { (it : I.IntoIter) → I.into_iter_gives items it → I.IntoIter.can_next it × IsFinite (I.IntoIter.remaining it) }
+        // On success the items ended, and each was interned in order into a new interner: of 4096 bytes in its first bucket, without a limit.
         ensures opening { IfOk result (λ t. t.opening ≡ opened [] 4096 0 (2 ^ 64 - 1)) }
         ensures filled { IfOk result (λ t. (it : I.IntoIter) × (xs : List T) × I.into_iter_gives items it
             × Drains I.IntoIter.next_gives it xs
             × IsPlainFilling K.key_at t.opening (map T.text xs) (Ok tt)) }
+
+        // On failure memory ran out for the new interner, or an item was refused as by `extend`, after those before it were interned. The
+        // interner that is left then is dropped.
         ensures refused { IfErr result (λ error. (error ≡ FailedAllocation)
             ⊎ ((it : I.IntoIter) × (xs : List T) × I.into_iter_gives items it
             × ((rest : I.IntoIter) × Yields I.IntoIter.next_gives it xs rest)

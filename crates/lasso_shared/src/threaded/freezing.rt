@@ -44,7 +44,10 @@ impl<K: Key, S: BuildHasher + Drop> ThreadedRodeo<K, S> {
         pass: &mut Pass<K>,
     ) -> LassoResult<RodeoReader<K, S, Global>>
         requires { pass.old.of ≡ self }
+        // The pass stays the same one.
         ensures same { IsSamePass pass.new pass.old }
+
+        // The reader has the list that the pass has then seen, unless memory runs out. It does if a `usize` can't count the texts' bytes.
         ensures call { IsPassCall K.key_at self pass.old pass.new Freeze (Listed result) }
         ensures overflow { 2 ^ 64 ≤ bytes_of (list_of self pass.new.notes) → result ≡ Err FailedAllocation }
         ensures opening { IsOpening K.key_at self.opening }

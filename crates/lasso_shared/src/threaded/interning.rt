@@ -43,8 +43,10 @@ impl<K: Key, S: BuildHasher + Drop> ThreadedRodeo<K, S> {
         ensures same { IsSamePass pass.new pass.old }
         ensures kept { IsPrefix (seen pass.old) (seen pass.new) }
 
-        // One list of all threads explains the reply and the events of the call, at a moment between what the pass had seen and
-        // what it then has seen.
+        // One list of all threads explains the reply and the events of the call, at a moment between what the pass had seen and what it
+        // then has seen. An error is of a text that is absent at that moment: its position has no key (`KeySpaceExhaustion`), no bucket
+        // has room for it and the limit leaves none (`MemoryLimitReached`), or memory ran out; which of these if several hold, no clause says.
+        // No text is appended then, and no event added, but that without a key its bytes stay taken.
         ensures call { IsPassCall K.key_at self.now pass.old pass.new (Intern Copied text.now) (Interned result) }
         ensures opening { IsOpening K.key_at self.now.opening }
         ensures legal { IsLegal K.key_at self.now.opening (seen pass.new) }
@@ -81,8 +83,9 @@ impl<K: Key, S: BuildHasher + Drop> ThreadedRodeo<K, S> {
         ensures same { IsSamePass pass.new pass.old }
         ensures kept { IsPrefix (seen pass.old) (seen pass.new) }
 
-        // One list of all threads explains the reply and the events of the call, at a moment between what the pass had seen and
-        // what it then has seen.
+        // One list of all threads explains the reply and the events of the call, at a moment between what the pass had seen and what it
+        // then has seen. An error is of a text that is absent at that moment: its position has no key (`KeySpaceExhaustion`), or memory
+        // ran out. The limit is never the error. No event is added then.
         ensures call { IsPassCall K.key_at self.now pass.old pass.new (Intern Static text.now) (Interned result) }
         ensures opening { IsOpening K.key_at self.now.opening }
         ensures legal { IsLegal K.key_at self.now.opening (seen pass.new) }

@@ -40,7 +40,10 @@ impl<K: Key, S: BuildHasher + Drop> ThreadedRodeo<K, S> {
     /// ```
     pub fn serialize_as(&self, alloc: Global, pass: &mut Pass<K>) -> Result<Value, JsonError>
         requires { pass.old.of ≡ self.now }
+        // The pass stays the same one.
         ensures same { IsSamePass pass.new pass.old }
+
+        // The value is of the list that the pass has then seen, unless memory runs out. The call adds no event.
         ensures call { IsPassCall K.key_at self.now pass.old pass.new Serialize (Listed (written_of (list_of self.now pass.new.notes) result)) }
         ensures written { IfOk result (λ value. view value ≡ json_object (list_of self.now pass.new.notes)) }
         ensures refused { IfErr result (λ error. (error ≡ JsonError.Lasso FailedAllocation) × (0 < length (list_of self.now pass.new.notes))) }
@@ -92,8 +95,15 @@ impl<K: Key, S: BuildHasher + Default + Drop> ThreadedRodeo<K, S> {
     /// assert!(rt; second.into_usize() == 1);
     /// ```
     pub fn deserialize(alloc: Global, value: &Value) -> Result<Self, JsonError>
+        // On success it has the texts that the value is read as. On failure the error is what is wrong with the value: the fault of the
+        // first faulty member or item, or `NotAnObject`. Memory may run out (`Lasso`) in place of any, but not if the value is neither
+        // an array nor an object or its first item or member is faulty.
         ensures read { ReadsShared K.key_at (view value.now) (shown (λ t. t.opening.texts) result) }
+
+        // The texts are in one bucket of their bytes (4096 if they have none), without a limit.
         ensures opening { IfOk result (λ t. t.opening ≡ opened_with_copies t.opening.texts) }
+
+        // What `serialize` writes is read again, unless memory runs out. It does if a `usize` can't count the texts' bytes.
         ensures back { (list : List Text) → IsDistinct list → Fits K.key_at (length list) → IsJsonOf list (view value.now)
             → (shown (λ t. t.opening.texts) result ≡ Ok list) ⊎ (result ≡ Err (JsonError.Lasso FailedAllocation)) }
         ensures overflow { RefusesTooLong K.key_at (view value.now) result }

@@ -24,7 +24,11 @@ impl<K: Key, S: BuildHasher + Drop> ThreadedRodeo<K, S> {
     /// ```
     pub fn current_memory_usage_as<R: Wait>(&self, rt: &R, pass: &mut Pass<K>) -> usize
         requires { pass.old.of ≡ self.now }
+        // The pass stays the same one.
         ensures same { IsSamePass pass.new pass.old }
+
+        // One list of all threads explains the reply at a moment between what the pass had seen and what it then has seen. The call adds no
+        // event.
         ensures call { IsPassCall K.key_at self.now pass.old pass.new Usage (Number result) }
         ensures opening { IsOpening K.key_at self.now.opening }
         ensures legal { IsLegal K.key_at self.now.opening (seen pass.new) }
@@ -46,7 +50,11 @@ impl<K: Key, S: BuildHasher + Drop> ThreadedRodeo<K, S> {
     /// ```
     pub fn max_memory_usage_as<R: Wait>(&self, rt: &R, pass: &mut Pass<K>) -> usize
         requires { pass.old.of ≡ self.now }
+        // The pass stays the same one.
         ensures same { IsSamePass pass.new pass.old }
+
+        // One list of all threads explains the reply at a moment between what the pass had seen and what it then has seen. The call adds no
+        // event.
         ensures call { IsPassCall K.key_at self.now pass.old pass.new MaxUsage (Number result) }
         ensures opening { IsOpening K.key_at self.now.opening }
         ensures legal { IsLegal K.key_at self.now.opening (seen pass.new) }
@@ -70,7 +78,10 @@ impl<K: Key, S: BuildHasher + Drop> ThreadedRodeo<K, S> {
     /// ```
     pub fn set_memory_limits_as<R: Wait>(&self, rt: &R, pass: &mut Pass<K>, limits: MemoryLimits)
         requires { pass.old.of ≡ self.now }
+        // The pass stays the same one.
         ensures same { IsSamePass pass.new pass.old }
+
+        // One list of all threads has the call's only event: the limit is replaced.
         ensures call { IsPassCall K.key_at self.now pass.old pass.new (SetLimit limits) Done }
         ensures opening { IsOpening K.key_at self.now.opening }
         ensures legal { IsLegal K.key_at self.now.opening (seen pass.new) }

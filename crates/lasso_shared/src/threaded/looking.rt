@@ -37,7 +37,8 @@ impl<K: Key, S: BuildHasher + Drop> ThreadedRodeo<K, S> {
         ensures same { IsSamePass pass.new pass.old }
         ensures kept { IsPrefix (seen pass.old) (seen pass.new) }
 
-        // One list of all threads explains the reply at a moment between what the pass had seen and what it then has seen.
+        // One list of all threads explains the reply at a moment between what the pass had seen and what it then has seen: `None` says that
+        // the text is absent at that moment. The call adds no event.
         ensures call { IsPassCall K.key_at self.now pass.old pass.new (Get text.now) (Found result) }
         ensures opening { IsOpening K.key_at self.now.opening }
         ensures legal { IsLegal K.key_at self.now.opening (seen pass.new) }
@@ -66,7 +67,8 @@ impl<K: Key, S: BuildHasher + Drop> ThreadedRodeo<K, S> {
         ensures same { IsSamePass pass.new pass.old }
         ensures kept { IsPrefix (seen pass.old) (seen pass.new) }
 
-        // One list of all threads explains the reply at a moment between what the pass had seen and what it then has seen.
+        // One list of all threads explains the reply at a moment between what the pass had seen and what it then has seen: `false` says that
+        // the key has no text at that moment. The call adds no event.
         ensures call { IsPassCall K.key_at self.now pass.old pass.new (ContainsKey (K.number key)) (Flag result) }
         ensures opening { IsOpening K.key_at self.now.opening }
         ensures legal { IsLegal K.key_at self.now.opening (seen pass.new) }
@@ -94,7 +96,8 @@ impl<K: Key, S: BuildHasher + Drop> ThreadedRodeo<K, S> {
         ensures same { IsSamePass pass.new pass.old }
         ensures kept { IsPrefix (seen pass.old) (seen pass.new) }
 
-        // One list of all threads explains the reply at a moment between what the pass had seen and what it then has seen.
+        // One list of all threads explains the reply at a moment between what the pass had seen and what it then has seen: `None` says that
+        // the key has no text at that moment. The call adds no event.
         ensures call { IsPassCall K.key_at self.now pass.old pass.new (Resolve (K.number key)) (Resolved (option_map (λ t. t.now) result)) }
         ensures opening { IsOpening K.key_at self.now.opening }
         ensures legal { IsLegal K.key_at self.now.opening (seen pass.new) }
@@ -116,7 +119,11 @@ impl<K: Key, S: BuildHasher + Drop> ThreadedRodeo<K, S> {
     /// ```
     pub fn len_as(&self, pass: &mut Pass<K>) -> usize
         requires { pass.old.of ≡ self.now }
+        // The pass stays the same one.
         ensures same { IsSamePass pass.new pass.old }
+
+        // One list of all threads explains the reply at a moment between what the pass had seen and what it then has seen. The call adds no
+        // event.
         ensures call { IsPassCall K.key_at self.now pass.old pass.new Len (Number result) }
         ensures opening { IsOpening K.key_at self.now.opening }
         ensures legal { IsLegal K.key_at self.now.opening (seen pass.new) }

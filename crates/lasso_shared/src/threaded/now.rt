@@ -32,8 +32,14 @@ impl<K: Key, S: BuildHasher + Drop> ThreadedRodeo<K, S> {
     /// ```
     pub fn intern_now_as(&self, pass: &mut Pass<K>, text: &str) -> Option<LassoResult<K>>
         requires { pass.old.of ≡ self.now }
+        // The pass stays the same one.
         ensures same { IsSamePass pass.new pass.old }
+
+        // `Some` is what `try_get_or_intern_as` may return: one list of all threads explains it and the events of the call, at a moment between
+        // what the pass had seen and what it then has seen.
         ensures call { IfSome result (λ r. IsPassCall K.key_at self.now pass.old pass.new (Intern Copied text.now) (Interned r)) }
+
+        // `None` says that other calls are in the way. No text is appended then; the text's bytes may stay taken.
         ensures busy { IsNone result → MayStore text.now pass.old pass.new }
         ensures opening { IsOpening K.key_at self.now.opening }
         ensures legal { IsLegal K.key_at self.now.opening (seen pass.new) }
@@ -47,8 +53,14 @@ impl<K: Key, S: BuildHasher + Drop> ThreadedRodeo<K, S> {
     /// no memory and does not wait.
     pub fn current_memory_usage_now_as(&self, pass: &mut Pass<K>) -> Option<usize>
         requires { pass.old.of ≡ self.now }
+        // The pass stays the same one.
         ensures same { IsSamePass pass.new pass.old }
+
+        // One list of all threads explains the reply at a moment between what the pass had seen and what it then has seen. The call adds no
+        // event.
         ensures call { IfSome result (λ usage. IsPassCall K.key_at self.now pass.old pass.new Usage (Number usage)) }
+
+        // `None` says that other calls are in the way. No event is added then either.
         ensures busy { IsNone result → Since pass.old.number pass.old.notes pass.new.notes [] }
         ensures opening { IsOpening K.key_at self.now.opening }
         ensures legal { IsLegal K.key_at self.now.opening (seen pass.new) }
@@ -65,8 +77,14 @@ impl<K: Key, S: BuildHasher + Drop> ThreadedRodeo<K, S> {
     /// takes no memory and does not wait.
     pub fn max_memory_usage_now_as(&self, pass: &mut Pass<K>) -> Option<usize>
         requires { pass.old.of ≡ self.now }
+        // The pass stays the same one.
         ensures same { IsSamePass pass.new pass.old }
+
+        // One list of all threads explains the reply at a moment between what the pass had seen and what it then has seen. The call adds no
+        // event.
         ensures call { IfSome result (λ limit. IsPassCall K.key_at self.now pass.old pass.new MaxUsage (Number limit)) }
+
+        // `None` says that other calls are in the way. No event is added then either.
         ensures busy { IsNone result → Since pass.old.number pass.old.notes pass.new.notes [] }
         ensures opening { IsOpening K.key_at self.now.opening }
         ensures legal { IsLegal K.key_at self.now.opening (seen pass.new) }
@@ -83,8 +101,13 @@ impl<K: Key, S: BuildHasher + Drop> ThreadedRodeo<K, S> {
     /// in the way it does not, and adds no event. It takes no memory and does not wait.
     pub fn set_memory_limits_now_as(&self, pass: &mut Pass<K>, limits: MemoryLimits) -> bool
         requires { pass.old.of ≡ self.now }
+        // The pass stays the same one.
         ensures same { IsSamePass pass.new pass.old }
+
+        // If it did, one list of all threads has the call's only event: the limit is replaced.
         ensures call { IsTrue result → IsPassCall K.key_at self.now pass.old pass.new (SetLimit limits) Done }
+
+        // If not, other calls are in the way, and nothing changes.
         ensures busy { IsFalse result → pass.new ≡ pass.old }
         ensures opening { IsOpening K.key_at self.now.opening }
         ensures legal { IsLegal K.key_at self.now.opening (seen pass.new) }
@@ -99,8 +122,14 @@ impl<K: Key, S: BuildHasher + Drop> ThreadedRodeo<K, S> {
     /// does not wait.
     pub fn get_now_as(&self, pass: &mut Pass<K>, text: &str) -> Option<Option<K>>
         requires { pass.old.of ≡ self.now }
+        // The pass stays the same one.
         ensures same { IsSamePass pass.new pass.old }
+
+        // One list of all threads explains an inner value at a moment between what the pass had seen and what it then has seen: an inner
+        // `None` says that the text is absent at that moment. The call adds no event.
         ensures call { IfSome result (λ found. IsPassCall K.key_at self.now pass.old pass.new (Get text.now) (Found found)) }
+
+        // An outer `None` says that other calls are in the way. No event is added then either.
         ensures busy { IsNone result → Since pass.old.number pass.old.notes pass.new.notes [] }
         ensures opening { IsOpening K.key_at self.now.opening }
         ensures legal { IsLegal K.key_at self.now.opening (seen pass.new) }

@@ -37,6 +37,9 @@ impl<K: Key, S: BuildHasher + Drop> ThreadedRodeo<K, S> {
     /// assert!(rt; rodeo.try_get_or_intern_static(&rt, "Hello, world!")? == key);
     /// ```
     pub fn try_get_or_intern<R: Wait>(&self, rt: &R, text: &str) -> LassoResult<K>
+        // Some legal list of all threads explains the reply at one of its moments: an error is of a text that is absent then. No key for its
+        // position (`KeySpaceExhaustion`), no bucket with room and none under the limit (`MemoryLimitReached`), or out of memory: which of these
+        // if several hold, no clause says. No text is appended then, and no event added, but that without a key its bytes stay taken.
         ensures call { IsPlainCall K.key_at self.now.opening (Intern Copied text.now) (Interned result) }
         ensures opening { IsOpening K.key_at self.now.opening }
     {
@@ -52,6 +55,9 @@ impl<K: Key, S: BuildHasher + Drop> ThreadedRodeo<K, S> {
     /// assert!(rt; rodeo.try_get_or_intern(&rt, "Hello, world!")? == key);
     /// ```
     pub fn get_or_intern<R: Wait>(&self, rt: &R, text: &str) -> LassoResult<K>
+        // Some legal list of all threads explains the reply at one of its moments: an error is of a text that is absent then. No key for its
+        // position (`KeySpaceExhaustion`), no bucket with room and none under the limit (`MemoryLimitReached`), or out of memory: which of these
+        // if several hold, no clause says. No text is appended then, and no event added, but that without a key its bytes stay taken.
         ensures call { IsPlainCall K.key_at self.now.opening (Intern Copied text.now) (Interned result) }
         ensures opening { IsOpening K.key_at self.now.opening }
     {
@@ -73,6 +79,8 @@ impl<K: Key, S: BuildHasher + Drop> ThreadedRodeo<K, S> {
     /// assert!(rt; rodeo.current_memory_usage(&rt) == 4);
     /// ```
     pub fn try_get_or_intern_static<R: Wait>(&self, rt: &R, text: &'static str) -> LassoResult<K>
+        // Some legal list of all threads explains the reply at one of its moments: an error is of a text that is absent then. Its position has
+        // no key (`KeySpaceExhaustion`), or memory ran out; the limit is never the error. No event is added then.
         ensures call { IsPlainCall K.key_at self.now.opening (Intern Static text.now) (Interned result) }
         ensures opening { IsOpening K.key_at self.now.opening }
     {
@@ -89,6 +97,8 @@ impl<K: Key, S: BuildHasher + Drop> ThreadedRodeo<K, S> {
     /// assert!(rt; rodeo.get_or_intern(&rt, "Hello, world!")? == key);
     /// ```
     pub fn get_or_intern_static<R: Wait>(&self, rt: &R, text: &'static str) -> LassoResult<K>
+        // Some legal list of all threads explains the reply at one of its moments: an error is of a text that is absent then. Its position has
+        // no key (`KeySpaceExhaustion`), or memory ran out; the limit is never the error. No event is added then.
         ensures call { IsPlainCall K.key_at self.now.opening (Intern Static text.now) (Interned result) }
         ensures opening { IsOpening K.key_at self.now.opening }
     {
@@ -107,6 +117,7 @@ impl<K: Key, S: BuildHasher + Drop> ThreadedRodeo<K, S> {
     /// assert!(rt; rodeo.len() == 1);
     /// ```
     pub fn get<R: Wait>(&self, rt: &R, text: &str) -> Option<K>
+        // Some legal list of all threads explains the reply at one of its moments: `None` says that the text is absent then.
         ensures call { IsPlainCall K.key_at self.now.opening (Get text.now) (Found result) }
         ensures opening { IsOpening K.key_at self.now.opening }
     {
@@ -123,6 +134,7 @@ impl<K: Key, S: BuildHasher + Drop> ThreadedRodeo<K, S> {
     /// assert!(rt; !rodeo.contains(&rt, "blue"));
     /// ```
     pub fn contains<R: Wait>(&self, rt: &R, text: &str) -> bool
+        // Some legal list of all threads explains the reply at one of its moments.
         ensures call { IsPlainCall K.key_at self.now.opening (Contains text.now) (Flag result) }
         ensures opening { IsOpening K.key_at self.now.opening }
     {
@@ -139,6 +151,7 @@ impl<K: Key, S: BuildHasher + Drop> ThreadedRodeo<K, S> {
     /// assert!(rt; !rodeo.contains_key(next));
     /// ```
     pub fn contains_key(&self, key: K) -> bool
+        // Some legal list of all threads explains the reply at one of its moments.
         ensures call { IsPlainCall K.key_at self.now.opening (ContainsKey (K.number key)) (Flag result) }
         ensures opening { IsOpening K.key_at self.now.opening }
     {
@@ -159,6 +172,7 @@ impl<K: Key, S: BuildHasher + Drop> ThreadedRodeo<K, S> {
     /// assert!(rt; rodeo.try_resolve(next) == None);
     /// ```
     pub fn try_resolve(&self, key: K) -> Option<&str>
+        // Some legal list of all threads explains the reply at one of its moments: `None` says that the key has no text then.
         ensures call { IsPlainCall K.key_at self.now.opening (Resolve (K.number key)) (Resolved (option_map (λ t. t.now) result)) }
         ensures opening { IsOpening K.key_at self.now.opening }
     {
@@ -179,6 +193,7 @@ impl<K: Key, S: BuildHasher + Drop> ThreadedRodeo<K, S> {
     /// assert!(rt; rodeo.resolve(key) == rodeo.try_resolve(key));
     /// ```
     pub fn resolve(&self, key: K) -> Option<&str>
+        // Some legal list of all threads explains the reply at one of its moments: `None` says that the key has no text then.
         ensures call { IsPlainCall K.key_at self.now.opening (Resolve (K.number key)) (Resolved (option_map (λ t. t.now) result)) }
         ensures opening { IsOpening K.key_at self.now.opening }
     {
@@ -195,6 +210,7 @@ impl<K: Key, S: BuildHasher + Drop> ThreadedRodeo<K, S> {
     /// assert!(rt; rodeo.len() == 2);
     /// ```
     pub fn len(&self) -> usize
+        // Some legal list of all threads explains the reply at one of its moments.
         ensures call { IsPlainCall K.key_at self.now.opening Len (Number result) }
         ensures opening { IsOpening K.key_at self.now.opening }
     {
@@ -213,6 +229,7 @@ impl<K: Key, S: BuildHasher + Drop> ThreadedRodeo<K, S> {
     /// assert!(rt; !rodeo.is_empty());
     /// ```
     pub fn is_empty(&self) -> bool
+        // Some legal list of all threads explains the reply at one of its moments.
         ensures call { IsPlainCall K.key_at self.now.opening IsEmpty (Flag result) }
         ensures opening { IsOpening K.key_at self.now.opening }
     {
@@ -248,6 +265,7 @@ impl<K: Key, S: BuildHasher + Drop> ThreadedRodeo<K, S> {
     /// assert!(rt; walk.next() == None);
     /// ```
     pub fn iter(&self) -> Iter<'_, K>
+        // The walk is over some legal list of all threads.
         ensures call { IsPlainCall K.key_at self.now.opening replies.Iterate (replies.Pairs result) }
         ensures opening { IsOpening K.key_at self.now.opening }
     {
@@ -267,6 +285,7 @@ impl<K: Key, S: BuildHasher + Drop> ThreadedRodeo<K, S> {
     /// assert!(rt; strings.next() == None);
     /// ```
     pub fn strings(&self) -> Strings<'_, K>
+        // The walk is over some legal list of all threads.
         ensures call { IsPlainCall K.key_at self.now.opening replies.Strings (replies.Listed (Ok result)) }
         ensures opening { IsOpening K.key_at self.now.opening }
     {
@@ -282,6 +301,7 @@ impl<K: Key, S: BuildHasher + Drop> ThreadedRodeo<K, S> {
     /// assert!(rt; rodeo.current_memory_usage(&rt) == 4096);
     /// ```
     pub fn current_memory_usage<R: Wait>(&self, rt: &R) -> usize
+        // Some legal list of all threads explains the reply at one of its moments.
         ensures call { IsPlainCall K.key_at self.now.opening Usage (Number result) }
         ensures opening { IsOpening K.key_at self.now.opening }
     {
@@ -297,6 +317,7 @@ impl<K: Key, S: BuildHasher + Drop> ThreadedRodeo<K, S> {
     /// assert!(rt; rodeo.max_memory_usage(&rt) == usize::MAX);
     /// ```
     pub fn max_memory_usage<R: Wait>(&self, rt: &R) -> usize
+        // Some legal list of all threads explains the reply at one of its moments.
         ensures call { IsPlainCall K.key_at self.now.opening MaxUsage (Number result) }
         ensures opening { IsOpening K.key_at self.now.opening }
     {
@@ -317,6 +338,7 @@ impl<K: Key, S: BuildHasher + Drop> ThreadedRodeo<K, S> {
     /// assert!(rt; rodeo.current_memory_usage(&rt) == 4096);
     /// ```
     pub fn set_memory_limits<R: Wait>(&self, rt: &R, limits: MemoryLimits)
+        // The call's only event in some legal list of all threads: the limit is replaced.
         ensures call { IsPlainCall K.key_at self.now.opening (SetLimit limits) Done }
         ensures opening { IsOpening K.key_at self.now.opening }
     {

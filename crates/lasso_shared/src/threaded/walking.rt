@@ -158,7 +158,10 @@ impl<K: Key, S: BuildHasher + Drop> ThreadedRodeo<K, S> {
     /// does not wait.
     pub fn iter_as(&self, pass: &mut Pass<K>) -> Iter<'_, K>
         requires { pass.old.of ≡ self.now }
+        // The pass stays the same one.
         ensures same { IsSamePass pass.new pass.old }
+
+        // The walk is over the list that the pass has then seen. The call adds no event.
         ensures call { IsPassCall K.key_at self.now pass.old pass.new replies.Iterate (replies.Pairs result) }
         ensures opening { IsOpening K.key_at self.now.opening }
         ensures legal { IsLegal K.key_at self.now.opening (seen pass.new) }
@@ -171,7 +174,10 @@ impl<K: Key, S: BuildHasher + Drop> ThreadedRodeo<K, S> {
     /// A walk over the texts, in the order of their keys: over those that there are at one step. It takes no memory and does not wait.
     pub fn strings_as(&self, pass: &mut Pass<K>) -> Strings<'_, K>
         requires { pass.old.of ≡ self.now }
+        // The pass stays the same one.
         ensures same { IsSamePass pass.new pass.old }
+
+        // The walk is over the list that the pass has then seen. The call adds no event.
         ensures call { IsPassCall K.key_at self.now pass.old pass.new replies.Strings (replies.Listed (Ok result)) }
         ensures opening { IsOpening K.key_at self.now.opening }
         ensures legal { IsLegal K.key_at self.now.opening (seen pass.new) }

@@ -21,9 +21,12 @@ impl<K: Key, S: BuildHasher, A: Allocator> Rodeo<K, S, A> {
     /// assert!(rt; refusal.kind().is_memory_limit());
     /// ```
     pub fn set_memory_limits(&mut self, limits: MemoryLimits)
+        // Only the limit changes.
         ensures texts { self.new.texts ≡ self.old.texts }
         ensures account { self.new.account ≡ with_limit self.old.account limits }
         ensures copied { self.new.copied ≡ self.old.copied }
+
+        // What stays too: the first bucket's size, and the record of clears
         ensures origin { KeepsOrigin self.old self.new }
     {
         self.list.set_limit(limits.max_memory_usage());
@@ -44,7 +47,7 @@ impl<K: Key, S: BuildHasher, A: Allocator> Rodeo<K, S, A> {
     /// assert!(rt; rodeo.try_resolve(last) == None);
     /// ```
     pub fn clear(&mut self)
-        // No text is left.
+        // No text is left. `most` is the record of the most bytes copied in between two clears.
         ensures texts { self.new.texts ≡ [] }
         ensures copied { self.new.copied ≡ 0 }
         ensures most { self.new.most ≡ most_copied self.old }

@@ -91,7 +91,8 @@ impl<K: Key, S: BuildHasher + Clone, A: Allocator + Clone> Rodeo<K, S, A> {
     /// assert!(rt; !copy.contains("blue"));
     /// ```
     pub fn try_clone_from(&mut self, source: &Self) -> LassoResult<()>
-        // On success it has just the source's texts, stored after a clear in its own buckets under its own limit.
+        // On success it has just the source's texts, stored after a clear in its own buckets under its own limit. `most` is the record of
+        // the most bytes copied in between two clears.
         ensures texts { OnOk result (self.new.texts ≡ source.now.texts) }
         ensures account { OnOk result (store_all self.old.first (clear self.old.first self.old.account) source.now.texts ≡ Some self.new.account) }
         ensures copied { OnOk result (self.new.copied ≡ bytes_of source.now.texts) }
@@ -101,7 +102,8 @@ impl<K: Key, S: BuildHasher + Clone, A: Allocator + Clone> Rodeo<K, S, A> {
         ensures first { self.new.first ≡ self.old.first }
         ensures mark { self.new.is_cleared ≡ true }
 
-        // On failure the limit had no room for a text, or memory ran out. No text is left: those stored so far were cleared again.
+        // On failure the limit had no room for a text, or memory ran out: before the first text, or for one that the limit has room for.
+        // No text is left: those stored so far were cleared again. The account is what that leaves, and their bytes count in `most`.
         ensures reason { IfErr result (λ error. (error ≡ MemoryLimitReached) ⊎ (error ≡ FailedAllocation)) }
         ensures emptied { OnErr result (self.new.texts ≡ []) }
         ensures uncopied { OnErr result (self.new.copied ≡ 0) }
@@ -130,7 +132,8 @@ impl<K: Key, S: BuildHasher + Clone, A: Allocator + Clone> Rodeo<K, S, A> {
     /// assert!(rt; copy == rodeo);
     /// ```
     pub fn clone_from(&mut self, source: &Self) -> LassoResult<()>
-        // On success it has just the source's texts, stored after a clear in its own buckets under its own limit.
+        // On success it has just the source's texts, stored after a clear in its own buckets under its own limit. `most` is the record of
+        // the most bytes copied in between two clears.
         ensures texts { OnOk result (self.new.texts ≡ source.now.texts) }
         ensures account { OnOk result (store_all self.old.first (clear self.old.first self.old.account) source.now.texts ≡ Some self.new.account) }
         ensures copied { OnOk result (self.new.copied ≡ bytes_of source.now.texts) }
@@ -140,7 +143,8 @@ impl<K: Key, S: BuildHasher + Clone, A: Allocator + Clone> Rodeo<K, S, A> {
         ensures first { self.new.first ≡ self.old.first }
         ensures mark { self.new.is_cleared ≡ true }
 
-        // On failure the limit had no room for a text, or memory ran out. No text is left: those stored so far were cleared again.
+        // On failure the limit had no room for a text, or memory ran out: before the first text, or for one that the limit has room for.
+        // No text is left: those stored so far were cleared again. The account is what that leaves, and their bytes count in `most`.
         ensures reason { IfErr result (λ error. (error ≡ MemoryLimitReached) ⊎ (error ≡ FailedAllocation)) }
         ensures emptied { OnErr result (self.new.texts ≡ []) }
         ensures uncopied { OnErr result (self.new.copied ≡ 0) }

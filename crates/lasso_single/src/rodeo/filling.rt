@@ -36,11 +36,12 @@ impl<K: Key, S: BuildHasher, A: Allocator + Clone> Rodeo<K, S, A> {
         items: I,
     ) -> LassoResult<()>
         requires { (it : I.IntoIter) → I.into_iter_gives items it → I.IntoIter.can_next it × IsFinite (I.IntoIter.remaining it) }
-        // On success the items ended, and each was interned.
+        // On success the items ended, and each was interned in order.
         ensures filled { OnOk result ((it : I.IntoIter) × I.into_iter_gives items it
             × InternsItems I.IntoIter.next_gives T.text K.key_at it self.old self.new) }
 
-        // On failure the items before the refused one are interned, and that one changed nothing: the error is its own.
+        // On failure the items before the refused one are interned, that one changed nothing, and no later item is interned. The error is
+        // that of `try_get_or_intern` for it: no key left comes before the limit, and the limit before memory.
         ensures refused { IfErr result (λ error. (it : I.IntoIter) × I.into_iter_gives items it
             × StopsAtItem I.IntoIter.next_gives T.text K.key_at it self.old error self.new) }
     {
@@ -65,11 +66,12 @@ impl<K: Key, S: BuildHasher, A: Allocator + Clone> Rodeo<K, S, A> {
     ) -> LassoResult<()>
         requires can { I.can_next items.old }
         requires ends { IsFinite (I.remaining items.old) }
-        // On success the items ended, and each was interned.
+        // On success the items ended, and each was interned in order.
         ensures filled { OnOk result ((xs : List T) × YieldsThen I.next_gives items.old xs None items.new
             × InternsEach K.key_at self.old (map T.text xs) self.new) }
 
-        // On failure the items before the refused one are interned, and the iterator stands right after that one.
+        // On failure the items before the refused one are interned, that one changed nothing, and the iterator stands right after it. The
+        // error is that of `try_get_or_intern` for it: no key left comes before the limit, and the limit before memory.
         ensures refused { IfErr result (λ error. (xs : List T) × Yields I.next_gives items.old xs items.new
             × StopsAtRefusal K.key_at self.old (map T.text xs) error self.new) }
     {
@@ -170,11 +172,12 @@ impl<K: Key, S: BuildHasher + Default + Drop, A: Allocator + Clone> Rodeo<K, S, 
         items: I,
     ) -> LassoResult<Self>
         requires { (it : I.IntoIter) → I.into_iter_gives items it → I.IntoIter.can_next it × IsFinite (I.IntoIter.remaining it) }
-        // On success the items ended, and each was interned into a new interner.
+        // On success the items ended, and each was interned in order into a new interner: of 4096 bytes in its first bucket, without a limit.
         ensures filled { IfOk result (λ r. (it : I.IntoIter) × I.into_iter_gives items it
             × InternsItems I.IntoIter.next_gives T.text K.key_at it (made_with 4096 (2 ^ 64 - 1)) r) }
 
-        // On failure memory ran out for the new interner, or an item was refused as by `extend`.
+        // On failure memory ran out for the new interner, or an item was refused as by `extend`, after those before it were interned. The
+        // interner that is left then is dropped.
         ensures refused { IfErr result (λ error. (error ≡ FailedAllocation) ⊎ ((it : I.IntoIter) × I.into_iter_gives items it
             × ((left : InternerView) × StopsAtItem I.IntoIter.next_gives T.text K.key_at it (made_with 4096 (2 ^ 64 - 1)) error left))) }
     {

@@ -42,7 +42,7 @@ impl<K: Key, S: BuildHasher, A: Allocator + Clone> Rodeo<K, S, A> {
         // What stays in each case: the first bucket's size, and the record of clears
         ensures origin { KeepsOrigin self.old self.new }
 
-        // On failure texts and account stay. No key left comes before the limit, and the limit before memory, which may run out at any time.
+        // On failure nothing changes. No key left comes before the limit, and the limit before memory, which runs out only for an absent text.
         ensures unchanged { OnErr result (self.new ≡ self.old) }
         ensures no_key { (result ≡ Err KeySpaceExhaustion) ↔ (IsAbsent self.old text.now × (next_key K.key_at self.old ≡ None)) }
         ensures limit { (result ≡ Err MemoryLimitReached)
@@ -120,7 +120,7 @@ impl<K: Key, S: BuildHasher, A: Allocator + Clone> Rodeo<K, S, A> {
         // What stays in each case: the first bucket's size, and the record of clears
         ensures origin { KeepsOrigin self.old self.new }
 
-        // On failure texts and account stay. No key left comes before the limit, and the limit before memory, which may run out at any time.
+        // On failure nothing changes. No key left comes before the limit, and the limit before memory, which runs out only for an absent text.
         ensures unchanged { OnErr result (self.new ≡ self.old) }
         ensures no_key { (result ≡ Err KeySpaceExhaustion) ↔ (IsAbsent self.old text.now × (next_key K.key_at self.old ≡ None)) }
         ensures limit { (result ≡ Err MemoryLimitReached)
@@ -153,12 +153,12 @@ impl<K: Key, S: BuildHasher, A: Allocator + Clone> Rodeo<K, S, A> {
         ensures present { IsPresent self.old text.now → IsOk result × (self.new ≡ self.old) }
         ensures appended { IsAbsent self.old text.now → OnOk result (self.new.texts ≡ self.old.texts ++ text.now ∷ []) }
 
-        // What stays in each case: no byte is copied.
+        // What stays in each case: the account, since no byte is copied; the first bucket's size, and the record of clears
         ensures account { self.new.account ≡ self.old.account }
         ensures copied { self.new.copied ≡ self.old.copied }
         ensures origin { KeepsOrigin self.old self.new }
 
-        // On failure texts and account stay. No key left comes before memory, which may run out at any time; the limit is never the error.
+        // On failure nothing changes. No key left comes before memory, which runs out only for an absent text; the limit is never the error.
         ensures unchanged { OnErr result (self.new ≡ self.old) }
         ensures no_key { (result ≡ Err KeySpaceExhaustion) ↔ (IsAbsent self.old text.now × (next_key K.key_at self.old ≡ None)) }
         ensures no_limit { result ≢ Err MemoryLimitReached }
@@ -206,12 +206,12 @@ impl<K: Key, S: BuildHasher, A: Allocator + Clone> Rodeo<K, S, A> {
         ensures present { IsPresent self.old text.now → IsOk result × (self.new ≡ self.old) }
         ensures appended { IsAbsent self.old text.now → OnOk result (self.new.texts ≡ self.old.texts ++ text.now ∷ []) }
 
-        // What stays in each case: no byte is copied.
+        // What stays in each case: the account, since no byte is copied; the first bucket's size, and the record of clears
         ensures account { self.new.account ≡ self.old.account }
         ensures copied { self.new.copied ≡ self.old.copied }
         ensures origin { KeepsOrigin self.old self.new }
 
-        // On failure texts and account stay. No key left comes before memory, which may run out at any time; the limit is never the error.
+        // On failure nothing changes. No key left comes before memory, which runs out only for an absent text; the limit is never the error.
         ensures unchanged { OnErr result (self.new ≡ self.old) }
         ensures no_key { (result ≡ Err KeySpaceExhaustion) ↔ (IsAbsent self.old text.now × (next_key K.key_at self.old ≡ None)) }
         ensures no_limit { result ≢ Err MemoryLimitReached }

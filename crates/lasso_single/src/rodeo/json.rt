@@ -46,12 +46,15 @@ impl<K: Key, S: BuildHasher + Default + Drop, A: Allocator + Clone> Rodeo<K, S, 
     /// assert!(rt; first.into_usize() == 0);
     /// ```
     pub fn deserialize(alloc: A, value: &Value) -> Result<Self, JsonError>
-        // On success it has the texts that the value is read as, in one bucket of their bytes.
+        // On success it has the texts that the value is read as, in one bucket of their bytes (4096 if they have none), without a limit. Its
+        // first bucket is that one, all bytes are copied, and it was never cleared.
         ensures texts { IfOk result (λ r. read_array K.key_at true (view value.now) ≡ Ok r.texts) }
         ensures account { IfOk result (λ r. read_of r.texts ≡ Some r.account) }
         ensures made { IfOk result (λ r. IsMadeWith (clone_size r.texts) (bytes_of r.texts) r) }
 
-        // On failure the error is what is wrong with the value, or memory ran out.
+        // On failure the error is the first of these: the value is no array (`NotAnArray`); or of the first faulty item, it is no text
+        // (`NotText`), an earlier item has its text (`Doubled`), or its position has no key (`TooMany`). Memory may run out (`Lasso`) in
+        // place of any, but not if the value is no array or its first item is faulty. It does if a `usize` can't count the texts' bytes.
         ensures fault { IfErr result (λ error. (read_array K.key_at true (view value.now) ≡ Err error) ⊎ IsOutOfMemory K.key_at true (view value.now) error) }
         ensures overflow { RefusesUncountableBytes K.key_at true (view value.now) result }
 
