@@ -31,7 +31,7 @@ mod together;
 use crate::shards::shard::{BoxedShard, BoxedTally};
 use lasso_lock::locks::{TaggedMutex, TaggedRwLock};
 use lasso_log::log::Log;
-use lasso_log::log::bucket_list::BucketList;
+use lasso_log::log::buckets::list::BucketList;
 use lasso_parts::keys::Key;
 use std::alloc::Global;
 use std::hash::BuildHasher;
