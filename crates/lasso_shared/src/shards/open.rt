@@ -10,7 +10,7 @@ ghost use Rattle.lasso_shared.specs.OpenedTexts.{opened_with_copies};
 mod from_static;
 
 use crate::shards::Shards;
-use crate::shards::building::NewShards;
+use crate::shards::new_shards::NewShards;
 use crate::shards::shard::BoxedTally;
 use crate::shards::tag::ShardTag;
 use lasso_lock::locks::TaggedMutex;
