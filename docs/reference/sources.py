@@ -14,7 +14,7 @@ from common import read, used_crates  # noqa: E402
 # An example of a program.
 LEFT_OUT = "lasso_saving"
 IMPORT = re.compile(r"^ *(?:ghost )?use (?:Rattle\.)?([\w.]+?)\.(?:\{([^}]*)\}|(\w+))(?: as (\w+))?;?$", re.MULTILINE)
-MODULE = re.compile(r"^(pub )?mod (\w+);", re.MULTILINE)
+MODULE = re.compile(r"^(?:(pub )|pub\(\w+\) )?mod (\w+);", re.MULTILINE)
 EXPORT = re.compile(r"^pub use (?:crate::|self::|super::)?([\w:]+?)(?:::)?(?:\{([^}]*)\}|(?<=::)(\w+))?;", re.MULTILINE)
 ITEM = re.compile(
     r"^(?P<indent> {0,4})(?P<how>(?:pub(?:\(\w+\))? |const |unsafe |final |extern \"C\" |default )*)"

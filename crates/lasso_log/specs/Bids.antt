@@ -4,7 +4,7 @@ use mathlib.Core.List.{IsPrefix}
 use Rattle.logbook.specs.Pages.{Book, Nib, may_write}
 use Rattle.lasso_log.specs.Notes.{NoteView, first_note, IsOpened, IsWord, opening_of, notes_of, ticket_of}
 use Rattle.lasso_log.specs.Book.{IsIn, Moving, May, Lets}
-use Rattle.lasso_log.specs.declared.log.charging.Bid.{Bid}
+use Rattle.lasso_log.specs.declared.log.buckets.bid.Bid.{Bid}
 
 -- What a pass has in hand that offers a bucket while the turn word has another value than the one that it
 -- waits for: the note may be added while the turn word has its old value. `before` is what the note's pass

@@ -3,8 +3,8 @@ use Rattle.std.specs.Prelude.{◌≡◌, ℕ, List, [], ◌∷◌, Option, Some,
 use Rattle.lasso_log.specs.History.{Event, Totals, counted}
 use Rattle.lasso_log.specs.Notes.{NoteView, no_totals, lent_by}
 use Rattle.lasso_log.specs.LentBuckets.{Site, LentBucket}
-use Rattle.lasso_log.specs.declared.log.note.Change.{Change}
-use Rattle.lasso_log.specs.declared.log.note.Change.TheVariants.{Append, Limit}
+use Rattle.lasso_log.specs.declared.log.book.note.Change.{Change}
+use Rattle.lasso_log.specs.declared.log.book.note.Change.TheVariants.{Append, Limit}
 
 -- the event that a change stands for
 abbrev pub event_of : Change → Event

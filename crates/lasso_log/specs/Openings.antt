@@ -7,7 +7,7 @@ use Rattle.lasso_log.specs.Events.{bucket_at}
 use Rattle.lasso_log.specs.History.{Totals, opened}
 use Rattle.lasso_log.specs.LentBuckets.{LentBucket}
 use Rattle.lasso_log.specs.Notes.{NoteView, opening_note, lent_coded}
-use Rattle.lasso_log.specs.declared.log.new_book.First.{First}
+use Rattle.lasso_log.specs.declared.log.opening.new_book.First.{First}
 
 -- texts, and the bucket of those of them that were copied
 pub record OpeningView : Type 0 where

@@ -3,9 +3,9 @@ use Rattle.lasso_log.specs.Chunks.{first_number}
 use Rattle.lasso_log.specs.Events.{event_of, note_of, note_in, bucket_at}
 use Rattle.lasso_log.specs.History.{Reserve, Charge}
 use Rattle.lasso_log.specs.Notes.{NoteView}
-use Rattle.lasso_log.specs.declared.log.ticket.Proposal.{Proposal}
-use Rattle.lasso_log.specs.declared.log.ticket.BytesAsked.{BytesAsked}
-use Rattle.lasso_log.specs.declared.log.ticket.BucketAsked.{BucketAsked}
+use Rattle.lasso_log.specs.declared.log.book.proposals.Proposal.{Proposal}
+use Rattle.lasso_log.specs.declared.log.book.proposals.BytesAsked.{BytesAsked}
+use Rattle.lasso_log.specs.declared.log.book.proposals.BucketAsked.{BucketAsked}
 
 -- the note of a proposed change
 abbrev pub note_proposed : {A : Type 0} → Proposal A → NoteView

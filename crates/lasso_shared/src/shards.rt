@@ -9,29 +9,29 @@ ghost use Rattle.std.specs.Prelude.{◌≡◌, ◌<◌, ℕ, length, Some, slice
 ghost use Rattle.lasso_log.specs.SharedBuckets.{names_with_book};
 ghost use Rattle.lasso_log.specs.Views.{InternerId};
 
-mod ahead;
+mod append;
 mod batches;
-mod building;
-mod current;
+mod compare_with_spine;
 mod guesses;
 mod intern;
+mod intern_together;
 mod limits;
-mod look;
+mod look_ahead;
+mod look_up;
 mod memory;
+mod new_shards;
 pub mod new_text;
-mod now;
 mod open;
 pub mod parts;
-mod put;
 pub mod shard;
 mod store;
 pub mod tag;
-mod together;
+mod without_waiting;
 
 use crate::shards::shard::{BoxedShard, BoxedTally};
 use lasso_lock::locks::{TaggedMutex, TaggedRwLock};
 use lasso_log::log::Log;
-use lasso_log::log::bucket_list::BucketList;
+use lasso_log::log::buckets::list::BucketList;
 use lasso_parts::keys::Key;
 use std::alloc::Global;
 use std::hash::BuildHasher;

@@ -17,12 +17,12 @@ mod from_static;
 mod interning;
 mod json;
 mod limits;
-mod looking;
 mod makers;
 mod memory;
-mod now;
 mod plain;
+mod reading;
 mod walking;
+mod without_waiting;
 
 use crate::shards::Shards;
 use lasso_log::log::Pass;

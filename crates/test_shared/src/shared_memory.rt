@@ -6,8 +6,8 @@ use crate::checks::is_so;
 use Step::{
     Finds, Fits, FitsAnywhere, HasBucket, HasBuckets, HasCounted, SetsLimit, Stores, Uses, Walks,
 };
-use lasso_log::log::bucket::SharedBucket;
-use lasso_log::log::bucket_list::BucketList;
+use lasso_log::log::buckets::SharedBucket;
+use lasso_log::log::buckets::list::BucketList;
 use lasso_log::log::{Log, NewLog, OpeningTexts, Pass, Spine};
 use lasso_log::shared_memory::era::Era;
 use lasso_log::shared_memory::piece::{Piece, Range};

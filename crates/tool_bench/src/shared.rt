@@ -10,7 +10,7 @@ use crate::timing::{
     ROUNDS, Table, Tenths, elapsed_since, least, started, tenths_if, tenths_if_all, tenths_of,
 };
 use anyhow::{Result, bail};
-use lasso_log::log::bucket::SharedBucket;
+use lasso_log::log::buckets::SharedBucket;
 use lasso_log::log::{Log, NewLog, Opened, OpeningTexts, Pass, Spine};
 use lasso_log::shared_memory::piece::Piece;
 use lasso_parts::keys::{Key, Spur};

@@ -1,11 +1,8 @@
 //! The memory that the texts of an interner are in. Used by the log and by its opening.
 use crate::chunks::Chunks;
-use crate::log::rule::StoredText;
-use crate::log::shared_log::Log;
+use crate::log::book::rule::StoredText;
 use crate::shared_memory::holding::Holdings;
 use lasso_lock::locks::TaggedMutex;
-use lasso_parts::keys::Key;
-use std::alloc::{AllocError, Global};
 use std::marker::Model;
 
 /// The chunks of an interner, and what is owned of its buckets. A contract sees the names of the chunks.
@@ -26,18 +23,6 @@ impl Model for TextMemory {
     ghost view = { λ m. m.chunks };
 
     ghost invariant = { λ m. m.holdings.id ≡ era_named m.chunks };
-}
-
-impl<K: Key> Log<K> {
-    /// Makes the missing cells of the first `count` texts. Out of memory, the cells made by then stay.
-    pub fn make_cells(&self, alloc: Global, count: u64) -> Result<(), AllocError> {
-        self.memory.chunks.make_cells(alloc, count)
-    }
-
-    /// The number of cells made, from the first on. It takes no memory and does not wait.
-    pub fn cells(&self) -> u64 {
-        self.memory.chunks.cells()
-    }
 }
 
 // Ends the era, so that nobody reads the buckets any more, and then frees each of them.

@@ -11,12 +11,14 @@ ghost use Rattle.lasso_log.specs.Openings.{OpeningView, opening_with};
 ghost use Rattle.lasso_log.specs.SharedBuckets.{SharedView};
 ghost use Rattle.lasso_log.specs.Views.{InternerId, SpineView};
 
+mod new_book;
+
 use crate::chunks::facts::Lines;
 use crate::chunks::{Chunk, Chunks};
-use crate::log::bucket::SharedBucket;
+use crate::log::book::rule::StoredText;
+use crate::log::buckets::SharedBucket;
 use crate::log::memory::TextMemory;
-use crate::log::new_book::{First, NewBook};
-use crate::log::rule::StoredText;
+use crate::log::opening::new_book::{First, NewBook};
 use crate::log::shared_log::Log;
 use crate::log::spine::Spine;
 use crate::shared_memory::era::Era;

@@ -5,11 +5,15 @@ ghost use Rattle.lasso_log.specs.History.{IsLegal, IsOpening};
 ghost use Rattle.lasso_log.specs.Notes.{Since, opening_of, notes_of, IsOpened};
 ghost use Rattle.lasso_log.specs.Views.{PassView, seen, IsSamePass};
 
-use crate::log::hints::Hints;
-use crate::log::look::look;
-use crate::log::note::Note;
-use crate::log::rule::LogRule;
-use crate::log::ticket::Ticket;
+pub(super) mod hints;
+mod meeting;
+pub(super) mod ticket;
+
+use crate::log::book::looks::look;
+use crate::log::book::note::Note;
+use crate::log::book::rule::LogRule;
+use crate::log::pass::hints::Hints;
+use crate::log::pass::ticket::Ticket;
 use boxcar::tag::Tag;
 use lasso_parts::keys::Key;
 use logbook::{Seen, Word};
@@ -83,26 +87,6 @@ impl<K: Key> Pass<K> {
         self.seen.learn(given);
         let mut later = self.seen.again();
         look(&mut later, &mut self.ticket.pen);
-    }
-
-    /// Afterwards it has seen what either had. It adds no event, takes no memory and does not wait.
-    ///
-    /// ```rust
-    /// let rodeo: SpurThreadedRodeo = ThreadedRodeo::default(rt.alloc())?;
-    /// let mut first = rodeo.pass();
-    /// let key = rodeo.try_get_or_intern_as(&rt, &mut first, "Hello, world!")?;
-    /// let mut second = rodeo.pass();
-    /// second.meet(&first);
-    /// assert!(rt; rodeo.try_resolve_as(&mut second, key) == Some("Hello, world!"));
-    /// ```
-    pub fn meet(&mut self, other: &Pass<K>)
-        requires { self.old.of ≡ other.now.of }
-        ensures same { IsSamePass self.new self.old }
-        ensures since { Since self.old.number self.old.notes self.new.notes [] }
-        ensures other { IsPrefix other.now.notes self.new.notes }
-        ensures legal { IsLegal K.key_at self.new.of.opening (seen self.new) }
-    {
-        self.learn_seen(&other.seen);
     }
 
     /// Does nothing. Contracts learn that of two passes of one interner one has seen a prefix of what the

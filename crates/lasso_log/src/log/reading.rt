@@ -5,9 +5,9 @@ ghost use Rattle.lasso_log.specs.Chunks.{era_named};
 ghost use Rattle.lasso_log.specs.Notes.{Since, texts_in};
 ghost use Rattle.lasso_log.specs.Views.{PassView, InternerId, SnapshotView, IsSamePass, list_of};
 
-use crate::log::note::Note;
+use crate::log::book::note::Note;
+use crate::log::book::rule::LogRule;
 use crate::log::pass::Pass;
-use crate::log::rule::LogRule;
 use crate::log::shared_log::Log;
 use crate::log::snapshot::Snapshot;
 use crate::shared_memory::era::Era;

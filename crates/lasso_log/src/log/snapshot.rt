@@ -6,9 +6,13 @@ ghost use Rattle.lasso_log.specs.History.{IsLegal, IsOpening};
 ghost use Rattle.lasso_log.specs.Notes.{Since, history, opening_of, notes_of, IsOpened};
 ghost use Rattle.lasso_log.specs.Views.{InternerId, SnapshotView, IsSamePass, seen};
 
-use crate::log::note::Note;
+pub mod known_list;
+pub mod seen_list;
+pub mod seen_texts;
+
+use crate::log::book::note::Note;
+use crate::log::book::rule::LogRule;
 use crate::log::pass::Pass;
-use crate::log::rule::LogRule;
 use crate::log::shared_log::Log;
 use lasso_parts::keys::Key;
 use logbook::Seen;

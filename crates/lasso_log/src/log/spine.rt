@@ -10,14 +10,17 @@ ghost use base.Fml.{Incl};
 ghost use Rattle.lasso_log.specs.Eras.{life};
 ghost use Rattle.lasso_log.specs.Chunks.{IsCellAt, era_named};
 
-use crate::log::cells_ahead::{AHEAD, CellsAhead};
-use crate::log::kept_cell::KeptCell;
-use crate::log::note::{Change, Note};
+mod limits;
+pub(super) mod turns;
+
+use crate::log::book::note::{Change, Note};
+use crate::log::book::proposals::CellProof;
+use crate::log::book::rule::{LogRule, StoredText};
+use crate::log::cells::ahead::{AHEAD, CellsAhead};
+use crate::log::cells::kept::KeptCell;
 use crate::log::pass::Pass;
-use crate::log::rule::{LogRule, StoredText};
 use crate::log::shared_log::{Exchange, Log};
-use crate::log::ticket::CellProof;
-use crate::log::turns::Turns;
+use crate::log::spine::turns::Turns;
 use lasso_parts::keys::Key;
 use lasso_parts::util::{LassoError, LassoErrorKind, LassoResult};
 use logbook::Seen;

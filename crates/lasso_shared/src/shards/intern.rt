@@ -42,12 +42,12 @@ impl<K: Key, S: BuildHasher + Drop> Shards<K, S> {
         ensures call { IsPassCall K.key_at self.now.log pass.old pass.new (intern_of text.entry) (Interned result) }
         ensures held { IsLocked (hash_by S.BuildHasher S.Hasher.Hasher self.now.hasher) (shard_of hash) self.now.log shard.new }
     {
-        if let Some(key) = self.find(shard, pass, hash, text.as_str()) {
+        if let Some(key) = self.key_in_shard(shard, pass, hash, text.as_str()) {
             return Ok(key);
         }
         let ahead = self.make_room(rt, shard, pass, number_of(hash))?;
         let piece = self.store(rt, shard, pass, hash, text)?;
-        self.put_last(rt, shard, pass, ahead, hash, piece)
+        self.append_current(rt, shard, pass, ahead, hash, piece)
     }
 
     // Interns a text that the first look-up did not find. It is not inlined, so that a call with a present text sets up
@@ -81,7 +81,7 @@ impl<K: Key, S: BuildHasher + Drop> Shards<K, S> {
     {
         let letters = text.as_str();
         let hash = hash_text(&self.hasher, letters);
-        if let Some(key) = self.peek(rt, pass, hash, letters) {
+        if let Some(key) = self.key_by_hint_or_read_lock(rt, pass, hash, letters) {
             return Ok(key);
         }
         self.intern_new(rt, pass, hash, text)
@@ -94,7 +94,7 @@ impl<K: Key, S: BuildHasher + Drop> Shards<K, S> {
     {
         let letters = text.as_str();
         let hash = hash_text(&self.hasher, letters);
-        if let Some(key) = self.glance(rt, hash, letters) {
+        if let Some(key) = self.key_under_read_lock_once(rt, hash, letters) {
             return Ok(key);
         }
         let mut pass = self.log.pass();

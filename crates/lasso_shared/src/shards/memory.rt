@@ -3,7 +3,7 @@ use crate::shards::Shards;
 use crate::shards::tag::SHARDS;
 use boxcar::slot::OnceSlot;
 use lasso_log::chunks::Any;
-use lasso_log::log::rule::StoredText;
+use lasso_log::log::book::rule::StoredText;
 use lasso_parts::keys::Key;
 use std::hash::BuildHasher;
 use std::mem::size_of;

@@ -10,11 +10,11 @@ ghost use Rattle.lasso_shared.specs.OpenedTexts.{opened_with_copies};
 mod from_static;
 
 use crate::shards::Shards;
-use crate::shards::building::NewShards;
+use crate::shards::new_shards::NewShards;
 use crate::shards::shard::BoxedTally;
 use crate::shards::tag::ShardTag;
 use lasso_lock::locks::TaggedMutex;
-use lasso_log::log::bucket_list::BucketList;
+use lasso_log::log::buckets::list::BucketList;
 use lasso_log::log::{Log, NewLog, Opened, OpeningTexts};
 use lasso_parts::keys::Key;
 use lasso_parts::util::LassoResult;

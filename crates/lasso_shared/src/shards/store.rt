@@ -65,7 +65,7 @@ impl<K: Key, S: BuildHasher + Drop> Shards<K, S> {
 
     // Copies a text into a bucket of the history. The spine is locked. It is refused as `reserve_or_charge_now` refuses its bytes,
     // and returns `None` as that does. An empty text has no bytes.
-    pub(super) fn store_now(
+    pub(super) fn store_with_spine_now(
         &self,
         tally: &mut Tally<K, S>,
         pass: &mut Pass<K>,
@@ -93,7 +93,7 @@ impl<K: Key, S: BuildHasher + Drop> Shards<K, S> {
     }
 
     // Does the same, and waits while others are in the way.
-    pub(super) fn store_held<R: Wait>(
+    pub(super) fn store_with_spine<R: Wait>(
         &self,
         rt: &R,
         tally: &mut Tally<K, S>,
@@ -110,7 +110,7 @@ impl<K: Key, S: BuildHasher + Drop> Shards<K, S> {
         ensures err { OnErr result (Since pass.old.number pass.old.notes pass.new.notes []) }
     {
         for _ in rt.forever() {
-            if let Some(reply) = self.store_now(tally, pass, text) {
+            if let Some(reply) = self.store_with_spine_now(tally, pass, text) {
                 return reply;
             }
             spin_loop();
@@ -150,8 +150,8 @@ impl<K: Key, S: BuildHasher + Drop> Shards<K, S> {
         if let Some(range) = self.log.reserve_anywhere(rt, &self.buckets, pass, bytes) {
             return Ok(range.fill(self.log.era(), text));
         }
-        let (guard, mut held) = self.lock_current(rt, shard, pass, number_of(hash));
-        let piece = self.store_held(rt, &mut held.tally, pass, text);
+        let (guard, mut held) = self.lock_spine_when_current(rt, shard, pass, number_of(hash));
+        let piece = self.store_with_spine(rt, &mut held.tally, pass, text);
         guard.unlock(rt, held);
         piece
     }

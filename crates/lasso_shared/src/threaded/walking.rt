@@ -12,7 +12,7 @@ mod debug;
 
 use crate::threaded::ThreadedRodeo;
 use lasso_log::log::Pass;
-use lasso_log::log::seen_texts::SeenTexts;
+use lasso_log::log::snapshot::seen_texts::SeenTexts;
 use lasso_parts::keys::Key;
 use std::hash::BuildHasher;
 use std::iter::FusedIterator;

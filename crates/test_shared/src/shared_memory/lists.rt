@@ -6,7 +6,7 @@ use crate::shared_memory::Step::{
 };
 use crate::shared_memory::{Step, bucket_at, fits_anywhere, opens, run_steps, stores};
 use lasso_log::chunks::Chunks;
-use lasso_log::log::bucket_list::BucketList;
+use lasso_log::log::buckets::list::BucketList;
 use lasso_log::log::{Log, Spine};
 use lasso_parts::keys::Spur;
 use lasso_parts::util::LassoResult;

@@ -4,9 +4,9 @@ use Rattle.lasso_shared.proofs.shards.Shards.get_now.Goals as goal
 
 pub returns-clause-call : goal.returns-clause-call
 returns-clause-call g c =
-    let found = c.get_locked_now.ensures in
-    let since = since_both c.args.pass.now.number c.follow.new.pass.number c.args.pass.now.notes c.follow.new.pass.notes c.get_locked_now.new.pass.notes c.follow.ensures.same.0 c.follow.ensures.since found.since in
-    got_if g.K.Key.key_at c.args.self.now.log c.args.pass.now.number c.args.pass.now.notes c.get_locked_now.new.pass.notes c.args.text.now c.get_locked_now.result since found.found
+    let found = c.get_under_read_lock_now.ensures in
+    let since = since_both c.args.pass.now.number c.key_by_hint.new.pass.number c.args.pass.now.notes c.key_by_hint.new.pass.notes c.get_under_read_lock_now.new.pass.notes c.key_by_hint.ensures.same.0 c.key_by_hint.ensures.since found.since in
+    got_if g.K.Key.key_at c.args.self.now.log c.args.pass.now.number c.args.pass.now.notes c.get_under_read_lock_now.new.pass.notes c.args.text.now c.get_under_read_lock_now.result since found.found
 
 pub returns-clause-busy : goal.returns-clause-busy
-returns-clause-busy g c = λ none. since_both c.args.pass.now.number c.follow.new.pass.number c.args.pass.now.notes c.follow.new.pass.notes c.get_locked_now.new.pass.notes c.follow.ensures.same.0 c.follow.ensures.since c.get_locked_now.ensures.since
+returns-clause-busy g c = λ none. since_both c.args.pass.now.number c.key_by_hint.new.pass.number c.args.pass.now.notes c.key_by_hint.new.pass.notes c.get_under_read_lock_now.new.pass.notes c.key_by_hint.ensures.same.0 c.key_by_hint.ensures.since c.get_under_read_lock_now.ensures.since

@@ -25,8 +25,8 @@ returns g c =
     let pass = c.pass-pass.result in
     let o = c.args.self.now.log.opening in
     let learned = c.learn.new.self in
-    let after = c.wait_current.new.pass in
-    let since : Since pass.number pass.notes after.notes [] = since_both pass.number learned.number pass.notes learned.notes after.notes c.learn.ensures.same.0 c.learn.ensures.since c.wait_current.ensures.since in
+    let after = c.wait_until_current.new.pass in
+    let since : Since pass.number pass.notes after.notes [] = since_both pass.number learned.number pass.notes learned.notes after.notes c.learn.ensures.same.0 c.learn.ensures.since c.wait_until_current.ensures.since in
     let hash_of = hash_by g.S.BuildHasher g.S.Hasher.Hasher c.args.self.now.hasher in
     let log = c.args.self.now.log in
     let known = c.deref-shard.result.now.known.notes in
@@ -34,8 +34,8 @@ returns g c =
     let mine : c.read-guard.result.tag.log ≡ log = ap (λ tag. tag.log) c.read-guard.ensures ∙ c.lock.ensures.0 in
     let distinct : IsDistinct (list_of log known) = rw (c.deref-shard.ensures, sym mine) c.get.ensures.1.exact.distinct in
     let lacks : Lacks (list_of log after.notes) t =
-    still_lacks hash_of c.hash_text-hash.result c.number_of-2.result log known after.notes t c.wait_current.ensures.whole c.hash_text-hash.ensures c.number_of-2.ensures.0 distinct c.in_default.ensures.missing in
-    let of : after.of ≡ c.args.self.now.log = c.wait_current.ensures.same.1 ∙ (c.learn.ensures.same.1 ∙ c.pass-pass.ensures.of) in
+    still_lacks hash_of c.hash_text-hash.result c.number_of-2.result log known after.notes t c.wait_until_current.ensures.whole c.hash_text-hash.ensures c.number_of-2.ensures.0 distinct c.in_default.ensures.missing in
+    let of : after.of ≡ c.args.self.now.log = c.wait_until_current.ensures.same.1 ∙ (c.learn.ensures.same.1 ∙ c.pass-pass.ensures.of) in
     let legal : IsLegal g.K.Key.key_at o (history after.notes) = subst (λ (x : InternerId). IsLegal g.K.Key.key_at x.opening (history after.notes)) of c.prove_legal.ensures.legal in record {
       call = plain g.K.Key.key_at o pass.number pass.notes after.notes (Get c.args.text.now) (Found None) c.pass-pass.ensures.notes
           (got g.K.Key.key_at o pass.number pass.notes after.notes c.args.text.now None since (ap (option_and_then g.K.Key.key_at) (sym lacks))) legal;

@@ -13,6 +13,6 @@ returns-clause-call g c =
     let q = intern_of c.args.text in
     let after = seen c.intern_new.new.pass in
     let r = c.intern_new.result in
-    let call : IsCall g.K.Key.key_at o (seen c.peek.new.pass) after p q (Interned r) =
-    subst (λ (n : ℕ). IsCall g.K.Key.key_at o (seen c.peek.new.pass) after n q (Interned r)) c.peek.ensures.same.0 c.intern_new.ensures.call in
-    called_later g.K.Key.key_at o p c.args.pass.now.notes c.peek.new.pass.notes after q (Interned r) c.peek.ensures.since call
+    let call : IsCall g.K.Key.key_at o (seen c.key_by_hint_or_read_lock.new.pass) after p q (Interned r) =
+    subst (λ (n : ℕ). IsCall g.K.Key.key_at o (seen c.key_by_hint_or_read_lock.new.pass) after n q (Interned r)) c.key_by_hint_or_read_lock.ensures.same.0 c.intern_new.ensures.call in
+    called_later g.K.Key.key_at o p c.args.pass.now.notes c.key_by_hint_or_read_lock.new.pass.notes after q (Interned r) c.key_by_hint_or_read_lock.ensures.since call

@@ -18,7 +18,7 @@ use Rattle.lasso_shared.proofs.shards.Shards.intern_held.Goals as goal
 
 pub returns-in_err-ahead-clause-call : goal.returns-in_err-ahead-clause-call
 returns-in_err-ahead-clause-call g c =
-    let since = since_both c.args.pass.now.number c.find.new.pass.number c.args.pass.now.notes c.find.new.pass.notes c.make_room.new.pass.notes c.find.ensures.same.0 c.find.ensures.since c.make_room.ensures.since in
+    let since = since_both c.args.pass.now.number c.key_in_shard.new.pass.number c.args.pass.now.notes c.key_in_shard.new.pass.notes c.make_room.new.pass.notes c.key_in_shard.ensures.same.0 c.key_in_shard.ensures.since c.make_room.ensures.since in
     let hash_of = hash_by g.S.BuildHasher g.S.Hasher.Hasher c.args.self.now.hasher in
     let t = text_of c.args.text in
     let log = c.args.self.now.log in
@@ -29,32 +29,32 @@ returns-in_err-ahead-clause-call g c =
 
 pub returns-clause-call : goal.returns-clause-call
 returns-clause-call g c =
-    let since = since_both c.args.pass.now.number c.find.new.pass.number c.args.pass.now.notes c.find.new.pass.notes c.make_room.new.pass.notes c.find.ensures.same.0 c.find.ensures.since c.make_room.ensures.since in
+    let since = since_both c.args.pass.now.number c.key_in_shard.new.pass.number c.args.pass.now.notes c.key_in_shard.new.pass.notes c.make_room.new.pass.notes c.key_in_shard.ensures.same.0 c.key_in_shard.ensures.since c.make_room.ensures.since in
     let p = c.args.pass.now.number in
     let log = c.args.self.now.log in
     let t = text_of c.args.text in
     let before = c.args.pass.now.notes in
     let mid = c.make_room.new.pass.notes in
     let filled = c.store.new.pass.notes in
-    let after = c.put_last.new.pass.notes in
-    let r = c.put_last.result in
+    let after = c.append_current.new.pass.notes in
+    let r = c.append_current.result in
     let piece = c.in_ok-piece.piece in
     let stored = c.in_ok-piece.ensures.event in
-    let same : c.make_room.new.pass.number ≡ p = c.make_room.ensures.same.0 ∙ c.find.ensures.same.0 in
+    let same : c.make_room.new.pass.number ≡ p = c.make_room.ensures.same.0 ∙ c.key_in_shard.ensures.same.0 in
     let event : Since p before filled stored.0 = since_trans p before mid filled stored.0 since (subst (λ (n : ℕ). Since n mid filled stored.0) same stored.2) in
     let put : PutsLast g.K.Key.key_at log p filled after t r =
-    subst (λ (x : Text). PutsLast g.K.Key.key_at log p filled after x r) c.in_ok-piece.ensures.piece.0 (subst (λ (n : ℕ). PutsLast g.K.Key.key_at log n filled after piece.text r) (c.store.ensures.same.0 ∙ same) c.put_last.ensures.put) in
+    subst (λ (x : Text). PutsLast g.K.Key.key_at log p filled after x r) c.in_ok-piece.ensures.piece.0 (subst (λ (n : ℕ). PutsLast g.K.Key.key_at log n filled after piece.text r) (c.store.ensures.same.0 ∙ same) c.append_current.ensures.put) in
     called_put g.K.Key.key_at log p (keeping_of c.args.text) before filled after stored.0 t r event stored.1 put
 
 pub returns-in_err-piece-clause-call : goal.returns-in_err-piece-clause-call
 returns-in_err-piece-clause-call g c =
-    let since = since_both c.args.pass.now.number c.find.new.pass.number c.args.pass.now.notes c.find.new.pass.notes c.make_room.new.pass.notes c.find.ensures.same.0 c.find.ensures.since c.make_room.ensures.since in
+    let since = since_both c.args.pass.now.number c.key_in_shard.new.pass.number c.args.pass.now.notes c.key_in_shard.new.pass.notes c.make_room.new.pass.notes c.key_in_shard.ensures.same.0 c.key_in_shard.ensures.since c.make_room.ensures.since in
     let p = c.args.pass.now.number in
     let o = c.args.self.now.log.opening in
     let q = Intern (keeping_of c.args.text) (text_of c.args.text) in
     let r = Interned (Err c.in_err-piece.field-0.0) in
     let after = seen c.store.new.pass in
-    let same : c.make_room.new.pass.number ≡ p = c.make_room.ensures.same.0 ∙ c.find.ensures.same.0 in
+    let same : c.make_room.new.pass.number ≡ p = c.make_room.ensures.same.0 ∙ c.key_in_shard.ensures.same.0 in
     let call : IsCall g.K.Key.key_at o (seen c.make_room.new.pass) after p q r = subst (λ (n : ℕ). IsCall g.K.Key.key_at o (seen c.make_room.new.pass) after n q r) same c.in_err-piece.ensures.refused in
     let from = err_from_is_err_and c.from_residual-in_err-piece.result c.from_residual-in_err-piece.ensures.1 in
     rw (from.1, from.2) (called_later g.K.Key.key_at o p c.args.pass.now.notes c.make_room.new.pass.notes after q r since call)

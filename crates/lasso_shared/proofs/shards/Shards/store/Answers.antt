@@ -51,18 +51,18 @@ pub returns-clause-event : goal.returns-clause-event
 returns-clause-event g c =
     let p = c.args.pass.now.number in
     let first = c.reserve_anywhere.ensures in
-    let w = c.lock_current-guard in
+    let w = c.lock_spine_when_current-guard in
     let mid = w.new.pass.notes in
     let since = since_both p c.reserve_anywhere.new.pass.number c.args.pass.now.notes c.reserve_anywhere.new.pass.notes mid first.same.0 c.in_default.ensures.none w.ensures.since in
-    rw c.in-Copied.is (stores_later p w.new.pass.number c.args.pass.now.notes mid c.store_held-piece.new.pass.notes c.in-Copied.text.now c.store_held-piece.result (w.ensures.same.0 ∙ first.same.0) since c.store_held-piece.ensures.event)
+    rw c.in-Copied.is (stores_later p w.new.pass.number c.args.pass.now.notes mid c.store_with_spine-piece.new.pass.notes c.in-Copied.text.now c.store_with_spine-piece.result (w.ensures.same.0 ∙ first.same.0) since c.store_with_spine-piece.ensures.event)
 
 pub returns-clause-piece : goal.returns-clause-piece
-returns-clause-piece g c = rw c.in-Copied.is c.store_held-piece.ensures.piece
+returns-clause-piece g c = rw c.in-Copied.is c.store_with_spine-piece.ensures.piece
 
 pub returns-clause-lies : goal.returns-clause-lies
 returns-clause-lies g c =
     let t = c.in-Copied.text.now in
-    rw c.in-Copied.is (given _ (λ (v : PieceView). t ≢ [] → v.until ≡ life (era_named c.args.self.now.log.chunks)) c.store_held-piece.result c.store_held-piece.ensures.lies)
+    rw c.in-Copied.is (given _ (λ (v : PieceView). t ≢ [] → v.until ≡ life (era_named c.args.self.now.log.chunks)) c.store_with_spine-piece.result c.store_with_spine-piece.ensures.lies)
 
 pub returns-clause-refused : goal.returns-clause-refused
 returns-clause-refused g c =
@@ -70,17 +70,17 @@ returns-clause-refused g c =
     let log = c.args.self.now.log in
     let t = c.in-Copied.text.now in
     let first = c.reserve_anywhere.ensures in
-    let w = c.lock_current-guard.ensures in
+    let w = c.lock_spine_when_current-guard.ensures in
     let known = c.args.shard.now.known.notes in
-    let mid = c.lock_current-guard.new.pass.notes in
-    let after = c.store_held-piece.new.pass.notes in
+    let mid = c.lock_spine_when_current-guard.new.pass.notes in
+    let after = c.store_with_spine-piece.new.pass.notes in
     let spine = c.deref_mut.result.now.spine.notes in
-    let r = c.store_held-piece.result in
+    let r = c.store_with_spine-piece.result in
     let hash_of = hash_by g.S.BuildHasher g.S.Hasher.Hasher c.args.self.now.hasher in
     let since = since_both p c.reserve_anywhere.new.pass.number c.args.pass.now.notes c.reserve_anywhere.new.pass.notes mid first.same.0 c.in_default.ensures.none w.since in
     let hashed : c.args.hash ≡ hash_of t = rw c.in-Copied.is at c.requires.hashed in
     let new : Lacks (list_of log known) t = rw c.in-Copied.is at c.requires.lacks in
     let lacks : Lacks (list_of log mid) t = still_lacks hash_of c.args.hash c.number_of.result log known mid t w.whole hashed c.number_of.ensures.0 c.requires.held.exact.distinct new in
     let is : list_of log mid ≡ list_of log spine = rw c.deref_mut.ensures.value w.list in
-    let none : OnErr r (Since p mid after []) = subst (λ (n : ℕ). OnErr r (Since n mid after [])) (w.same.0 ∙ first.same.0) c.store_held-piece.ensures.err in
-    rw c.in-Copied.is (called_refused g.K.Key.key_at log p spine c.args.pass.now.notes mid after t r since lacks is c.store_held-piece.ensures.refused none)
+    let none : OnErr r (Since p mid after []) = subst (λ (n : ℕ). OnErr r (Since n mid after [])) (w.same.0 ∙ first.same.0) c.store_with_spine-piece.ensures.err in
+    rw c.in-Copied.is (called_refused g.K.Key.key_at log p spine c.args.pass.now.notes mid after t r since lacks is c.store_with_spine-piece.ensures.refused none)

@@ -1,0 +1,9 @@
+use Rattle.std.proofs.Common.{◌≡◌, []}
+use Rattle.lasso_log.specs.Notes.{Since}
+use Rattle.lasso_log.specs.Views.{IsSamePass, IsSameSpine}
+use Rattle.lasso_shared.proofs.shards.Shards.store_with_spine.Given as goal
+
+-- no event of its own was added yet, and the spine has seen the same list
+abbrev pub invariant-loop : goal.invariant-loop
+invariant-loop g l =
+    (goal.iterator-loop g).can_next l.iterator' × (goal.iterator-loop g).is_finite l.iterator' × IsSamePass l.pass l.fn.pass × Since l.fn.pass.number l.fn.pass.notes l.pass.notes [] × IsSameSpine l.tally.spine l.fn.tally.spine × (l.tally.counts ≡ l.fn.tally.counts)
