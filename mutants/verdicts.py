@@ -1,5 +1,6 @@
 """What the prover says of mutants, of several functions at once, and what a test or a case says of a mutant."""
 import contextlib
+import functools
 import glob
 import os
 import re
@@ -8,7 +9,7 @@ import tempfile
 
 from edits import Unfit, files_with_tests, made, places
 from copies import Outcome, Result, applied, changed, end_of, tell
-from switches import texts_with_switches
+from switches import is_of_bodies, program_with, texts_with_switches
 from common import COUNTS, ran, read, write
 
 VERDICT = re.compile(r"^fn (\S+): (.*)$", re.MULTILINE)
@@ -201,46 +202,65 @@ def failure(more):
 
 
 def try_tests(edit, copy, as_it_is):
-    """Whether each test that the mutant names passes without it, unless `as_it_is` is None, and fails with it."""
+    """Whether each test that the mutant names passes without it, by what `as_it_is` says of a crate's tests, if it does, and fails with it."""
     folder = os.path.join(copy, "crates", edit.crate)
     for crate in dict.fromkeys(crate for crate, _ in edit.tests):
-        if as_it_is is not None and crate not in as_it_is:
-            as_it_is[crate] = test_results(copy, crate)
         with applied([edit], folder), alone(copy, crate, [name for other, name in edit.tests if other == crate]):
             with_edit = test_results(copy, crate, TEST_SECONDS if edit.ends else ENDLESS_SECONDS)
-        if outcome_of_tests(edit, crate, as_it_is and as_it_is[crate], with_edit) is Outcome.LET_THROUGH:
+        if outcome_of_tests(edit, crate, as_it_is and as_it_is(crate), with_edit) is Outcome.LET_THROUGH:
             return Outcome.LET_THROUGH
     return Outcome.BY_A_TEST
 
 
-def together(edits):
-    """The mutants that tests refuse, in parts that one build has: those of one crate, with other tests of one other."""
+def together(edits, copy):
+    """The mutants of bodies that tests or cases refuse, in parts that one build has: those of one crate, with other tests of one other, or cases of one
+    program."""
     parts = []
     for edit in edits:
-        kind = (edit.crate, edit.ends, {crate for crate, _ in edit.tests})
+        needs = {needs_proof(copy, program, [case]) for program, case in edit.cases}
+        kind = (edit.crate, edit.ends, bool(edit.tests), True in needs, {crate for crate, _ in edit.tests or edit.cases})
+        if len(kind[-1]) > 1 or not is_of_bodies(edit, copy):
+            continue
         for part in parts:
             if part[0] == kind and len(part) <= MOST_AT_ONCE and not any(test in other.tests for other in part[1:] for test in edit.tests):
                 part.append(edit)
                 break
         else:
-            parts += [[kind, edit]] if len(kind[2]) == 1 else []
+            parts.append([kind, edit])
     return [part[1:] for part in parts]
 
 
 def try_together(edits, copy):
-    """Tells what came of each of these mutants in one build, where that says so: each of its tests fails with it, and passes in a process without one."""
-    crate, names = edits[0].tests[0][0], [name for edit in edits for _, name in edit.tests]
-    try:
-        with changed(texts_with_switches(edits, copy), copy), alone(copy, crate, names, AS_IT_IS):
-            ended = test_results(copy, crate, TEST_SECONDS if edits[0].ends else ENDLESS_SECONDS)
-    except Unfit as fault:
-        print(fault, flush=True)
-        return []
+    """Tells what came of each of these mutants in one build, where that says so: each of its tests or cases fails with it, and passes without one."""
     results = []
-    for edit in edits:
-        with contextlib.suppress(Unfit):
-            results += tell_run(edit, outcome_of_tests(edit, crate, {name: ended.get(name + AS_IT_IS) for name in names}, ended))
+    with tempfile.TemporaryDirectory() as room:
+        try:
+            came = (tests_together if edits[0].tests else cases_together)(edits, copy, room)
+        except Unfit as fault:
+            print(fault, flush=True)
+            return []
+        for edit in edits:
+            with contextlib.suppress(Unfit):
+                results += tell_run(edit, came(edit))
     return results
+
+
+def tests_together(edits, copy, _):
+    """What says what came of each of these mutants, by their tests in one build: a test runs in a process of its own, and once more by another name."""
+    crate, names = edits[0].tests[0][0], [name for edit in edits for _, name in edit.tests]
+    with changed(texts_with_switches(edits, copy), copy), alone(copy, crate, names, AS_IT_IS):
+        ended = test_results(copy, crate, TEST_SECONDS if edits[0].ends else ENDLESS_SECONDS)
+    return lambda edit: outcome_of_tests(edit, crate, {name: ended.get(name + AS_IT_IS) for name in names}, ended)
+
+
+def cases_together(edits, copy, room):
+    """What says what came of each of these mutants, by their cases over one build of the program, which has another name in the room for each."""
+    program = edits[0].cases[0][0]
+    with changed(texts_with_switches(edits, copy, room), copy):
+        file = program_of(copy, program, [case for _, case in edits[0].cases], room)
+    for edit in edits:
+        os.link(file, program_with(edit, room))
+    return lambda edit: outcome_of_cases(edit, copy, program, file, program_with(edit, room))
 
 
 def outcome_of_tests(edit, crate, as_it_is, with_edit):
@@ -269,15 +289,10 @@ def needs_proof(copy, program, cases):
 
 
 def program_of(copy, program, cases, room):
-    """The program as it stands in the copy, in a file of this folder: built without proof, unless one of these cases needs a proved one."""
+    """The program as it stands in the copy, in a file of this folder: built without proof, and without checks if one of these cases needs a proved one."""
     file = os.path.join(room, f"{program}-{len(os.listdir(room))}")
-    folder = f"{copy}/crates/{program}"
-    if needs_proof(copy, program, cases):
-        status, said = ran(["rt", "run", "--", "--version"], cwd=folder)
-        if not status:
-            os.replace(f"{folder}/out/{program}", file)
-    else:
-        status, said = ran([f"{copy}/cases/unproved", folder, file])
+    options = ["--unchecked"] * needs_proof(copy, program, cases)
+    status, said = ran([f"{copy}/cases/unproved", *options, f"{copy}/crates/{program}", file])
     if status:
         raise Unfit(f"{program} was not built:\n{end_of(said)}")
     return file
@@ -310,13 +325,20 @@ def try_cases(edit, copy, built, room):
             built[kind] = program_of(copy, program, cases, room)
         with applied([edit], os.path.join(copy, "crates", edit.crate)):
             with_edit = program_of(copy, program, cases, room)
-        for case in cases:
-            if built is not None and result_of(copy, program, built[kind], case) != "ok":
-                raise Unfit(f"{edit.crate}/{edit.name}: the case {case} of {program} does not pass as it is")
-            result = result_of(copy, program, with_edit, case)
-            if result == "ok":
-                return Outcome.LET_THROUGH
-            refuse_late(edit, case, result)
+        if outcome_of_cases(edit, copy, program, built and built[kind], with_edit) is Outcome.LET_THROUGH:
+            return Outcome.LET_THROUGH
+    return Outcome.BY_A_TEST
+
+
+def outcome_of_cases(edit, copy, program, as_it_is, with_edit):
+    """Whether each case that the mutant names of the program passes with the file that is without it, unless that is None, and fails with the other."""
+    for case in [case for other, case in edit.cases if other == program]:
+        if as_it_is is not None and result_of(copy, program, as_it_is, case) != "ok":
+            raise Unfit(f"{edit.crate}/{edit.name}: the case {case} of {program} does not pass as it is")
+        result = result_of(copy, program, with_edit, case)
+        if result == "ok":
+            return Outcome.LET_THROUGH
+        refuse_late(edit, case, result)
     return Outcome.BY_A_TEST
 
 
@@ -330,16 +352,22 @@ def try_runs(edits, copy, as_it_is=True, keep=lambda results: None):
     """What its test or its case says of each of these mutants, which goes to `keep`. If `as_it_is` says so, those that one build does not judge are
     first tried without it."""
     results = []
-    for part in together(edits):
+    for part in together(edits, copy):
         came = try_together(part, copy)
         keep(came)
         results += came
     left = [edit for edit in edits if edit not in [result.edit for result in results]]
-    tests, built = ({}, {}) if as_it_is else (None, None)
+    built = {} if as_it_is else None
+
+    @functools.cache
+    def tests_as_they_are(crate):
+        with alone(copy, crate, [name for edit in left for other, name in edit.tests if other == crate]):
+            return test_results(copy, crate)
+
     with tempfile.TemporaryDirectory() as room:
         for edit in left:
             try:
-                result = try_tests(edit, copy, tests) if edit.tests else try_cases(edit, copy, built, room)
+                result = try_tests(edit, copy, as_it_is and tests_as_they_are) if edit.tests else try_cases(edit, copy, built, room)
             except Unfit as fault:
                 print(fault, flush=True)
                 result = Outcome.NOT_TRIED
