@@ -155,10 +155,11 @@ fn many_new_texts_past_the_last_key(rt: HostRuntime) -> Result<(), Fail> {
     runs_both::<MicroSpur, FixedState>(&rt, Maker::Sized(50, 4, usize::MAX), &STEPS)
 }
 
-// Each text has a byte, and only two have a key. The third takes its byte. No later one does, nor a batch of present texts.
+// Each text has a byte, and only two have a key. The third takes its byte. No later one does, nor a batch of present texts,
+// nor one without texts.
 #[test]
 fn batches_without_a_key_leave_the_bytes_of_later_texts(rt: HostRuntime) -> Result<(), Fail> {
-    static STEPS: [Step; 8] = [
+    static STEPS: [Step; 10] = [
         ByOne(TakesAll(
             Texts(&["p", "q", "r", "s", "t", "u", "v", "w", "x", "y"]),
             Are(&[0, 1]),
@@ -166,6 +167,8 @@ fn batches_without_a_key_leave_the_bytes_of_later_texts(rt: HostRuntime) -> Resu
         )),
         ByOne(FindsAll(&["q", "p"], &[Some(1), Some(0)])),
         ByOther(TakesAll(Texts(&["q", "p"]), Are(&[1, 0]), None)),
+        ByOne(FindsAll(&[], &[])),
+        ByOther(TakesAll(Texts(&[]), Are(&[]), None)),
         Interns(Way::TryCopied, "abc", NO_KEY),
         Interns(Way::TryCopied, "z", FULL),
         Counts(2),

@@ -168,6 +168,9 @@ pub fn is_reply(reply: LassoResult<usize>, wanted: Reply) -> LassoResult<bool> {
     }
 }
 
+// The first number that 32 bits don't count.
+const LARGE: usize = 4_294_967_296;
+
 // Numbers from the count of texts on that have no text.
 static PAST: [usize; 11] = [0, 1, 2, 15, 16, 17, 31, 32, 33, 1000, 70_000];
 
@@ -309,7 +312,7 @@ impl<'a, K: Key, S: BuildHasher + Drop, R: Host> Caller<'a, K, S, R> {
 
     // Whether keys with numbers from `count` on stand for no text.
     fn none_past(&self, count: usize) -> bool {
-        let mut all = true;
+        let mut all = K::try_from_usize(LARGE).is_none() || self.reads(LARGE, None);
         for more in PAST.iter() {
             let number = count.saturating_add(*more);
             all &= K::try_from_usize(number).is_none() || self.reads(number, None);
