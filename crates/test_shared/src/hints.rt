@@ -74,11 +74,11 @@ fn hinted(pass: &mut Pass<Spur>, text: &str) -> Option<u64> {
 }
 
 // `red` is added by another pass: each call keeps a hint of it. A call that adds `blue` keeps none, and the next one does.
-// A copy of `blue` takes a bucket of its own.
+// Nor does one lose it that adds a text: a copy of `blue` goes into the first bucket, and one of `green` into a new one.
 #[test]
 fn a_call_that_finds_a_text_keeps_a_hint(rt: HostRuntime) -> Result<(), Fail> {
     for (number, call) in CALLS.iter().enumerate() {
-        let shared: Shared = limited(rt.alloc(), 3, usize::MAX)?;
+        let shared: Shared = limited(rt.alloc(), 7, usize::MAX)?;
         let mut pass = shared.pass_with_hints(rt.alloc());
         is_so_at(&rt, pass.has_hints(), number);
         shared.try_get_or_intern(&rt, "red")?;
@@ -90,6 +90,8 @@ fn a_call_that_finds_a_text_keeps_a_hint(rt: HostRuntime) -> Result<(), Fail> {
         make(&rt, &shared, &mut pass, *call, "blue")?;
         let wanted = if number < INTERNING { Some(1) } else { None };
         is_so_at(&rt, hinted(&mut pass, "blue") == wanted, number);
+        is_so_at(&rt, hinted(&mut pass, "red") == Some(0), number);
+        make(&rt, &shared, &mut pass, *call, "green")?;
         is_so_at(&rt, hinted(&mut pass, "red") == Some(0), number);
     }
     Ok(())
