@@ -74,10 +74,11 @@ fn hinted(pass: &mut Pass<Spur>, text: &str) -> Option<u64> {
 }
 
 // `red` is added by another pass: each call keeps a hint of it. A call that adds `blue` keeps none, and the next one does.
+// Nor does one lose it that adds a text: a copy of `blue` goes into the first bucket, and one of `green` into a new one.
 #[test]
 fn a_call_that_finds_a_text_keeps_a_hint(rt: HostRuntime) -> Result<(), Fail> {
     for (number, call) in CALLS.iter().enumerate() {
-        let shared = made(rt.alloc())?;
+        let shared: Shared = limited(rt.alloc(), 7, usize::MAX)?;
         let mut pass = shared.pass_with_hints(rt.alloc());
         is_so_at(&rt, pass.has_hints(), number);
         shared.try_get_or_intern(&rt, "red")?;
@@ -89,6 +90,8 @@ fn a_call_that_finds_a_text_keeps_a_hint(rt: HostRuntime) -> Result<(), Fail> {
         make(&rt, &shared, &mut pass, *call, "blue")?;
         let wanted = if number < INTERNING { Some(1) } else { None };
         is_so_at(&rt, hinted(&mut pass, "blue") == wanted, number);
+        is_so_at(&rt, hinted(&mut pass, "red") == Some(0), number);
+        make(&rt, &shared, &mut pass, *call, "green")?;
         is_so_at(&rt, hinted(&mut pass, "red") == Some(0), number);
     }
     Ok(())
@@ -163,8 +166,8 @@ fn has_left(rt: &impl Host, shared: &Shared, count: usize, bytes: usize) -> Lass
     Ok(())
 }
 
-// Whatever pass would do it: no call by a pass with hints takes another byte, interns another text or sets a limit. The
-// only bucket has four bytes, of which `red` takes three if it is copied.
+// Whatever pass would do it: no call by a pass with hints takes another byte, interns another text or sets a limit, nor does
+// one that reads lose a hint. The only bucket has four bytes, of which `red` takes three if it is copied.
 #[test]
 fn calls_by_a_pass_with_hints_do_no_more(rt: HostRuntime) -> Result<(), Fail> {
     static BYTES: [usize; 8] = [3, 3, 0, 3, 3, 0, 0, 0];
@@ -177,6 +180,8 @@ fn calls_by_a_pass_with_hints_do_no_more(rt: HostRuntime) -> Result<(), Fail> {
         }
         let count = usize::from(number < INTERNING);
         reads_by(&rt, &shared, &mut pass, count);
+        let wanted = if count == 1 { Some(0) } else { None };
+        is_so_at(&rt, hinted(&mut pass, "red") == wanted, number);
         has_left(&rt, &shared, count, 4 - BYTES[number])?;
     }
     Ok(())
