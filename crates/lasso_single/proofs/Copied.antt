@@ -4,20 +4,20 @@
 -- since the list fits the keys. So interning it either puts it last and stores its bytes, or is refused by
 -- the limit or out of memory: no text is found, and no key is lacking.
 use Rattle.std.proofs.Common.{◌≡◌, ℕ, ◌+◌, ◌<◌, ◌≤◌, ◌⊎◌, inl, inr, List, [], ◌∷◌, ◌++◌, length, take, slice_get, Option, Some, None, IsSome, is_some, cond, IsOk, Result, Ok, Err, MatchResult, refl, sym, subst, ap, ◌∙◌, arith}
-use Rattle.std.specs.Prelude.{option_and_then}
+use Rattle.std.specs.Prelude.{IfOk, option_and_then}
 use Rattle.std.proofs.lemmas.Grind.{common_steps}
 use Rattle.std.proofs.lemmas.Bool.Decides.{nat_tests}
 use Rattle.std.proofs.lemmas.List.{length-take-le}
 use Rattle.std.proofs.lemmas.List.Sums.{sum_by_more, sum_by-cons, sum_by-take-le}
 use Rattle.std.proofs.lemmas.Option.{option_and_then_some, slice_get_within, get_or_from_slice_get}
-use Rattle.lasso_parts.specs.Account.{Account, store}
+use Rattle.lasso_parts.specs.Account.{Account, fresh, store}
 use Rattle.lasso_parts.specs.Held.{Held}
 use Rattle.lasso_parts.specs.Texts.{Text, position_of, IsDistinct, Fits}
 use Rattle.lasso_parts.specs.declared.util.LassoError.{LassoError}
 use Rattle.lasso_parts.specs.declared.util.LassoErrorKind.TheVariants.{MemoryLimitReached, FailedAllocation}
 use Rattle.lasso_parts.proofs.IndexLaws.{absent_before}
 use Rattle.lasso_parts.proofs.TextLemmas.{take_more_at}
-use Rattle.lasso_single.specs.Copies.{bytes_of, store_all, CopiesOne, StopsAt, clone_size}
+use Rattle.lasso_single.specs.Copies.{bytes_of, store_all, CopiesOne, StopsAt, clone_size, read_of}
 use Rattle.lasso_single.specs.Intern.{Interns, InternsIn, interned, with_text, stored_or_refused, keyed_or_refused, found_or_new}
 use Rattle.lasso_single.specs.Interner.{InternerView, KeepsOrigin, bytes_added}
 
@@ -104,6 +104,20 @@ store_all_room first a b (t ∷ ts) e fits =
     let rest = store_all_room first x b ts others (omega arith) in
     omega arith)
 
+-- a text that has room changes neither the limit nor the usage
+store_kept : (first : ℕ) (a b : Account) (n : ℕ) → store first a n ≡ Some b → n ≤ a.room → (b.limit ≡ a.limit) × (b.usage ≡ a.usage)
+store_kept first a b n e fits = (grind (arith, common_steps, e), grind (arith, common_steps, e))
+
+store_all_kept : (first : ℕ) (a b : Account) (texts : List Text) → store_all first a texts ≡ Some b → bytes_of texts ≤ a.room → (b.limit ≡ a.limit) × (b.usage ≡ a.usage)
+store_all_kept first a b [] e fits = let same : b ≡ a = cc in (ap (λ (x : Account). x.limit) same, ap (λ (x : Account). x.usage) same)
+store_all_kept first a b (t ∷ ts) e fits =
+    let sums = sum_by-cons (λ (u : Text). length u) t ts in
+    option_and_then_some (λ (x : Account). store_all first x ts) (store first a (length t)) b e (λ x one others.
+    let here = store_kept first a x (length t) one (omega arith) in
+    let room = store_room first a x (length t) one (omega arith) in
+    let rest = store_all_kept first x b ts others (omega arith) in
+    (rest.0 ∙ here.0, rest.1 ∙ here.1))
+
 -- ---- one text more is copied
 
 -- the texts before position i are copied to the end of a list that was empty
@@ -179,3 +193,15 @@ clone_stops first a texts j error stopped fits h = elim h.1 [
 -- all bytes fit into the bucket
 pub bytes-le-clone_size : (texts : List Text) → bytes_of texts ≤ clone_size texts
 bytes-le-clone_size texts = grind (arith, common_steps, nat_tests)
+
+-- a list that was read is in one bucket of its bytes, without a limit
+read_kept : (texts : List Text) (account : Account) → read_of texts ≡ Some account → (account.limit ≡ 18446744073709551615) × (account.usage ≡ clone_size texts)
+read_kept texts account is = store_all_kept (clone_size texts) (fresh (clone_size texts) 18446744073709551615) account texts is (bytes-le-clone_size texts)
+
+pub read_limit : {E : Type 0} (reply : Result InternerView E) → IfOk reply (λ r. read_of r.texts ≡ Some r.account) → IfOk reply (λ r. r.account.limit ≡ 18446744073709551615)
+read_limit (Ok r) is = (read_kept r.texts r.account is).0
+read_limit (Err error) is = tt
+
+pub read_usage : {E : Type 0} (reply : Result InternerView E) → IfOk reply (λ r. read_of r.texts ≡ Some r.account) → IfOk reply (λ r. r.account.usage ≡ clone_size r.texts)
+read_usage (Ok r) is = (read_kept r.texts r.account is).1
+read_usage (Err error) is = tt

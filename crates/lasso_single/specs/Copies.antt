@@ -60,6 +60,13 @@ StopsCloning old texts error new =
     (j : ℕ) × (stopped : Account) × StopsAt old.first (clear old.first old.account) texts j error stopped
     × (new.account ≡ clear old.first stopped) × (new.most ≡ max (most_copied old) (bytes_of (take j texts)))
 
+-- copying the texts over those of an interner stopped at one of them, and cleared again what was copied: P holds
+-- of how many texts that were, and of the account that they left
+abbrev pub ClearsAgain : (old new : InternerView) → List Text → (ℕ → Account → Type 0) → Type 0
+ClearsAgain old new texts P =
+    (j : ℕ) × (stopped : Account) × (store_all old.first (clear old.first old.account) (take j texts) ≡ Some stopped) × P j stopped
+    × (new.account ≡ clear old.first stopped) × (new.most ≡ max (most_copied old) (bytes_of (take j texts)))
+
 -- copying the texts into an interner, which is cleared before, leaves just them, under its own account; or it
 -- stops at one of them, as `StopsCloning` says, and then leaves no text
 abbrev pub ClonesInto : InternerView → List Text → Result (Unit {0}) LassoError → InternerView → Type 0

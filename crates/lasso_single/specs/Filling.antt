@@ -42,6 +42,21 @@ StopsAtRefusal {K} key_at old texts error new =
     (before : List Text) × (last : Text) × (mid : InternerView) × (texts ≡ before ++ last ∷ []) × InternsEach key_at old before mid
     × InternsIn {K = K} key_at mid last (Err error) new
 
+-- P holds of the last of the texts, and the list has those before it, in order, after the old ones
+abbrev pub FillsUpTo : (old new : InternerView) → List Text → (Text → Type 0) → Type 0
+FillsUpTo old new texts P =
+    (before : List Text) × (last : Text) × (texts ≡ before ++ last ∷ []) × (new.texts ≡ with_all_new old.texts before) × P last
+
+-- an iterator gives some items and ends; the list has the text of each, in order, after the old ones
+abbrev pub AddsItems : {S T : Type 0} → (S → Option T → S → Type 0) → (T → Text) → S → (old new : InternerView) → Type 0
+AddsItems {S} {T} next_gives text from old new =
+    (items : List T) × Drains next_gives from items × (new.texts ≡ with_all_new old.texts (map text items))
+
+-- the same up to an item, and P holds of its text
+abbrev pub AddsUpToItem : {S T : Type 0} → (S → Option T → S → Type 0) → (T → Text) → S → (old new : InternerView) → (Text → Type 0) → Type 0
+AddsUpToItem {S} {T} next_gives text from old new P =
+    (items : List T) × ((rest : S) × Yields next_gives from items rest) × FillsUpTo old new (map text items) P
+
 -- an iterator gives some items and ends; `text` of each is interned in order, and none is refused
 abbrev pub InternsItems : {K S T : Type 0} → (S → Option T → S → Type 0) → (T → Text) → (ℕ → Option K) → S → InternerView → InternerView → Type 0
 InternsItems {K} {S} {T} next_gives text key_at from old new =

@@ -1,5 +1,5 @@
 -- What contracts see of an interner, and what calls that add no bytes leave of it.
-use Rattle.std.specs.Prelude.{◌≡◌, ◌*◌, ◌^◌, ◌<◌, ◌≤◌, ℕ, Bool, false, List, [], length, max, is_some, if◌then◌else◌}
+use Rattle.std.specs.Prelude.{◌≡◌, ◌-◌, ◌*◌, ◌^◌, ◌<◌, ◌≤◌, ℕ, Bool, false, List, [], length, max, is_some, if◌then◌else◌}
 use Rattle.lasso_parts.specs.Texts.{Text, position_of}
 use Rattle.lasso_parts.specs.Account.{Account, fresh}
 use Rattle.lasso_parts.specs.Arena.{Regions, account_of, copied_of, first_of}
@@ -45,6 +45,10 @@ IsThriftyUnlessCleared is_cleared arena = is_cleared ≡ false → IsThrifty (fi
 -- a new interner, with that first bucket's size and that limit
 abbrev pub made_with : ℕ → ℕ → InternerView
 made_with bytes limit = record { texts = []; account = fresh bytes limit; first = bytes; copied = 0; most = 0; is_cleared = false }
+
+-- a new interner of default capacity and without a limit: its first bucket has 4096 bytes
+abbrev pub made_by_default : InternerView
+made_by_default = made_with 4096 (2 ^ 64 - 1)
 
 -- a new interner with that first bucket's size, into which this number of bytes was copied
 abbrev pub IsMadeWith : ℕ → ℕ → InternerView → Type 0

@@ -4,6 +4,7 @@ pub mod Intern
 pub mod InternFacts
 pub mod Copies
 pub mod Filling
+pub mod CloneFacts
 pub mod Command
 pub mod Json
 pub mod KeyLists

@@ -1,10 +1,10 @@
 //! The frozen forms as JSON: the array of their texts, in the order of their keys. That of a `Rodeo` is in
 //! `rodeo/json.rt`.
-ghost use Rattle.std.specs.Prelude.{◌≡◌, ◌<◌, ◌⊎◌, Ok, Err, IfOk, IfErr, length, true, false};
+ghost use Rattle.std.specs.Prelude.{◌≡◌, ◌<◌, ◌⊎◌, Ok, Err, IfOk, IfErr, length};
 ghost use Rattle.serde_json.specs.View.{view};
 ghost use Rattle.lasso_parts.specs.Json.{json_array, read_array};
 ghost use Rattle.lasso_parts.specs.declared.util.LassoErrorKind.TheVariants.{FailedAllocation};
-ghost use Rattle.lasso_single.specs.Json.{IsOutOfMemory, ReadsInto, RefusesUncountableBytes};
+ghost use Rattle.lasso_single.specs.Json.{IsOutOfMemory, ReadsInto, RefusesFirstItem, RefusesNoArray, RefusesUncountableBytes, may_repeat, must_differ};
 
 use crate::reader::RodeoReader;
 use crate::resolver::RodeoResolver;
@@ -32,16 +32,19 @@ impl<K: Key, S: BuildHasher + Default + Drop, A: Allocator + Clone> RodeoReader<
     /// reads, and refused as that is.
     pub fn deserialize(alloc: A, value: &Value) -> Result<Self, JsonError>
         // On success it has the texts that the value is read as: they are distinct.
-        ensures texts { IfOk result (λ texts. read_array K.key_at true (view value.now) ≡ Ok texts) }
+        ensures texts { IfOk result (λ texts. read_array K.key_at must_differ (view value.now) ≡ Ok texts) }
 
         // On failure the error is the first of these: the value is no array (`NotAnArray`); or of the first faulty item, it is no text
         // (`NotText`), an earlier item has its text (`Doubled`), or its position has no key (`TooMany`). Memory may run out (`Lasso`) in
         // place of any, but not if the value is no array or its first item is faulty. It does if a `usize` can't count the texts' bytes.
-        ensures fault { IfErr result (λ error. (read_array K.key_at true (view value.now) ≡ Err error) ⊎ IsOutOfMemory K.key_at true (view value.now) error) }
-        ensures overflow { RefusesUncountableBytes K.key_at true (view value.now) result }
+        ensures no_array { RefusesNoArray (view value.now) result }
+        ensures first_item { RefusesFirstItem K.key_at must_differ (view value.now) result }
+        ensures fault { IfErr result (λ error. (read_array K.key_at must_differ (view value.now) ≡ Err error)
+            ⊎ IsOutOfMemory K.key_at must_differ (view value.now) error) }
+        ensures overflow { RefusesUncountableBytes K.key_at must_differ (view value.now) result }
 
-        // Texts and faults at once
-        ensures read { ReadsInto K.key_at true (view value.now) result }
+        // The same facts as one relation
+        ensures read { ReadsInto K.key_at must_differ (view value.now) result }
     {
         match Rodeo::<K, S, A>::deserialize(alloc, value) {
             Ok(rodeo) => Ok(rodeo.into_reader()),
@@ -70,16 +73,31 @@ impl<K: Key, A: Allocator + Clone> RodeoResolver<K, A> {
     /// bytes.
     pub fn deserialize(alloc: A, value: &Value) -> Result<Self, JsonError>
         // On success it has the texts that the value is read as: they may repeat.
-        ensures texts { IfOk result (λ texts. read_array K.key_at false (view value.now) ≡ Ok texts) }
+        ensures texts { IfOk result (λ texts. read_array K.key_at may_repeat (view value.now) ≡ Ok texts) }
 
         // On failure the error is the first of these: the value is no array (`NotAnArray`); or of the first faulty item, it is no text
         // (`NotText`), or its position has no key (`TooMany`). Memory may run out (`Lasso`) in place of any, but not if the value is no
         // array or its first item is faulty. It does if a `usize` can't count the texts' bytes.
-        ensures fault { IfErr result (λ error. (read_array K.key_at false (view value.now) ≡ Err error) ⊎ IsOutOfMemory K.key_at false (view value.now) error) }
-        ensures overflow { RefusesUncountableBytes K.key_at false (view value.now) result }
+        ensures no_array { RefusesNoArray (view value.now) result }
+        ensures first_item { RefusesFirstItem K.key_at may_repeat (view value.now) result }
+        ensures fault { IfErr result (λ error. (read_array K.key_at may_repeat (view value.now) ≡ Err error)
+            ⊎ IsOutOfMemory K.key_at may_repeat (view value.now) error) }
+        ensures overflow { RefusesUncountableBytes K.key_at may_repeat (view value.now) result }
 
-        // Texts and faults at once
-        ensures read { ReadsInto K.key_at false (view value.now) result }
+        // The same facts as one relation
+        ensures read { ReadsInto K.key_at may_repeat (view value.now) result }
+    {
+        RodeoResolver::read_value(alloc, value)
+    }
+
+    // The call with its contract in relations.
+    #[inline(always)]
+    fn read_value(alloc: A, value: &Value) -> Result<Self, JsonError>
+        ensures texts { IfOk result (λ texts. read_array K.key_at may_repeat (view value.now) ≡ Ok texts) }
+        ensures fault { IfErr result (λ error. (read_array K.key_at may_repeat (view value.now) ≡ Err error)
+            ⊎ IsOutOfMemory K.key_at may_repeat (view value.now) error) }
+        ensures overflow { RefusesUncountableBytes K.key_at may_repeat (view value.now) result }
+        ensures read { ReadsInto K.key_at may_repeat (view value.now) result }
     {
         let texts = read_array::<K, A>(alloc, value, false)?;
         let alloc = texts.allocator().clone()?;

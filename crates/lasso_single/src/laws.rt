@@ -1,4 +1,5 @@
 //! Laws of the contracts, each as the contract of a function that does nothing.
+ghost use Rattle.lasso_single.specs.CloneFacts.{CloneFactsSayAll};
 ghost use Rattle.lasso_single.specs.FillingFacts.{FillingFactsSayAll};
 ghost use Rattle.lasso_single.specs.InternFacts.{CopiedFactsSayAll, StaticFactsSayAll};
 ghost use Rattle.lasso_single.specs.RefusalFacts.{RefusalFactsSayAll};
@@ -27,4 +28,10 @@ pub fn filling_facts_say_all<K: Key>()
 #[tactic(auto, using(crate::proofs::RefusalFacts::refusal_facts_say_all))]
 pub fn refusal_facts_say_all()
     ensures { RefusalFactsSayAll }
+{}
+
+/// The clauses of `Rodeo::try_clone_from` hold exactly if the last of them, `all`, does.
+#[tactic(auto, using(crate::proofs::CloneFacts::clone_facts_say_all))]
+pub fn clone_facts_say_all()
+    ensures { CloneFactsSayAll }
 {}

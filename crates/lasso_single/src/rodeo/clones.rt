@@ -1,8 +1,8 @@
 //! Clones of a `Rodeo`, and copies of one over another.
-ghost use Rattle.std.specs.Prelude.{◌≡◌, ◌≤◌, ◌^◌, ◌⊎◌, [], Some, Err, true, IfOk, IfErr, OnOk, OnErr};
-ghost use Rattle.lasso_parts.specs.Account.{clear};
+ghost use Rattle.std.specs.Prelude.{◌≡◌, ◌≤◌, ◌^◌, ◌⊎◌, [], None, Some, Err, true, IfOk, IfErr, OnOk, OnErr, IsSome, IsSomeAnd, length, slice_get};
+ghost use Rattle.lasso_parts.specs.Account.{clear, store};
 ghost use Rattle.lasso_parts.specs.declared.util.LassoErrorKind.TheVariants.{FailedAllocation, MemoryLimitReached};
-ghost use Rattle.lasso_single.specs.Copies.{bytes_of, clone_of, clone_size, store_all, ClonesInto, StopsCloning};
+ghost use Rattle.lasso_single.specs.Copies.{bytes_of, clone_of, clone_size, store_all, ClearsAgain, ClonesInto};
 ghost use Rattle.lasso_single.specs.Interner.{IsMadeWith, most_copied};
 
 use super::Rodeo;
@@ -102,15 +102,26 @@ impl<K: Key, S: BuildHasher + Clone, A: Allocator + Clone> Rodeo<K, S, A> {
         ensures first { self.new.first ≡ self.old.first }
         ensures mark { self.new.is_cleared ≡ true }
 
-        // On failure the limit had no room for a text, or memory ran out: before the first text, or for one that the limit has room for.
-        // No text is left: those stored so far were cleared again. The account is what that leaves, and their bytes count in `most`.
+        // On failure no text is left: those stored so far were cleared again. The account is what that leaves, and their bytes count in `most`.
+        // Either the limit has no room for the next text; or memory ran out, before the first text or for one that the limit has room for.
         ensures reason { IfErr result (λ error. (error ≡ MemoryLimitReached) ⊎ (error ≡ FailedAllocation)) }
         ensures emptied { OnErr result (self.new.texts ≡ []) }
         ensures uncopied { OnErr result (self.new.copied ≡ 0) }
-        ensures stopped { IfErr result (λ error. StopsCloning self.old source.now.texts error self.new) }
+        ensures limit { result ≡ Err MemoryLimitReached → ClearsAgain self.old self.new source.now.texts
+            (λ j account. IsSomeAnd (slice_get source.now.texts j) (λ text. store self.old.first account (length text) ≡ None)) }
+        ensures memory { result ≡ Err FailedAllocation → ClearsAgain self.old self.new source.now.texts
+            (λ j account. (j ≡ 0) ⊎ IsSomeAnd (slice_get source.now.texts j) (λ text. IsSome (store self.old.first account (length text)))) }
 
-        // All of this at once
+        // The same facts as one relation
         ensures all { ClonesInto self.old source.now.texts result self.new }
+    {
+        self.clone_over(source)
+    }
+
+    // The call with its contract in one clause.
+    #[inline(always)]
+    fn clone_over(&mut self, source: &Self) -> LassoResult<()>
+        ensures { ClonesInto self.old source.now.texts result self.new }
     {
         self.clear();
         self.make_room_for(source)?;
@@ -143,14 +154,17 @@ impl<K: Key, S: BuildHasher + Clone, A: Allocator + Clone> Rodeo<K, S, A> {
         ensures first { self.new.first ≡ self.old.first }
         ensures mark { self.new.is_cleared ≡ true }
 
-        // On failure the limit had no room for a text, or memory ran out: before the first text, or for one that the limit has room for.
-        // No text is left: those stored so far were cleared again. The account is what that leaves, and their bytes count in `most`.
+        // On failure no text is left: those stored so far were cleared again. The account is what that leaves, and their bytes count in `most`.
+        // Either the limit has no room for the next text; or memory ran out, before the first text or for one that the limit has room for.
         ensures reason { IfErr result (λ error. (error ≡ MemoryLimitReached) ⊎ (error ≡ FailedAllocation)) }
         ensures emptied { OnErr result (self.new.texts ≡ []) }
         ensures uncopied { OnErr result (self.new.copied ≡ 0) }
-        ensures stopped { IfErr result (λ error. StopsCloning self.old source.now.texts error self.new) }
+        ensures limit { result ≡ Err MemoryLimitReached → ClearsAgain self.old self.new source.now.texts
+            (λ j account. IsSomeAnd (slice_get source.now.texts j) (λ text. store self.old.first account (length text) ≡ None)) }
+        ensures memory { result ≡ Err FailedAllocation → ClearsAgain self.old self.new source.now.texts
+            (λ j account. (j ≡ 0) ⊎ IsSomeAnd (slice_get source.now.texts j) (λ text. IsSome (store self.old.first account (length text)))) }
 
-        // All of this at once
+        // The same facts as one relation
         ensures all { ClonesInto self.old source.now.texts result self.new }
     {
         self.try_clone_from(source)

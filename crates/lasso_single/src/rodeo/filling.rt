@@ -1,13 +1,14 @@
 //! Filling a `Rodeo`: from the items of an iterator, and from a list of texts, with their keys.
-ghost use Rattle.std.specs.Prelude.{◌≡◌, ◌+◌, ◌-◌, ◌^◌, ◌<◌, ◌⊎◌, ℕ, List, map};
+ghost use Rattle.std.specs.Prelude.{◌≡◌, ◌+◌, ◌<◌, ◌⊎◌, ℕ, List, map};
 ghost use Rattle.std.specs.Prelude.{None, Some, Err, IfOk, IfErr, OnOk, IsSome, length, vec_len};
 ghost use Rattle.std.specs.Iterator.{IsFinite, Yields, YieldsThen};
 ghost use Rattle.std.specs.Vec.{vec_capacity};
 ghost use Rattle.lasso_parts.specs.declared.util.LassoErrorKind.TheVariants.{FailedAllocation, KeySpaceExhaustion, MemoryLimitReached};
 ghost use Rattle.lasso_single.specs.Copies.{bytes_of};
-ghost use Rattle.lasso_single.specs.Filling.{InternsEach, InternsItems, StopsAtItem, StopsAtRefusal, account_with_all, added_texts, with_all_new};
+ghost use Rattle.lasso_single.specs.Filling.{AddsItems, AddsUpToItem, FillsUpTo, InternsEach, InternsItems, StopsAtItem, StopsAtRefusal};
+ghost use Rattle.lasso_single.specs.Filling.{account_with_all, added_texts, with_all_new};
 ghost use Rattle.lasso_single.specs.Intern.{IsAbsent, account_with, next_key};
-ghost use Rattle.lasso_single.specs.Interner.{InternerView, KeepsOrigin, made_with};
+ghost use Rattle.lasso_single.specs.Interner.{InternerView, KeepsOrigin, made_by_default};
 ghost use Rattle.lasso_single.specs.KeyLists.{AddsKeysOfFirst, IsNextRefused, NextIs, keyed_texts};
 
 use super::Rodeo;
@@ -37,11 +38,28 @@ impl<K: Key, S: BuildHasher, A: Allocator + Clone> Rodeo<K, S, A> {
     ) -> LassoResult<()>
         requires { (it : I.IntoIter) → I.into_iter_gives items it → I.IntoIter.can_next it × IsFinite (I.IntoIter.remaining it) }
         // On success the items ended, and each was interned in order.
-        ensures filled { OnOk result ((it : I.IntoIter) × I.into_iter_gives items it
-            × InternsItems I.IntoIter.next_gives T.text K.key_at it self.old self.new) }
+        ensures texts { OnOk result ((it : I.IntoIter) × I.into_iter_gives items it × AddsItems I.IntoIter.next_gives T.text it self.old self.new) }
+
+        // In each case texts are only added, and they alone take bytes. The first bucket's size and the record of clears stay.
+        ensures account { account_with_all self.old (added_texts self.old self.new) ≡ Some self.new.account }
+        ensures copied { self.new.copied ≡ self.old.copied + bytes_of (added_texts self.old self.new) }
+        ensures origin { KeepsOrigin self.old self.new }
 
         // On failure the items before the refused one are interned, that one changed nothing, and no later item is interned. The error is
         // that of `try_get_or_intern` for it: no key left comes before the limit, and the limit before memory.
+        ensures no_key { result ≡ Err KeySpaceExhaustion → (it : I.IntoIter) × I.into_iter_gives items it
+            × AddsUpToItem I.IntoIter.next_gives T.text it self.old self.new
+            (λ text. IsAbsent self.new text × (next_key K.key_at self.new ≡ None)) }
+        ensures limit { result ≡ Err MemoryLimitReached → (it : I.IntoIter) × I.into_iter_gives items it
+            × AddsUpToItem I.IntoIter.next_gives T.text it self.old self.new
+            (λ text. IsAbsent self.new text × IsSome (next_key K.key_at self.new) × (account_with self.new text ≡ None)) }
+        ensures memory { result ≡ Err FailedAllocation → (it : I.IntoIter) × I.into_iter_gives items it
+            × AddsUpToItem I.IntoIter.next_gives T.text it self.old self.new
+            (λ text. IsAbsent self.new text × IsSome (next_key K.key_at self.new) × IsSome (account_with self.new text)) }
+
+        // The same facts as relations
+        ensures filled { OnOk result ((it : I.IntoIter) × I.into_iter_gives items it
+            × InternsItems I.IntoIter.next_gives T.text K.key_at it self.old self.new) }
         ensures refused { IfErr result (λ error. (it : I.IntoIter) × I.into_iter_gives items it
             × StopsAtItem I.IntoIter.next_gives T.text K.key_at it self.old error self.new) }
     {
@@ -67,11 +85,45 @@ impl<K: Key, S: BuildHasher, A: Allocator + Clone> Rodeo<K, S, A> {
         requires can { I.can_next items.old }
         requires ends { IsFinite (I.remaining items.old) }
         // On success the items ended, and each was interned in order.
-        ensures filled { OnOk result ((xs : List T) × YieldsThen I.next_gives items.old xs None items.new
-            × InternsEach K.key_at self.old (map T.text xs) self.new) }
+        ensures texts { OnOk result ((xs : List T) × YieldsThen I.next_gives items.old xs None items.new
+            × (self.new.texts ≡ with_all_new self.old.texts (map T.text xs))) }
+
+        // In each case texts are only added, and they alone take bytes. The first bucket's size and the record of clears stay.
+        ensures account { account_with_all self.old (added_texts self.old self.new) ≡ Some self.new.account }
+        ensures copied { self.new.copied ≡ self.old.copied + bytes_of (added_texts self.old self.new) }
+        ensures origin { KeepsOrigin self.old self.new }
 
         // On failure the items before the refused one are interned, that one changed nothing, and the iterator stands right after it. The
         // error is that of `try_get_or_intern` for it: no key left comes before the limit, and the limit before memory.
+        ensures no_key { result ≡ Err KeySpaceExhaustion → (xs : List T) × Yields I.next_gives items.old xs items.new
+            × FillsUpTo self.old self.new (map T.text xs)
+            (λ text. IsAbsent self.new text × (next_key K.key_at self.new ≡ None)) }
+        ensures limit { result ≡ Err MemoryLimitReached → (xs : List T) × Yields I.next_gives items.old xs items.new
+            × FillsUpTo self.old self.new (map T.text xs)
+            (λ text. IsAbsent self.new text × IsSome (next_key K.key_at self.new) × (account_with self.new text ≡ None)) }
+        ensures memory { result ≡ Err FailedAllocation → (xs : List T) × Yields I.next_gives items.old xs items.new
+            × FillsUpTo self.old self.new (map T.text xs)
+            (λ text. IsAbsent self.new text × IsSome (next_key K.key_at self.new) × IsSome (account_with self.new text)) }
+
+        // The same facts as relations
+        ensures filled { OnOk result ((xs : List T) × YieldsThen I.next_gives items.old xs None items.new
+            × InternsEach K.key_at self.old (map T.text xs) self.new) }
+        ensures refused { IfErr result (λ error. (xs : List T) × Yields I.next_gives items.old xs items.new
+            × StopsAtRefusal K.key_at self.old (map T.text xs) error self.new) }
+    {
+        self.intern_items(items)
+    }
+
+    // The call with its contract in relations.
+    #[inline(always)]
+    fn intern_items<T: AsStr + Drop, I: Iterator<Item = T>>(
+        &mut self,
+        items: &mut I,
+    ) -> LassoResult<()>
+        requires can { I.can_next items.old }
+        requires ends { IsFinite (I.remaining items.old) }
+        ensures filled { OnOk result ((xs : List T) × YieldsThen I.next_gives items.old xs None items.new
+            × InternsEach K.key_at self.old (map T.text xs) self.new) }
         ensures refused { IfErr result (λ error. (xs : List T) × Yields I.next_gives items.old xs items.new
             × StopsAtRefusal K.key_at self.old (map T.text xs) error self.new) }
     {
@@ -173,13 +225,25 @@ impl<K: Key, S: BuildHasher + Default + Drop, A: Allocator + Clone> Rodeo<K, S, 
     ) -> LassoResult<Self>
         requires { (it : I.IntoIter) → I.into_iter_gives items it → I.IntoIter.can_next it × IsFinite (I.IntoIter.remaining it) }
         // On success the items ended, and each was interned in order into a new interner: of 4096 bytes in its first bucket, without a limit.
-        ensures filled { IfOk result (λ r. (it : I.IntoIter) × I.into_iter_gives items it
-            × InternsItems I.IntoIter.next_gives T.text K.key_at it (made_with 4096 (2 ^ 64 - 1)) r) }
+        ensures texts { IfOk result (λ r. (it : I.IntoIter) × I.into_iter_gives items it × AddsItems I.IntoIter.next_gives T.text it made_by_default r) }
+        ensures account { IfOk result (λ r. account_with_all made_by_default r.texts ≡ Some r.account) }
+        ensures copied { IfOk result (λ r. r.copied ≡ bytes_of r.texts) }
+        ensures origin { IfOk result (λ r. KeepsOrigin made_by_default r) }
 
         // On failure memory ran out for the new interner, or an item was refused as by `extend`, after those before it were interned. The
-        // interner that is left then is dropped.
+        // interner that is left then is dropped. There is no limit but what a `usize` can count.
+        ensures no_key { result ≡ Err KeySpaceExhaustion → (it : I.IntoIter) × I.into_iter_gives items it
+            × ((left : InternerView) × AddsUpToItem I.IntoIter.next_gives T.text it made_by_default left
+            (λ text. IsAbsent left text × (next_key K.key_at left ≡ None))) }
+        ensures limit { result ≡ Err MemoryLimitReached → (it : I.IntoIter) × I.into_iter_gives items it
+            × ((left : InternerView) × AddsUpToItem I.IntoIter.next_gives T.text it made_by_default left
+            (λ text. IsAbsent left text × IsSome (next_key K.key_at left) × (account_with left text ≡ None))) }
+
+        // The same facts as relations
+        ensures filled { IfOk result (λ r. (it : I.IntoIter) × I.into_iter_gives items it
+            × InternsItems I.IntoIter.next_gives T.text K.key_at it made_by_default r) }
         ensures refused { IfErr result (λ error. (error ≡ FailedAllocation) ⊎ ((it : I.IntoIter) × I.into_iter_gives items it
-            × ((left : InternerView) × StopsAtItem I.IntoIter.next_gives T.text K.key_at it (made_with 4096 (2 ^ 64 - 1)) error left))) }
+            × ((left : InternerView) × StopsAtItem I.IntoIter.next_gives T.text K.key_at it made_by_default error left))) }
     {
         let mut rodeo = Rodeo::with_hasher(alloc, S::default())?;
         rodeo.extend(items)?;

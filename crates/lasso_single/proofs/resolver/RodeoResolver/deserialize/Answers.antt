@@ -1,13 +1,10 @@
--- What was read fits the keys.
-use Rattle.std.proofs.Common.{map, false}
+use Rattle.std.proofs.Common.{false}
 use Rattle.serde_json.specs.View.{view}
-use Rattle.lasso_parts.specs.Json.{TakesText}
-use Rattle.lasso_single.proofs.JsonReading.{was_read, was_readable}
+use Rattle.lasso_single.proofs.JsonReading.{refuses_first_item, refuses_no_array}
 use Rattle.lasso_single.proofs.resolver.RodeoResolver.deserialize.Goals as goal
 
-pub new-requires : goal.new-requires
-new-requires g c =
-    let key_at = g.K.Key.key_at in
-    let d = view c.args.value.now in
-    let texts = map (λ t. t.now) c.in_ok-texts.texts.items in
-    rw (c.in_ok-list.ensures.texts, c.as_slice.ensures.value) ((was_readable key_at false d texts (was_read key_at false d (TakesText key_at d) texts c.in_ok-texts.ensures)).fits)
+pub returns-clause-no_array : goal.returns-clause-no_array
+returns-clause-no_array g c = refuses_no_array g.K.Key.key_at false (view c.args.value.now) c.read_value.result c.read_value.ensures.read
+
+pub returns-clause-first_item : goal.returns-clause-first_item
+returns-clause-first_item g c = refuses_first_item g.K.Key.key_at false (view c.args.value.now) c.read_value.result c.read_value.ensures.read

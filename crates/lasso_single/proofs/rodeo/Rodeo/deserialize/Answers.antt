@@ -1,39 +1,23 @@
--- What was read is distinct and fits the keys.
-use Rattle.std.proofs.Common.{◌≡◌, ◌≤◌, ◌^◌, List, Some, map, true, refl, sym, subst}
+use Rattle.std.proofs.Common.{true}
 use Rattle.serde_json.specs.View.{view}
-use Rattle.lasso_parts.specs.Json.{TakesText}
-use Rattle.lasso_parts.specs.Texts.{Text}
-use Rattle.lasso_single.specs.Copies.{bytes_of, clone_size, read_of}
-use Rattle.lasso_single.specs.Interner.{IsMadeWith}
-use Rattle.lasso_single.proofs.JsonReading.{was_read, was_readable}
+use Rattle.lasso_parts.specs.Json.{shown}
+use Rattle.lasso_single.specs.Interner.{InternerView}
+use Rattle.lasso_single.proofs.Copied.{read_limit, read_usage}
+use Rattle.lasso_single.proofs.JsonReading.{refuses_first_item, refuses_no_array, shown_error}
 use Rattle.lasso_single.proofs.rodeo.Rodeo.deserialize.Goals as goal
 
-pub of_texts-requires-clause-distinct : goal.of_texts-requires-clause-distinct
-of_texts-requires-clause-distinct g c =
-    let key_at = g.K.Key.key_at in
-    let d = view c.args.value.now in
-    let texts = map (λ t. t.now) c.in_ok-texts.texts.items in
-    rw c.as_slice.ensures.value ((was_readable key_at true d texts (was_read key_at true d (TakesText key_at d) texts c.in_ok-texts.ensures)).apart refl)
+pub returns-clause-limit : goal.returns-clause-limit
+returns-clause-limit g c = read_limit c.read_value.result c.read_value.ensures.account
 
-pub of_texts-requires-clause-fits : goal.of_texts-requires-clause-fits
-of_texts-requires-clause-fits g c =
-    let key_at = g.K.Key.key_at in
-    let d = view c.args.value.now in
-    let texts = map (λ t. t.now) c.in_ok-texts.texts.items in
-    rw c.as_slice.ensures.value ((was_readable key_at true d texts (was_read key_at true d (TakesText key_at d) texts c.in_ok-texts.ensures)).fits)
+pub returns-clause-usage : goal.returns-clause-usage
+returns-clause-usage g c = read_usage c.read_value.result c.read_value.ensures.account
 
-pub returns-clause-account : goal.returns-clause-account
-returns-clause-account g c = subst (λ (ts : List Text). read_of ts ≡ Some c.in_ok-rodeo.rodeo.account) (sym c.in_ok-rodeo.ensures.texts) c.in_ok-rodeo.ensures.account
+pub returns-clause-no_array : goal.returns-clause-no_array
+returns-clause-no_array g c none =
+    let answer = shown (λ (r : InternerView). r.texts) c.read_value.result in
+    shown_error (λ (r : InternerView). r.texts) c.read_value.result _ (refuses_no_array g.K.Key.key_at true (view c.args.value.now) answer c.read_value.ensures.read none)
 
-pub returns-clause-made : goal.returns-clause-made
-returns-clause-made g c = subst (λ (ts : List Text). IsMadeWith (clone_size ts) (bytes_of ts) c.in_ok-rodeo.rodeo) (sym c.in_ok-rodeo.ensures.texts) c.in_ok-rodeo.ensures.made
-
-pub returns-clause-overflow : goal.returns-clause-overflow
-returns-clause-overflow g c texts read too_many =
-    let key_at = g.K.Key.key_at in
-    let d = view c.args.value.now in
-    let mine = map (λ t. t.now) c.in_ok-texts.texts.items in
-    let whole = was_read key_at true d (TakesText key_at d) mine c.in_ok-texts.ensures in
-    let same : texts ≡ mine = cc (read, whole) in
-    let all : 2 ^ 64 ≤ bytes_of (map (λ t. t.now) c.as_slice.result.now) = rw c.as_slice.ensures.value (subst (λ (ts : List Text). 2 ^ 64 ≤ bytes_of ts) same too_many) in
-    let refused = c.in_ok-rodeo.ensures.overflow all in cc
+pub returns-clause-first_item : goal.returns-clause-first_item
+returns-clause-first_item g c first others fault at is =
+    let answer = shown (λ (r : InternerView). r.texts) c.read_value.result in
+    shown_error (λ (r : InternerView). r.texts) c.read_value.result fault (refuses_first_item g.K.Key.key_at true (view c.args.value.now) answer c.read_value.ensures.read first others fault at is)

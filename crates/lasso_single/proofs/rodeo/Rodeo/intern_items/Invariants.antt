@@ -2,7 +2,7 @@ use Rattle.std.proofs.Common.{List, map}
 use Rattle.std.specs.Iterator.{IsFinite, Yields, size}
 use Rattle.lasso_single.specs.Filling.{extend}
 use Rattle.lasso_single.proofs.Filled.{accepted}
-use Rattle.lasso_single.proofs.rodeo.Rodeo.extend_from.Given as goal
+use Rattle.lasso_single.proofs.rodeo.Rodeo.intern_items.Given as goal
 
 -- the iterator gave the items whose texts were interned, may be called again, and ends
 abbrev pub invariant-loop-text : goal.invariant-loop-text
