@@ -85,6 +85,7 @@ def some_step(random):
         (1, ("clear", handle)),
         (2, ("set_limit", handle, limit)),
         (15, ("intern", handle, some_text(random))),
+        (6, ("intern_static", handle, some_text(random))),
         (10, ("intern_batch", handle, data, offsets, some_bitmap(random, rows) if random.random() < 0.5 else None, some_null(random), about(random, rows), is_large)),
         (5, ("get", handle, some_text(random))),
         (6, ("get_batch", handle, data, offsets, random.choice([2**32 - 1, 0, 9]), about(random, rows), is_large)),
@@ -161,6 +162,8 @@ class Run:
         self.held = {kind: [None] * HANDLES for kind in (OWN, SHARED)}
         # What is lent: of each interner for one thread the address and the text, and those of shared ones with the interner.
         self.lent, self.shared_lent = [[] for _ in range(HANDLES)], []
+        # The bytes of static texts, each with the interner that keeps it.
+        self.memory, self.kept = memory, []
 
     def step(self, step):
         """Makes the call."""
@@ -174,6 +177,7 @@ class Run:
             self.look_shared()
         else:
             self.look(arguments[0], is_reading=name in ("get", "get_batch", "resolve", "text", "texts", "dictionary", "clone"))
+        self.end_kept()
 
     def at(self, kind, handle):
         """Where a handle is."""
@@ -195,6 +199,17 @@ class Run:
         self.lent[handle] = [(address, text) for address, text in self.lent[handle] if is_reading or len(text) >= 15]
         for address, text in self.lent[handle]:
             expect("a lent text", ctypes.string_at(address, len(text)), text)
+
+    def end_kept(self):
+        """Gives back the bytes of static texts that no interner has any more."""
+        still = []
+        for interner, text, buffer in self.kept:
+            expect("the bytes of a static text", buffer.content(), text)
+            if any(interner is other for other in self.held[OWN]) and text in interner.codes:
+                still.append((interner, text, buffer))
+            else:
+                buffer.end()
+        self.kept = still
 
     def look_live(self, memory, interner):
         """Compares whether a handle holds an interner."""
@@ -313,6 +328,17 @@ class Run:
         code = Output(1, "I", False)
         self.compared(kind + "intern", wanted, False, [code], self.at(kind, handle), Input(text), code)
 
+    def intern_static(self, kind, handle, text):
+        held, buffer = self.held[kind][handle], self.memory(text)
+        is_present = held is not None and text in held.codes
+        wanted = self.tried(kind, handle, lambda held: [[reference.intern_static(held, text)]])
+        code = Output(1, "I", False)
+        self.compared(kind + "intern_static", wanted, False, [code], self.at(kind, handle), buffer.at, len(text), code)
+        if is_present or isinstance(wanted, Refused):
+            buffer.end()
+        else:
+            self.kept.append((held, text, buffer))
+
     def intern_batch(self, kind, handle, data, offsets, present, null, codes_room, is_large):
         wanted = self.tried(kind, handle, lambda held: reference.intern_batch(held, data, offsets, present, null, codes_room))
         if isinstance(wanted, Refused):
@@ -414,6 +440,8 @@ def difference(steps, path, memory):
             for handle in handles:
                 run.library.call(kind + "free", None, handle.at)
                 handle.end()
+        for _, _, buffer in run.kept:
+            buffer.end()
     return None
 
 
@@ -441,8 +469,9 @@ def in_a_child(work):
 def some_filling(random):
     """A call of a sequence that fills buckets, empties them and fills them again: of one handle."""
     text = random.choice(PIECES).encode() * random.choice([1, 5, 14, 100, 1000, 2000, 5000])
-    steps = [("clear", 0), ("set_limit", 0, random.choice([0, 9000, 20000, 60000, ENDLESS])), ("clone", 0, 1), ("intern", 0, text + b"%d" % random.randrange(100))]
-    return random.choices(steps, [1, 1, 0.2, 10])[0]
+    text += b"%d" % random.randrange(100)
+    steps = [("clear", 0), ("set_limit", 0, random.choice([0, 9000, 20000, 60000, ENDLESS])), ("clone", 0, 1), ("intern", 0, text), ("intern_static", 0, text)]
+    return random.choices(steps, [1, 1, 0.2, 8, 2])[0]
 
 
 def some_shared_filling(random):

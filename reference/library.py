@@ -140,6 +140,10 @@ class Interner:
             self.codes[text] = len(self.codes)
         return self.codes[text]
 
+    def intern_static(self, text):
+        """The code of a text, which is appended without a copy if it is absent."""
+        return self.codes.setdefault(text, len(self.codes))
+
     def clone(self):
         """lasso_clone."""
         size = sum(map(len, self.codes)) or 4096
@@ -161,6 +165,13 @@ def intern(interner, text):
     if not is_utf8(text):
         raise Refused(NOT_UTF8)
     return holding(interner).intern(text)
+
+
+def intern_static(interner, text):
+    """lasso_intern_static: the code."""
+    if not is_utf8(text):
+        raise Refused(NOT_UTF8)
+    return holding(interner).intern_static(text)
 
 
 def intern_batch(interner, data, offsets, present, null, codes_room):

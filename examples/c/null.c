@@ -74,6 +74,7 @@ int main(void)
     CHECK(lasso_intern_batch(&lasso, NULL, 0, NULL, 0, NULL, 0, &report) == LASSO_DONE && tells(&report, 0, 0, 0));
     CHECK(lasso_intern(&lasso, NULL, 0, &code) == LASSO_DONE && code == 0);
     CHECK(lasso_get(&lasso, NULL, 0, &code) == LASSO_DONE && code == 0);
+    CHECK(lasso_intern_static(&lasso, NULL, 0, &code) == LASSO_DONE && code == 0);
     CHECK(lasso_intern_batch_nulls(&lasso, bytes, 3, empty_texts, 2, NULL, 0, LASSO_NULL, codes, 1, &report) == LASSO_DONE);
     CHECK(tells(&report, 1, 0, 0) && codes[0] == 0);
     CHECK(lasso_intern_batch_nulls(&lasso, bytes, 6, offsets, 2, NULL, 0, LASSO_NULL, NULL, 0, &report) == LASSO_CODES_TOO_SHORT);

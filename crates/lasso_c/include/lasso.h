@@ -15,7 +15,7 @@
  * For every call:
  * - A length counts elements, not bytes: bytes of a uint8_t array, numbers of an int32_t, int64_t or uint32_t
  *   array.
- * - The caller owns all arrays. None is kept after a call returns.
+ * - The caller owns all arrays. None is kept after a call returns, but for the text of lasso_intern_static.
  * - A pointer is aligned for its elements. It may be NULL if its length is 0. A handle, a report and each other
  *   pointer without a length is never NULL, except that lasso_free(NULL) and lasso_shared_free(NULL) do nothing.
  *   (For an array of no elements, inline functions of this header pass another pointer than NULL. A caller without
@@ -302,6 +302,21 @@ uint32_t lasso_clone(struct lasso *lasso, struct lasso *clone);
  * LASSO_LIMIT_REACHED, LASSO_NO_MEMORY; else LASSO_DONE.
  */
 uint32_t lasso_intern(struct lasso *lasso, const uint8_t *text, size_t text_length, uint32_t *code);
+
+/*
+ * lasso_intern for a text whose bytes stay where they are, as those of a string literal or of a static const array: an
+ * absent text is kept without a copy. It takes none of the bytes that lasso_memory counts, and the limit refuses none.
+ *
+ * text                read, and kept: the bytes stay valid and unchanged as long as the interner has the text, and as
+ *                     long as a text is read that lasso_text or lasso_texts lent of it. The interner has it until
+ *                     lasso_clear, lasso_free, or a call that makes another interner in the handle. An interner that
+ *                     lasso_clone makes has a copy of its own. Of a present text, these bytes are not kept.
+ *
+ * Returns the first that applies: LASSO_NOT_UTF8; LASSO_NO_INTERNER; for an absent text LASSO_NO_CODE_LEFT,
+ * LASSO_NO_MEMORY; else LASSO_DONE. What is proved supposes that the bytes stay for ever; that no call reads them
+ * once the interner has them no more is tested.
+ */
+uint32_t lasso_intern_static(struct lasso *lasso, const uint8_t *text, size_t text_length, uint32_t *code);
 
 /*
  * Interns the texts of a layout in order, and writes a code for each. It stops at the first refused text; the texts
@@ -921,6 +936,12 @@ static inline uint32_t lasso_intern_inline(struct lasso *lasso, const uint8_t *t
     return lasso_intern(lasso, (const uint8_t *)lasso_read_from(text, text_length), text_length, code);
 }
 #define lasso_intern lasso_intern_inline
+
+static inline uint32_t lasso_intern_static_inline(struct lasso *lasso, const uint8_t *text, size_t text_length, uint32_t *code)
+{
+    return lasso_intern_static(lasso, (const uint8_t *)lasso_read_from(text, text_length), text_length, code);
+}
+#define lasso_intern_static lasso_intern_static_inline
 
 static inline uint32_t lasso_intern_batch_inline(struct lasso *lasso,
                                                  const uint8_t *bytes, size_t bytes_length,

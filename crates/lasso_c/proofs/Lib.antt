@@ -17,3 +17,4 @@ pub mod SeededLaws
 pub mod SharedSeats
 pub mod SharedSteps
 pub mod TextFacts
+pub mod StaticFacts

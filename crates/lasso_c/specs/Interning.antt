@@ -6,7 +6,7 @@ use Rattle.lasso_parts.specs.Texts.{Text}
 use Rattle.lasso_parts.specs.declared.util.LassoError.{LassoError}
 use Rattle.lasso_parts.specs.declared.util.LassoErrorKind.TheVariants.{MemoryLimitReached, KeySpaceExhaustion, FailedAllocation}
 use Rattle.lasso_single.specs.Filling.{extend}
-use Rattle.lasso_single.specs.Intern.{InternsIn}
+use Rattle.lasso_single.specs.Intern.{InternsIn, InternsStaticIn}
 use Rattle.lasso_single.specs.Interner.{InternerView, made_with}
 use Rattle.lasso_c.specs.Bitmap.{bits_fit, present_at}
 use Rattle.lasso_parts.specs.Layout.{layout_texts}
@@ -126,3 +126,21 @@ TextInterned (Some old) text status new =
 abbrev pub TextEnds : Bool → Option Interner → Text → ℕ → Option Interner → Type 0
 TextEnds true old text status new = TextInterned old text status new
 TextEnds false old text status new = (status ≡ NOT_UTF8) × (new ≡ old)
+
+-- an interner interns a static text and gives its code, or refuses it
+abbrev pub InternsStaticCode : InternerView → Text → Result ℕ CallError → InternerView → Type 0
+InternsStaticCode old text (Ok code) new = InternsStaticIn {K = ℕ} key_of_code old text (Ok (code + 1)) new
+InternsStaticCode old text (Err refusal) new = (error : LassoError) × InternsStaticIn {K = ℕ} key_of_code old text (Err error) new × (refusal ≡ refusal_at 0 error)
+
+-- how interning one static text ends on a handle: its status, and what the handle holds, as `InternsStaticIn` of
+-- `lasso_single` says
+abbrev pub StaticInterned : Option Interner → Text → ℕ → Option Interner → Type 0
+StaticInterned None text status new = (status ≡ NO_INTERNER) × (new ≡ None)
+StaticInterned (Some old) text status new =
+    (interner : Interner) × (outcome : Result ℕ CallError) × (new ≡ Some interner) × InternsStaticCode old.rodeo text outcome interner.rodeo × (status ≡ outcome_status outcome)
+
+-- how interning one static text ends on a handle, as `StaticInterned` says, unless the bytes are not UTF-8: then the
+-- status is `NOT_UTF8`, and nothing changes
+abbrev pub StaticEnds : Bool → Option Interner → Text → ℕ → Option Interner → Type 0
+StaticEnds true old text status new = StaticInterned old text status new
+StaticEnds false old text status new = (status ≡ NOT_UTF8) × (new ≡ old)

@@ -9,7 +9,7 @@ ghost use Rattle.lasso_parts.specs.Layout.{layout_texts, offsets_from};
 ghost use Rattle.lasso_c.specs.Layout.{CopiesFront, first_rows, first_texts, layout_fault, over, over_if_done, present_texts};
 ghost use Rattle.lasso_c.specs.Encoding.{with_all_new, codes_of, codes_or, row_codes, sizes_of};
 ghost use Rattle.lasso_c.specs.Handles.{code_lookup_in, part_lookup_outcome, part_outcome};
-ghost use Rattle.lasso_c.specs.Interning.{InternsCode, InternsInto, InternsNext, batch_report, batch_start_fault, refusal_at};
+ghost use Rattle.lasso_c.specs.Interning.{InternsCode, InternsInto, InternsNext, InternsStaticCode, batch_report, batch_start_fault, refusal_at};
 ghost use Rattle.lasso_c.specs.Status.{outcome_status};
 
 use crate::ahead::look_ahead_from;
@@ -167,6 +167,20 @@ pub(crate) fn code_in(dictionary: &mut Dictionary, text: &str, at: usize) -> Res
     ensures { InternsCode at dictionary.old text.now result dictionary.new }
 {
     code_next(dictionary, text, at, &mut Batch::new())
+}
+
+// The code of a text that stays where it is, which goes last in the dictionary if it is new, without a copy. Where the text is
+// refused nothing has changed.
+pub(crate) fn static_code_in(
+    dictionary: &mut Dictionary,
+    text: &'static str,
+) -> Result<u32, CallError>
+    ensures { InternsStaticCode dictionary.old text.now result dictionary.new }
+{
+    match dictionary.try_get_or_intern_static(text) {
+        Ok(key) => Ok(key.into_position()),
+        Err(error) => Err(refusal_of(error.kind(), 0)),
+    }
 }
 
 // `code_in` for the next text of a batch. In line, so that a single text has no batch.

@@ -2,7 +2,7 @@
 //!
 //! A call borrows the interner from its handle for as long as it works on it.
 ghost use denote.RawPtr.{null_ptr};
-ghost use Rattle.std.specs.Prelude.{◌≡◌, ◌≤◌, ◌↔◌, [], None, Some, false, length, slice_get, drop, IfSome, IsSome, IsSomeAnd, IsTrue};
+ghost use Rattle.std.specs.Prelude.{◌≡◌, ◌≢◌, ◌≤◌, ◌↔◌, [], None, Some, false, length, slice_get, drop, IfSome, IsSome, IsSomeAnd, IsTrue};
 ghost use Rattle.std.specs.Str.{is_utf8};
 ghost use Rattle.lasso_parts.specs.Account.{clear, fresh, with_limit};
 ghost use Rattle.lasso_parts.specs.Texts.{position_of};
@@ -12,12 +12,12 @@ ghost use Rattle.lasso_c.specs.Layout.{bytes_over, CopiesFront, first_rows, firs
 ghost use Rattle.lasso_c.specs.Encoding.{codes_or, with_new};
 ghost use Rattle.lasso_c.specs.Handles.{account_in, code_lookup, codes_in, dictionary_outcome, first_in, lookup_outcome};
 ghost use Rattle.lasso_c.specs.Handles.{PutsNew, row_codes_in, seed_in, text_lookup, texts_in};
-ghost use Rattle.lasso_c.specs.Interning.{ColumnEnds, TextEnds, key_of_code};
+ghost use Rattle.lasso_c.specs.Interning.{ColumnEnds, StaticEnds, TextEnds, key_of_code};
 ghost use Rattle.lasso_c.specs.Seeds.{IsFixed};
 ghost use Rattle.lasso_c.specs.Status.{Reports, outcome_status};
 ghost use Rattle.lasso_c.specs.declared.status.TheConstants.{LIMIT_REACHED, NO_CODE_LEFT};
 
-use crate::batches::{code_in, copy_text};
+use crate::batches::{code_in, copy_text, static_code_in};
 use crate::error::{CallError, LassoReport, status_of};
 use crate::handle::Lasso;
 use crate::making::make;
@@ -99,6 +99,65 @@ fn intern_text(lasso: &mut Lasso, text: &[u8], code: &mut u32) -> u32
         return NO_INTERNER;
     };
     match code_in(&mut interner.rodeo, text, 0) {
+        Ok(found) => {
+            *code = found;
+            DONE
+        }
+        Err(refusal) => status_of(&refusal),
+    }
+}
+
+/// Interns a text that stays where it is, and writes its code. An absent text is kept without a copy: the limit is not asked, and
+/// the account stays. It returns the first that applies: `NOT_UTF8`; `NO_INTERNER`; for an absent text `NO_CODE_LEFT`, `NO_MEMORY`;
+/// else `DONE`. If it is not `DONE`, the texts and `code` are as before.
+#[unsafe(no_mangle)]
+pub extern "C" fn lasso_intern_static(lasso: &mut Lasso, text: &'static [u8], code: &mut u32) -> u32
+    // On success the interner has the text, and `code` is its position there. An absent text goes last.
+    ensures texts { result ≡ DONE → texts_in lasso.new.seat.value ≡ with_new (texts_in lasso.old.seat.value) text.now }
+    ensures code { result ≡ DONE → position_of (texts_in lasso.new.seat.value) text.now ≡ Some code.new }
+
+    // A present text is never refused.
+    ensures present { IsTrue (is_utf8 text.now) → IsSomeAnd lasso.old.seat.value (λ i. IsPresent i.rodeo text.now) → result ≡ DONE }
+
+    // Which failure: bytes that are not UTF-8 come first, then no interner, no code left, and memory, which may run out at any time. The
+    // limit refuses none.
+    ensures not_utf8 { (result ≡ NOT_UTF8) ↔ (is_utf8 text.now ≡ false) }
+    ensures no_interner { (result ≡ NO_INTERNER) ↔ (IsTrue (is_utf8 text.now) × (lasso.old.seat.value ≡ None)) }
+    ensures no_code { (result ≡ NO_CODE_LEFT) ↔ (IsTrue (is_utf8 text.now)
+        × IsSomeAnd lasso.old.seat.value (λ i. IsAbsent i.rodeo text.now × (next_key key_of_code i.rodeo ≡ None))) }
+    ensures no_limit { result ≢ LIMIT_REACHED }
+    ensures memory { result ≡ NO_MEMORY → IsTrue (is_utf8 text.now) × IsSomeAnd lasso.old.seat.value
+        (λ i. IsAbsent i.rodeo text.now × IsSome (next_key key_of_code i.rodeo)) }
+
+    // What stays: the account, for no byte is copied, and how it hashes; on failure the interner and `code`
+    ensures account { account_in lasso.new.seat.value ≡ account_in lasso.old.seat.value }
+    ensures seed { seed_in lasso.new.seat.value ≡ seed_in lasso.old.seat.value }
+    ensures kept { ¬ (result ≡ DONE) → lasso.new.seat.value ≡ lasso.old.seat.value }
+    ensures code_kept { ¬ (result ≡ DONE) → code.new ≡ code.old }
+
+    // The same facts as one relation
+    ensures outcome { StaticEnds (is_utf8 text.now) lasso.old.seat.value text.now result lasso.new.seat.value }
+{
+    intern_static_text(lasso, text, code)
+}
+
+// The call with its contract in a relation.
+#[inline(always)]
+fn intern_static_text(lasso: &mut Lasso, text: &'static [u8], code: &mut u32) -> u32
+    ensures outcome { StaticEnds (is_utf8 text.now) lasso.old.seat.value text.now result lasso.new.seat.value }
+    ensures texts { result ≡ DONE → texts_in lasso.new.seat.value ≡ with_new (texts_in lasso.old.seat.value) text.now }
+    ensures code { result ≡ DONE → position_of (texts_in lasso.new.seat.value) text.now ≡ Some code.new }
+    ensures seed { seed_in lasso.new.seat.value ≡ seed_in lasso.old.seat.value }
+    ensures kept { ¬ (result ≡ DONE) → lasso.new.seat.value ≡ lasso.old.seat.value }
+    ensures code_kept { ¬ (result ≡ DONE) → code.new ≡ code.old }
+{
+    let Some(text) = text_of(text) else {
+        return NOT_UTF8;
+    };
+    let Some(interner) = lasso.interner() else {
+        return NO_INTERNER;
+    };
+    match static_code_in(&mut interner.rodeo, text) {
         Ok(found) => {
             *code = found;
             DONE

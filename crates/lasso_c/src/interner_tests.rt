@@ -86,6 +86,34 @@ fn holds_a_limit(rt: HostRuntime) -> Result<(), Fail> {
     walk(&rt, &UNDER_A_LIMIT)
 }
 
+// The first text fills the first bucket, which is all that the limit leaves, so no other text is copied.
+static WITHOUT_A_COPY: [Step; 19] = [
+    Step::InternsStatic(b"red", (12, 77)),
+    Step::InternsStatic(b"\xc3", (3, 77)),
+    Step::Makes(4096),
+    Step::InternsLong(4096, (0, 0)),
+    Step::Interns(LONG, (10, 77)),
+    Step::InternsStatic(LONG, (0, 1)),
+    Step::InternsStatic(LONG, (0, 1)),
+    Step::Interns(LONG, (0, 1)),
+    Step::Finds(LONG, (0, 1)),
+    Step::InternsStatic(b"\xc3", (3, 77)),
+    Step::InternsStatic(b"", (0, 2)),
+    Step::Limits(0, 0),
+    Step::InternsStatic(b"blue", (0, 3)),
+    Step::Takes(4096, 0),
+    Step::LendsAll(1, 4, &[LONG, b"", b"blue"]),
+    Step::Dictionary((2, (4, 3)), (0, (2, 4, 0)), (b"blue", &[0, 0, 4])),
+    Step::Clears(0),
+    Step::Finds(LONG, (13, 77)),
+    Step::InternsStatic(b"red", (0, 0)),
+];
+
+#[test]
+fn keeps_a_static_text_without_a_copy(rt: HostRuntime) -> Result<(), Fail> {
+    walk(&rt, &WITHOUT_A_COPY)
+}
+
 // An offset of 2^32 + 3 would be 3 in 32 bits. The second column is "red", a null, and "red".
 static BY_OFFSETS_OF_64_BITS: [Step; 5] = [
     Step::Makes(usize::MAX),

@@ -1,7 +1,8 @@
 //! Interning for C, and for the languages that call C. `include/lasso.h` says what a caller owes and gets.
 //!
 //! Texts cross in the layout of Arrow's arrays of strings: one buffer of bytes, and a buffer of offsets, one
-//! more than there are texts. No call keeps a pointer, and each writes into its caller's memory alone.
+//! more than there are texts. No call keeps a pointer but to a static text, and each writes
+//! into its caller's memory alone.
 #![tactic(auto)]
 
 ghost use Rattle.std.specs.Prelude.{◌≡◌, ◌⊎◌, Err, length, take};

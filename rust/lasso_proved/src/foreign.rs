@@ -22,6 +22,8 @@
 //!    the handle is good then.
 //! 7. *Signals and forks.* The library must not be called in a signal handler, nor in the forked
 //!    child of a process with threads. Safe Rust does neither.
+//! 8. *Static texts.* A text that the library keeps without a copy is a `&'static str` here: its
+//!    bytes stay where they are, unchanged, as long as the program runs.
 
 use crate::error::or_panic;
 use crate::foreign_shared::Users;
@@ -60,6 +62,12 @@ extern "C" {
         seed1: u64,
     ) -> u32;
     fn lasso_intern(lasso: *mut Lasso, text: *const u8, text_length: usize, code: *mut u32) -> u32;
+    fn lasso_intern_static(
+        lasso: *mut Lasso,
+        text: *const u8,
+        text_length: usize,
+        code: *mut u32,
+    ) -> u32;
     fn lasso_set_limit(lasso: *mut Lasso, limit: usize) -> u32;
     fn lasso_clear(lasso: *mut Lasso) -> u32;
     fn lasso_free(lasso: *mut Lasso);
@@ -196,6 +204,17 @@ impl Handle {
         let (lasso, mut code) = (self.lasso.get_mut(), 0);
         // SAFETY: a handle that lends no text now, another's text, and a variable (1, 2, 4).
         let status = unsafe { lasso_intern(lasso, text.as_ptr(), text.len(), &mut code) };
+        outcome(status)?;
+        Ok(code)
+    }
+
+    /// The code of a static text, which is appended without a copy if it is absent. If an absent text
+    /// is refused, nothing has changed.
+    #[inline]
+    pub(crate) fn intern_static(&mut self, text: &'static str) -> LassoResult<u32> {
+        let (lasso, mut code) = (self.lasso.get_mut(), 0);
+        // SAFETY: a handle that lends no text now, a static text, and a variable (1, 2, 4, 8).
+        let status = unsafe { lasso_intern_static(lasso, text.as_ptr(), text.len(), &mut code) };
         outcome(status)?;
         Ok(code)
     }

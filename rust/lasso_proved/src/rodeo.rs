@@ -231,34 +231,58 @@ impl<K: Key, S: BuildHasher> Rodeo<K, S> {
     /// ```
     pub fn try_get_or_intern<T: AsRef<str>>(&mut self, val: T) -> LassoResult<K> {
         let text = val.as_ref();
-        // A key type with a key for the library's last position never asks how many texts there are.
-        let has_all = K::try_from_usize(LAST_POSITION).is_some();
-        if !has_all && K::try_from_usize(self.len()).is_none() {
-            let exhausted = LassoError::new(LassoErrorKind::KeySpaceExhaustion);
-            return self.get(text).ok_or(exhausted);
+        if self.lacks_a_key() {
+            return self.get_or_exhausted(text);
         }
         self.handle.intern(text).map(key_of)
     }
 
-    /// The key of a static text: the same call as [`get_or_intern`](Self::get_or_intern). An absent
-    /// text is copied too.
+    /// Whether the key type has no key for another text.
+    fn lacks_a_key(&self) -> bool {
+        // A key type with a key for the library's last position never asks how many texts there are.
+        let has_all = K::try_from_usize(LAST_POSITION).is_some();
+        !has_all && K::try_from_usize(self.len()).is_none()
+    }
+
+    /// The key of a present text, if no key is left for an absent one.
+    fn get_or_exhausted(&self, text: &str) -> LassoResult<K> {
+        let exhausted = LassoError::new(LassoErrorKind::KeySpaceExhaustion);
+        self.get(text).ok_or(exhausted)
+    }
+
+    /// The key of a static text. An absent text is kept without a copy.
     ///
     /// # Panics
     ///
-    /// If an absent text is refused.
+    /// If an absent text is refused, as [`try_get_or_intern_static`](Self::try_get_or_intern_static)
+    /// refuses it.
     #[track_caller]
     pub fn get_or_intern_static(&mut self, string: &'static str) -> K {
-        self.get_or_intern(string)
+        or_panic(self.try_get_or_intern_static(string))
     }
 
-    /// The key of a static text: the same call as [`try_get_or_intern`](Self::try_get_or_intern).
-    /// An absent text is copied too, and counts for the limit.
+    /// The key of a static text. An absent text is kept without a copy, and takes none of the bytes
+    /// that the limit is for.
     ///
     /// # Errors
     ///
-    /// Those of `try_get_or_intern`.
+    /// An absent text is refused if no key is left, and if memory is out. The interner is as it was
+    /// then. A present text is never refused.
+    ///
+    /// ```rust
+    /// use lasso_proved::{MemoryLimits, Rodeo};
+    ///
+    /// let mut rodeo = Rodeo::default();
+    /// rodeo.set_memory_limits(MemoryLimits::for_memory_usage(0));
+    /// let text = "a text that stays where it is";
+    /// let key = rodeo.try_get_or_intern_static(text).unwrap();
+    /// assert_eq!(rodeo.resolve(&key).as_ptr(), text.as_ptr());
+    /// ```
     pub fn try_get_or_intern_static(&mut self, string: &'static str) -> LassoResult<K> {
-        self.try_get_or_intern(string)
+        if self.lacks_a_key() {
+            return self.get_or_exhausted(string);
+        }
+        self.handle.intern_static(string).map(key_of)
     }
 
     /// The key of a text, or `None` if the text is absent.

@@ -78,6 +78,33 @@ fn equal_texts_have_one_key_and_keys_count_up() {
     assert_eq!(rodeo.len(), 3);
 }
 
+// A text of more than 14 bytes: a shorter one is kept in the list.
+const STATIC: &str = "a static text that is kept where it is";
+
+#[test]
+fn a_static_text_stays_where_it_is() {
+    let mut rodeo = Rodeo::default();
+    let key = rodeo.get_or_intern_static(STATIC);
+    for number in 0..1000 {
+        rodeo.get_or_intern(number.to_string());
+    }
+    assert_eq!(rodeo.resolve(&key).as_ptr(), STATIC.as_ptr());
+    let clone = rodeo.clone();
+    assert_eq!(clone.resolve(&key), STATIC);
+    assert_ne!(clone.resolve(&key).as_ptr(), STATIC.as_ptr());
+    assert_eq!(rodeo.into_reader().resolve(&key).as_ptr(), STATIC.as_ptr());
+}
+
+#[test]
+fn a_present_copy_of_a_static_text_stays() {
+    let mut rodeo = Rodeo::default();
+    let key = rodeo.get_or_intern(STATIC);
+    let address = rodeo.resolve(&key).as_ptr();
+    assert_eq!(rodeo.get_or_intern_static(STATIC), key);
+    assert_eq!(rodeo.resolve(&key).as_ptr(), address);
+    assert_ne!(address, STATIC.as_ptr());
+}
+
 #[test]
 fn static_texts_have_the_keys_of_equal_texts() {
     let mut rodeo = colours();

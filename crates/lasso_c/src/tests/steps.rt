@@ -4,8 +4,8 @@ use crate::error::LassoReport;
 use crate::handle::Lasso;
 use crate::interner::{
     lasso_capacity, lasso_clear, lasso_dictionary, lasso_free, lasso_get, lasso_get_batch,
-    lasso_intern, lasso_intern_batch, lasso_intern_batch_nulls, lasso_len, lasso_limit,
-    lasso_memory, lasso_new, lasso_resolve, lasso_set_limit,
+    lasso_intern, lasso_intern_batch, lasso_intern_batch_nulls, lasso_intern_static, lasso_len,
+    lasso_limit, lasso_memory, lasso_new, lasso_resolve, lasso_set_limit,
 };
 use crate::large::{
     lasso_dictionary_large, lasso_get_batch_large, lasso_intern_batch_large,
@@ -53,6 +53,8 @@ pub enum Step {
     Interns(&'static [u8], (u32, u32)),
     // the same for a text of this number of letters `a`
     InternsLong(usize, (u32, u32)),
+    // the same for a text that is kept where it is
+    InternsStatic(&'static [u8], (u32, u32)),
     // interning the texts, with room for this number of codes, ends so
     Batch(Layout<'static>, usize, Codes),
     // the same for a column with this bitmap, whose nulls have the code 7
@@ -153,6 +155,12 @@ fn interns_long(alloc: Global, lasso: &mut Lasso, count: usize, want: (u32, u32)
         Ok(text) => interns(lasso, &text, want),
         Err(_) => (9, false),
     }
+}
+
+fn interns_static(lasso: &mut Lasso, text: &'static [u8], want: (u32, u32)) -> Seen {
+    let mut code = 77;
+    let status = lasso_intern_static(lasso, text, &mut code);
+    (status, (status, code) == want)
 }
 
 fn finds(lasso: &mut Lasso, text: &[u8], want: (u32, u32)) -> Seen {
@@ -336,6 +344,7 @@ fn take(alloc: Global, lasso: &mut Lasso, step: &Step) -> Seen {
         }
         Step::Interns(text, want) => interns(lasso, text, want),
         Step::InternsLong(count, want) => interns_long(alloc, lasso, count, want),
+        Step::InternsStatic(text, want) => interns_static(lasso, text, want),
         Step::Batch(layout, room, want) => batch(lasso, layout, room, want),
         Step::Nulls(layout, bits, room, want) => nulls(lasso, (layout, bits), room, want),
         Step::Finds(text, want) => finds(lasso, text, want),
