@@ -29,7 +29,7 @@ TEST_SECONDS, ENDLESS_SECONDS = 600, 40
 RAN = re.compile(r"^test (\S+) \.\.\. (ok|FAILED)$", re.MULTILINE)
 WHY = re.compile(r"^\s*checked: (.*)$", re.MULTILINE)
 # How many mutants are built at once, and what the name of a test that runs without one ends in.
-MOST_AT_ONCE, AS_IT_IS = 12, "_as_it_is"
+MOST_AT_ONCE, AS_IT_IS = 36, "_as_it_is"
 # What says nothing of a mutant, though rt and cases/run call it failed: it took too long, or memory was short and the system killed it.
 LATE, KILLED = "had not ended in time", "was killed"
 SAID_OF_KILLED = "signal 9 (SIGKILL)"
@@ -231,14 +231,16 @@ def together(edits, copy):
 
 
 def try_together(edits, copy):
-    """Tells what came of each of these mutants in one build, where that says so: each of its tests or cases fails with it, and passes without one."""
+    """Tells what came of each of these mutants in one build, where that says so: each of its tests or cases fails with it, and passes without one. If
+    there is no build of all, halves of them are tried."""
     results = []
     with tempfile.TemporaryDirectory() as room:
         try:
             came = (tests_together if edits[0].tests else cases_together)(edits, copy, room)
         except Unfit as fault:
             print(fault, flush=True)
-            return []
+            parts = parts_of(edits, []) if len(edits) > 1 else []
+            return [result for part in parts for result in try_together(part, copy)]
         for edit in edits:
             with contextlib.suppress(Unfit):
                 results += tell_run(edit, came(edit))
