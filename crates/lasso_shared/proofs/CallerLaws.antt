@@ -91,7 +91,7 @@ record HasPosition {K : Type 0} (key_at : ℕ → Option K) (texts : List Text) 
 position_of_key : {K : Type 0} (key_at : ℕ → Option K) (texts : List Text) (text : Text) (k : K) → key_of key_at texts text ≡ Some k → HasPosition key_at texts text k
 position_of_key key_at texts text k has = option_and_then_some key_at (position_of texts text) k has (λ n at key. record { position = n; at = at; key = key })
 
-some_there : {K : Type 0} (o : Option K) → IsSome o → (k : K) × (o ≡ Some k)
+pub some_there : {K : Type 0} (o : Option K) → IsSome o → (k : K) × (o ≡ Some k)
 some_there None there = absurd (cc there)
 some_there (Some k) there = (k, refl)
 
@@ -102,7 +102,7 @@ module _ {K : Type 0} (key_at : ℕ → Option K) where
       let p = position_of_key key_at (totals o h).texts text k has in
       ap (option_and_then key_at) (position_past (totals o h).texts (totals o g).texts text p.position (list_past o h g more) p.at) ∙ p.key
 
-  end_past : (o : Totals) (before after : History) (pass : ℕ) (q : Question) (r : Reply K) (c : IsCall key_at o before after pass q r) → IsPrefix (before ++ c.explained.0) after
+  pub end_past : (o : Totals) (before after : History) (pass : ℕ) (q : Question) (r : Reply K) (c : IsCall key_at o before after pass q r) → IsPrefix (before ++ c.explained.0) after
   end_past o before after pass q r c = (c.explained.1, append_assoc before c.explained.0 c.explained.1 ∙ ap (λ (h : History). before ++ h) c.explained.2 ∙ c.begins)
 
   pub tells_keys : CallsTellKeys key_at

@@ -6,6 +6,7 @@ mod MachineCalls
 pub mod Called
 pub mod CallerLaws
 mod PassFacts
+mod MomentFacts
 pub mod Alike
 pub mod Whole
 pub mod Stored

@@ -1,8 +1,10 @@
 -- Calls of a pass, as contracts say them: by what is seen of the pass before and after.
-use Rattle.std.specs.Prelude.{ℕ, List, [], take, Option}
+use Rattle.std.specs.Prelude.{◌≡◌, ◌++◌, ℕ, List, [], take, Option}
+use mathlib.Core.List.{IsPrefix}
 use Rattle.lasso_parts.specs.Texts.{Text}
 use Rattle.lasso_parts.specs.declared.util.LassoErrorKind.{LassoErrorKind}
-use Rattle.lasso_log.specs.Calls.{IsCall}
+use Rattle.lasso_log.specs.Calls.{IsCall, events_of}
+use Rattle.lasso_log.specs.History.{Event, History, Totals, totals}
 use Rattle.lasso_log.specs.Notes.{Since}
 use Rattle.lasso_log.specs.Replies.{Question, Reply}
 use Rattle.lasso_log.specs.Views.{InternerId, IsSamePass, PassView, seen}
@@ -42,3 +44,19 @@ StopsFurther {K} key_at of before after texts from old new error =
 -- calls of the pass that looked the texts up in order, as `AddsGot`: `new` is `old` with what they returned after it
 abbrev pub PassGets : {K : Type 0} → (ℕ → Option K) → InternerId → (before after : PassView) → List Text → (old new : List (Option K)) → Type 0
 PassGets key_at of before after texts old new = AddsGot key_at of.opening (seen before) (seen after) before.number texts old new
+
+-- after some history between the two, P holds of what it adds up to
+abbrev pub AtMomentOf : Totals → (before after : History) → (Totals → Type 0) → Type 0
+AtMomentOf opening before after P = (moment : History) × IsPrefix before moment × IsPrefix moment after × P (totals opening moment)
+
+-- P holds at some moment between what the pass had seen of this interner and what it then has seen
+abbrev pub AtMoment : InternerId → (before after : PassView) → (Totals → Type 0) → Type 0
+AtMoment of before after P = AtMomentOf of.opening (seen before) (seen after) P
+
+-- after the first history, the pass of this number has just these events in the second
+abbrev pub AddsEventsOf : (before after : History) → (pass : ℕ) → List Event → Type 0
+AddsEventsOf before after pass own = (past : History) × (before ++ past ≡ after) × (events_of pass past ≡ own)
+
+-- after what the pass had seen, it has just these events of its own in what it then has seen
+abbrev pub AddsEvents : (before after : PassView) → List Event → Type 0
+AddsEvents before after own = AddsEventsOf (seen before) (seen after) before.number own

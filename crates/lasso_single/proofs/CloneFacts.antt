@@ -1,15 +1,14 @@
 -- The clauses of a call that copies the texts of an interner over those of another, each from `ClonesInto`, and that relation again from them.
 --
 -- A call that stopped says how many texts were copied, and why the next one was not. So its error says which of the two reasons it was.
-use Rattle.std.proofs.Common.{◌≡◌, ◌⊎◌, ℕ, List, [], inl, inr, length, slice_get, true, Option, Some, None, IsSome, IsSomeAnd, Result, Ok, Err, refl, sym, ap, subst}
-use Rattle.std.specs.Prelude.{IfErr, OnOk, OnErr}
-use Rattle.lasso_parts.specs.Account.{Account, clear, store}
+use Rattle.std.proofs.Common.{◌≡◌, ◌⊎◌, ℕ, List, inl, inr, length, slice_get, Option, Some, None, IsSome, IsSomeAnd, Result, Ok, Err, refl, sym, subst}
+use Rattle.lasso_parts.specs.Account.{Account, store}
 use Rattle.lasso_parts.specs.Texts.{Text}
 use Rattle.lasso_parts.specs.declared.util.LassoError.{LassoError}
 use Rattle.lasso_parts.specs.declared.util.LassoErrorKind.TheVariants.{MemoryLimitReached, KeySpaceExhaustion, FailedAllocation}
 use Rattle.lasso_single.specs.CloneFacts.{CloneFacts, CloneFactsSayAll}
-use Rattle.lasso_single.specs.Copies.{ClearsAgain, ClonesInto, StopsAt, StopsCloning, bytes_of, store_all}
-use Rattle.lasso_single.specs.Interner.{InternerView, most_copied}
+use Rattle.lasso_single.specs.Copies.{ClearsAgain, ClonesInto, StopsCloning}
+use Rattle.lasso_single.specs.Interner.{InternerView}
 
 found : (o : Option Text) (P : Text → Type 0) (text : Text) → o ≡ Some text → P text → IsSomeAnd o P
 found o P text at holds = subst (λ (p : Option Text). IsSomeAnd p P) (sym at) holds

@@ -1,13 +1,12 @@
 -- The clauses of the calls that intern the items of an iterator, from `InternsEach` of those that were interned and `StopsAtRefusal`.
 --
 -- A refused text changes nothing, so what the texts before it left is what the call left.
-use Rattle.std.proofs.Common.{◌≡◌, ℕ, List, [], ◌∷◌, ◌++◌, map, Option, Some, None, IsSome, Result, Ok, Err, refl, sym, ap, subst}
-use Rattle.std.specs.Iterator.{Drains, Yields}
+use Rattle.std.proofs.Common.{◌≡◌, ℕ, List, map, Option, None, IsSome, Result, Ok, Err, sym, ap, subst}
 use Rattle.std.specs.Prelude.{IfErr, OnOk}
 use Rattle.lasso_parts.specs.Texts.{Text}
 use Rattle.lasso_parts.specs.declared.util.LassoError.{LassoError}
 use Rattle.lasso_parts.specs.declared.util.LassoErrorKind.TheVariants.{MemoryLimitReached, KeySpaceExhaustion, FailedAllocation}
-use Rattle.lasso_single.specs.Filling.{AddsItems, AddsUpToItem, FillsUpTo, InternsEach, InternsItems, StopsAtItem, StopsAtRefusal, with_all_new}
+use Rattle.lasso_single.specs.Filling.{FillsUpTo, InternsEach, StopsAtRefusal, with_all_new}
 use Rattle.lasso_single.specs.Intern.{InternsIn, IsAbsent, account_with, next_key}
 use Rattle.lasso_single.specs.Interner.{InternerView}
 use Rattle.lasso_single.proofs.FillingFacts.{Added, filled_added, filled_texts}

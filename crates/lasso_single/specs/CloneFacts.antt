@@ -1,6 +1,6 @@
 -- The clauses of a call that copies the texts of an interner over those of another, a field each, and the law that together they say just
 -- what `ClonesInto` says.
-use Rattle.std.specs.Prelude.{ℕ, ◌≡◌, ◌⊎◌, ◌↔◌, List, [], true, Some, None, Result, Err, IfErr, OnOk, OnErr, IsSome, IsSomeAnd, length, slice_get}
+use Rattle.std.specs.Prelude.{◌≡◌, ◌⊎◌, ◌↔◌, List, [], true, Some, None, Result, Err, IfErr, OnOk, OnErr, IsSome, IsSomeAnd, length, slice_get}
 use Rattle.lasso_parts.specs.Account.{clear, store}
 use Rattle.lasso_parts.specs.Texts.{Text}
 use Rattle.lasso_parts.specs.declared.util.LassoError.{LassoError}

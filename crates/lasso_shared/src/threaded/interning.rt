@@ -1,11 +1,14 @@
 //! Interning texts in an interner that threads share, with a pass.
 ghost use mathlib.Core.List.{IsPrefix};
-ghost use Rattle.std.specs.Prelude.{◌≡◌, Ok, IfOk};
-ghost use Rattle.lasso_log.specs.History.{IsLegal, IsOpening};
+ghost use Rattle.std.specs.Prelude.{◌≡◌, ◌≢◌, ◌+◌, ◌<◌, ◌⊎◌, List, [], None, Ok, Err, IfOk, OnOk, OnErr, length};
+ghost use Rattle.lasso_parts.specs.declared.util.LassoErrorKind.TheVariants.{FailedAllocation, KeySpaceExhaustion, MemoryLimitReached};
+ghost use Rattle.lasso_log.specs.Buckets.{HasNoRoom};
+ghost use Rattle.lasso_log.specs.Calls.{Stores, StoresAndAppends};
+ghost use Rattle.lasso_log.specs.History.{Event, IsLegal, IsOpening, Lacks};
 ghost use Rattle.lasso_log.specs.Replies.{Copied, Static, Intern, Interned};
 ghost use Rattle.lasso_log.specs.Views.{PassView, InternerId, IsSamePass, seen};
 ghost use Rattle.lasso_shared.specs.CallerLaws.{HasKey};
-ghost use Rattle.lasso_shared.specs.PassCalls.{IsPassCall};
+ghost use Rattle.lasso_shared.specs.PassCalls.{AddsEvents, AtMoment, IsPassCall};
 
 use crate::shards::new_text::NewText;
 use crate::threaded::ThreadedRodeo;
@@ -43,10 +46,21 @@ impl<K: Key, S: BuildHasher + Drop> ThreadedRodeo<K, S> {
         ensures same { IsSamePass pass.new pass.old }
         ensures kept { IsPrefix (seen pass.old) (seen pass.new) }
 
-        // One list of all threads explains the reply and the events of the call, at a moment between what the pass had seen and what it
-        // then has seen. An error is of a text that is absent at that moment: its position has no key (`KeySpaceExhaustion`), no bucket
-        // has room for it and the limit leaves none (`MemoryLimitReached`), or memory ran out; which of these if several hold, no clause says.
-        // No text is appended then, and no event added, but that without a key its bytes stay taken.
+        // On failure the text is absent at a moment between what the pass had seen and what it then has seen: its position has no key then,
+        // no bucket has room for it and the limit leaves none, or memory ran out. If several of these hold, no clause says which error it is.
+        ensures no_key { result ≡ Err KeySpaceExhaustion
+            → AtMoment self.now pass.old pass.new (λ s. Lacks s.texts text.now × (K.key_at (length s.texts) ≡ None)) }
+        ensures limit { result ≡ Err MemoryLimitReached → AtMoment self.now pass.old pass.new (λ s. Lacks s.texts text.now
+            × (text.now ≢ []) × HasNoRoom s.buckets (length text.now) × (s.limit < s.usage + length text.now)) }
+        ensures memory { result ≡ Err FailedAllocation → AtMoment self.now pass.old pass.new (λ s. Lacks s.texts text.now) }
+
+        // The events that it adds: on success none, or those that store the text's bytes and put it last. On failure none, but that without a
+        // key its bytes stay taken. So a failed call appends no text.
+        ensures added { OnOk result ((own : List Event) × ((own ≡ []) ⊎ StoresAndAppends Copied text.now own) × AddsEvents pass.old pass.new own) }
+        ensures taken { result ≡ Err KeySpaceExhaustion → (own : List Event) × Stores Copied text.now own × AddsEvents pass.old pass.new own }
+        ensures idle { result ≢ Err KeySpaceExhaustion → OnErr result (AddsEvents pass.old pass.new []) }
+
+        // One list of all threads explains the reply and the events at such a moment.
         ensures call { IsPassCall K.key_at self.now pass.old pass.new (Intern Copied text.now) (Interned result) }
         ensures opening { IsOpening K.key_at self.now.opening }
         ensures legal { IsLegal K.key_at self.now.opening (seen pass.new) }
@@ -83,9 +97,18 @@ impl<K: Key, S: BuildHasher + Drop> ThreadedRodeo<K, S> {
         ensures same { IsSamePass pass.new pass.old }
         ensures kept { IsPrefix (seen pass.old) (seen pass.new) }
 
-        // One list of all threads explains the reply and the events of the call, at a moment between what the pass had seen and what it
-        // then has seen. An error is of a text that is absent at that moment: its position has no key (`KeySpaceExhaustion`), or memory
-        // ran out. The limit is never the error. No event is added then.
+        // On failure the text is absent at a moment between what the pass had seen and what it then has seen: its position has no key then, or
+        // memory ran out. The limit is never the error. If both hold, no clause says which error it is.
+        ensures no_key { result ≡ Err KeySpaceExhaustion
+            → AtMoment self.now pass.old pass.new (λ s. Lacks s.texts text.now × (K.key_at (length s.texts) ≡ None)) }
+        ensures no_limit { result ≢ Err MemoryLimitReached }
+        ensures memory { result ≡ Err FailedAllocation → AtMoment self.now pass.old pass.new (λ s. Lacks s.texts text.now) }
+
+        // The events that it adds: on success none, or the one that puts the text last. On failure none.
+        ensures added { OnOk result ((own : List Event) × ((own ≡ []) ⊎ StoresAndAppends Static text.now own) × AddsEvents pass.old pass.new own) }
+        ensures idle { OnErr result (AddsEvents pass.old pass.new []) }
+
+        // One list of all threads explains the reply and the events at such a moment.
         ensures call { IsPassCall K.key_at self.now pass.old pass.new (Intern Static text.now) (Interned result) }
         ensures opening { IsOpening K.key_at self.now.opening }
         ensures legal { IsLegal K.key_at self.now.opening (seen pass.new) }

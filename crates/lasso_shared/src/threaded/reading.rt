@@ -1,12 +1,12 @@
 //! Reading an interner that threads share, with a pass.
 ghost use mathlib.Core.List.{IsPrefix};
-ghost use Rattle.std.specs.Prelude.{◌≡◌, Some, IfSome, IsTrue, option_map};
-ghost use Rattle.lasso_log.specs.History.{IsLegal, IsOpening};
+ghost use Rattle.std.specs.Prelude.{◌≡◌, ◌≤◌, [], None, Some, IfSome, IsFalse, IsTrue, length, option_map, slice_get};
+ghost use Rattle.lasso_log.specs.History.{IsLegal, IsOpening, Lacks};
 ghost use Rattle.lasso_log.specs.Replies.{Get, ContainsKey, Resolve, Len, Found, Flag, Resolved, Number};
 ghost use Rattle.lasso_log.specs.Views.{PassView, InternerId, IsSamePass, seen};
 ghost use Rattle.lasso_parts.specs.Texts.{Text};
 ghost use Rattle.lasso_shared.specs.CallerLaws.{HasKey};
-ghost use Rattle.lasso_shared.specs.PassCalls.{IsPassCall};
+ghost use Rattle.lasso_shared.specs.PassCalls.{AddsEvents, AtMoment, IsPassCall};
 
 use crate::threaded::ThreadedRodeo;
 use lasso_log::log::Pass;
@@ -37,8 +37,11 @@ impl<K: Key, S: BuildHasher + Drop> ThreadedRodeo<K, S> {
         ensures same { IsSamePass pass.new pass.old }
         ensures kept { IsPrefix (seen pass.old) (seen pass.new) }
 
-        // One list of all threads explains the reply at a moment between what the pass had seen and what it then has seen: `None` says that
-        // the text is absent at that moment. The call adds no event.
+        // A text that is not found is absent at a moment between what the pass had seen and what it then has seen. The call adds no event.
+        ensures absent { result ≡ None → AtMoment self.now pass.old pass.new (λ s. Lacks s.texts text.now) }
+        ensures idle { AddsEvents pass.old pass.new [] }
+
+        // One list of all threads explains the reply at such a moment.
         ensures call { IsPassCall K.key_at self.now pass.old pass.new (Get text.now) (Found result) }
         ensures opening { IsOpening K.key_at self.now.opening }
         ensures legal { IsLegal K.key_at self.now.opening (seen pass.new) }
@@ -67,8 +70,11 @@ impl<K: Key, S: BuildHasher + Drop> ThreadedRodeo<K, S> {
         ensures same { IsSamePass pass.new pass.old }
         ensures kept { IsPrefix (seen pass.old) (seen pass.new) }
 
-        // One list of all threads explains the reply at a moment between what the pass had seen and what it then has seen: `false` says that
-        // the key has no text at that moment. The call adds no event.
+        // A key that is not contained has no text at a moment between what the pass had seen and what it then has seen. The call adds no event.
+        ensures absent { IsFalse result → AtMoment self.now pass.old pass.new (λ s. length s.texts ≤ K.number key) }
+        ensures idle { AddsEvents pass.old pass.new [] }
+
+        // One list of all threads explains the reply at such a moment.
         ensures call { IsPassCall K.key_at self.now pass.old pass.new (ContainsKey (K.number key)) (Flag result) }
         ensures opening { IsOpening K.key_at self.now.opening }
         ensures legal { IsLegal K.key_at self.now.opening (seen pass.new) }
@@ -96,8 +102,11 @@ impl<K: Key, S: BuildHasher + Drop> ThreadedRodeo<K, S> {
         ensures same { IsSamePass pass.new pass.old }
         ensures kept { IsPrefix (seen pass.old) (seen pass.new) }
 
-        // One list of all threads explains the reply at a moment between what the pass had seen and what it then has seen: `None` says that
-        // the key has no text at that moment. The call adds no event.
+        // A key that is not resolved has no text at a moment between what the pass had seen and what it then has seen. The call adds no event.
+        ensures absent { result ≡ None → AtMoment self.now pass.old pass.new (λ s. slice_get s.texts (K.number key) ≡ None) }
+        ensures idle { AddsEvents pass.old pass.new [] }
+
+        // One list of all threads explains the reply at such a moment.
         ensures call { IsPassCall K.key_at self.now pass.old pass.new (Resolve (K.number key)) (Resolved (option_map (λ t. t.now) result)) }
         ensures opening { IsOpening K.key_at self.now.opening }
         ensures legal { IsLegal K.key_at self.now.opening (seen pass.new) }

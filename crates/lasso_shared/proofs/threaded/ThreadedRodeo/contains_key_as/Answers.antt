@@ -2,6 +2,7 @@ use Rattle.std.proofs.Common.{◌≡◌, ◌∙◌, ap, length, refl}
 use Rattle.lasso_log.specs.Notes.{state}
 use Rattle.lasso_log.specs.Views.{list_of}
 use Rattle.lasso_shared.proofs.Called.{key_tested}
+use Rattle.lasso_shared.proofs.MomentFacts.{contained_absent, contained_idle}
 use Rattle.lasso_shared.proofs.PassFacts.{seen_contained}
 use Rattle.lasso_shared.proofs.threaded.ThreadedRodeo.contains_key_as.Goals as goal
 
@@ -14,3 +15,9 @@ returns-clause-call g c =
 
 pub returns-clause-present : goal.returns-clause-present
 returns-clause-present g c = seen_contained g.K.Key.key_at g.K.Key.number (λ n k e. (g.met.K.Key.made n k e).2) _ _ _ _ _ _ (returns-clause-call g c)
+
+pub returns-clause-absent : goal.returns-clause-absent
+returns-clause-absent g c lacks = contained_absent g.K.Key.key_at _ _ _ _ _ _ (returns-clause-call g c) lacks
+
+pub returns-clause-idle : goal.returns-clause-idle
+returns-clause-idle g c = contained_idle g.K.Key.key_at _ _ _ _ _ _ (returns-clause-call g c)

@@ -1,3 +1,4 @@
+use Rattle.lasso_shared.proofs.MomentFacts.{added_events, refused_memory, refused_no_key, static_idle, static_limit}
 use Rattle.lasso_shared.proofs.PassFacts.{interned_key, seen_interned}
 use Rattle.lasso_shared.proofs.threaded.ThreadedRodeo.try_get_or_intern_static_as.Goals as goal
 
@@ -6,3 +7,18 @@ returns-clause-key g c = rw (← c.self.view_is) (interned_key g.K.Key.key_at _ 
 
 pub returns-clause-present : goal.returns-clause-present
 returns-clause-present g c = rw (← c.self.view_is) (seen_interned g.K.Key.key_at g.K.Key.number (λ n k e. (g.met.K.Key.made n k e).2) _ _ _ _ _ _ _ c.intern-reply.ensures.call)
+
+pub returns-clause-no_key : goal.returns-clause-no_key
+returns-clause-no_key g c is = rw (← c.self.view_is) (refused_no_key g.K.Key.key_at _ _ _ _ _ _ _ c.intern-reply.ensures.call is)
+
+pub returns-clause-no_limit : goal.returns-clause-no_limit
+returns-clause-no_limit g c = static_limit g.K.Key.key_at _ _ _ _ _ _ c.intern-reply.ensures.call
+
+pub returns-clause-memory : goal.returns-clause-memory
+returns-clause-memory g c is = rw (← c.self.view_is) (refused_memory g.K.Key.key_at _ _ _ _ _ _ _ c.intern-reply.ensures.call is)
+
+pub returns-clause-added : goal.returns-clause-added
+returns-clause-added g c = added_events g.K.Key.key_at _ _ _ _ _ _ _ c.intern-reply.ensures.call
+
+pub returns-clause-idle : goal.returns-clause-idle
+returns-clause-idle g c = static_idle g.K.Key.key_at _ _ _ _ _ _ c.intern-reply.ensures.call

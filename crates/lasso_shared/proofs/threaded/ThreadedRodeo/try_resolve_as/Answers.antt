@@ -3,6 +3,7 @@ use Rattle.std.specs.Prelude.{option_map}
 use Rattle.lasso_log.specs.Notes.{state}
 use Rattle.lasso_log.specs.Views.{list_of}
 use Rattle.lasso_shared.proofs.Called.{resolved}
+use Rattle.lasso_shared.proofs.MomentFacts.{resolved_absent, resolved_idle}
 use Rattle.lasso_shared.proofs.PassFacts.{seen_resolved}
 use Rattle.lasso_shared.proofs.threaded.ThreadedRodeo.try_resolve_as.Goals as goal
 
@@ -16,3 +17,9 @@ returns-clause-call g c =
 
 pub returns-clause-present : goal.returns-clause-present
 returns-clause-present g c = seen_resolved g.K.Key.key_at g.K.Key.number (λ n k e. (g.met.K.Key.made n k e).2) _ _ _ _ _ _ (returns-clause-call g c)
+
+pub returns-clause-absent : goal.returns-clause-absent
+returns-clause-absent g c none = resolved_absent g.K.Key.key_at _ _ _ _ _ _ (returns-clause-call g c) (ap (option_map (λ t. t.now)) none)
+
+pub returns-clause-idle : goal.returns-clause-idle
+returns-clause-idle g c = resolved_idle g.K.Key.key_at _ _ _ _ _ _ (returns-clause-call g c)

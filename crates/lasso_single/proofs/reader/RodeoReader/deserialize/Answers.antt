@@ -1,4 +1,4 @@
-use Rattle.std.proofs.Common.{◌≡◌, List, Ok, true, sym, subst}
+use Rattle.std.proofs.Common.{List, Ok, true, sym, subst}
 use Rattle.serde_json.specs.View.{view}
 use Rattle.lasso_parts.specs.Texts.{Text}
 use Rattle.lasso_single.specs.Json.{ReadsInto}

@@ -1,6 +1,5 @@
 use Rattle.std.proofs.Common.{◌≡◌, IsSome, None, Err, ap, inr, map, subst}
 use Rattle.std.proofs.lemmas.Result.{err_from_is_err_and}
-use Rattle.lasso_parts.specs.Texts.{Text}
 use Rattle.lasso_parts.specs.declared.util.LassoErrorKind.TheVariants.{KeySpaceExhaustion, MemoryLimitReached}
 use Rattle.lasso_single.specs.Filling.{FillsUpTo, InternsEach, StopsAtRefusal, with_all_new}
 use Rattle.lasso_single.specs.Intern.{IsAbsent, account_with, next_key}
