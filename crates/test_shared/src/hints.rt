@@ -74,7 +74,7 @@ fn hinted(pass: &mut Pass<Spur>, text: &str) -> Option<u64> {
 }
 
 // `red` is added by another pass: each call keeps a hint of it. A call that adds `blue` keeps none, and the next one does.
-// Nor does one lose it that adds a text: a copy of `blue` goes into the first bucket, and one of `green` into a new one.
+// None that adds a text loses the hint of `red`: a copy of `blue` goes into the first bucket, one of `green` into a new one.
 #[test]
 fn a_call_that_finds_a_text_keeps_a_hint(rt: HostRuntime) -> Result<(), Fail> {
     for (number, call) in CALLS.iter().enumerate() {
@@ -117,38 +117,21 @@ fn each_call_follows_hints(rt: HostRuntime) -> Result<(), Fail> {
 fn reads_by(rt: &impl Host, shared: &Shared, pass: &mut Pass<Spur>, count: usize) {
     let red = if count == 1 { Some("red") } else { None };
     let key = Spur::default();
-    is_so(rt, shared.len_as(pass) == count, "len_as");
-    is_so(
-        rt,
-        shared.contains_key_as(pass, key) == red.is_some(),
-        "contains_key_as",
-    );
-    is_so(
-        rt,
-        shared.try_resolve_as(pass, key) == red,
-        "try_resolve_as",
-    );
+    let has_key = shared.contains_key_as(pass, key) == red.is_some();
+    is_so(rt, has_key && shared.len_as(pass) == count, "the texts");
+    let resolves = shared.try_resolve_as(pass, key) == red;
     let list = shared.seen_list_as(pass);
-    is_so(rt, shared.text_at(&list, 0) == red, "seen_list_as");
-    is_so(rt, shared.strings_as(pass).next() == red, "strings_as");
-    is_so(rt, shared.iter_as(pass).len() == count, "iter_as");
-    is_so(
-        rt,
-        shared.serialize_as(rt.alloc(), pass).is_ok(),
-        "serialize_as",
-    );
+    is_so(rt, resolves && shared.text_at(&list, 0) == red, "the key");
+    let walks = shared.strings_as(pass).next() == red;
+    is_so(rt, walks && shared.iter_as(pass).len() == count, "walks");
+    let is_written = shared.serialize_as(rt.alloc(), pass).is_ok();
+    is_so(rt, is_written, "JSON");
     let limit = until_free(rt, || shared.max_memory_usage_now_as(pass));
-    is_so(
-        rt,
-        limit == 4 && shared.max_memory_usage_as(rt, pass) == 4,
-        "the limit",
-    );
+    let is_limit = limit == 4 && shared.max_memory_usage_as(rt, pass) == 4;
+    is_so(rt, is_limit, "the limit");
     let usage = until_free(rt, || shared.current_memory_usage_now_as(pass));
-    is_so(
-        rt,
-        usage == 4 && shared.current_memory_usage_as(rt, pass) == 4,
-        "the usage",
-    );
+    let is_usage = usage == 4 && shared.current_memory_usage_as(rt, pass) == 4;
+    is_so(rt, is_usage, "the usage");
 }
 
 // Fails unless the interner has this many texts, and so many of its four bytes left.
@@ -157,11 +140,8 @@ fn has_left(rt: &impl Host, shared: &Shared, count: usize, bytes: usize) -> Lass
     let number = numbered(shared.try_get_or_intern(rt, rest.as_str()))?;
     is_so_at(rt, number == count, bytes);
     let refusal = refusal_of(shared.try_get_or_intern(rt, "z"))?;
-    is_so_at(
-        rt,
-        refusal == Some(LassoErrorKind::MemoryLimitReached),
-        bytes,
-    );
+    let is_full = refusal == Some(LassoErrorKind::MemoryLimitReached);
+    is_so_at(rt, is_full, bytes);
     is_so_at(rt, shared.max_memory_usage(rt) == 4, bytes);
     Ok(())
 }
