@@ -299,6 +299,7 @@ enum Act {
     MakesHints,
     Meets,
     MeetsIfSame,
+    Differs,
     Learns,
     Counts,
     Reads,
@@ -307,10 +308,11 @@ enum Act {
     Limits,
 }
 
-static ACTS: [Act; 9] = [
+static ACTS: [Act; 10] = [
     Act::MakesHints,
     Act::Meets,
     Act::MeetsIfSame,
+    Act::Differs,
     Act::Learns,
     Act::Counts,
     Act::Reads,
@@ -333,6 +335,7 @@ fn act(
         Act::MakesHints => pass.make_hints(rt.alloc()),
         Act::Meets => pass.meet(&other),
         Act::MeetsIfSame => pass.meet_if_same(&other),
+        Act::Differs => pass.prove_differs(&mut other),
         Act::Learns => pass.learn(&other.snapshot()),
         Act::Counts => drop(log.len(pass)),
         Act::Reads => drop(log.read(1, pass)),
