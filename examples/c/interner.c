@@ -29,7 +29,7 @@ static int check_calls(void)
     struct lasso lasso = LASSO_NONE;
     uint32_t code = 77;
     size_t whole = 77;
-    uint8_t text[8] = "........";
+    uint8_t text[8] = {'.', '.', '.', '.', '.', '.', '.', '.'};
     CHECK(sizeof lasso == 16);
     CHECK(intern(&lasso, "red", &code) == LASSO_NO_INTERNER && code == 77);
     CHECK(lasso_len(&lasso) == 0 && lasso_memory(&lasso) == 0 && lasso_limit(&lasso) == 0);
@@ -94,7 +94,7 @@ static int check_batches(void)
     const uint8_t bytes[] = "redbluered\xc3";
     const int32_t offsets[] = {0, 3, 7, 10, 11};
     uint32_t codes[5] = {9, 9, 9, 9, 9};
-    uint8_t texts[8] = "........";
+    uint8_t texts[8] = {'.', '.', '.', '.', '.', '.', '.', '.'};
     int32_t starts[4] = {9, 9, 9, 9};
     CHECK(lasso_new(&lasso, LASSO_NO_LIMIT) == LASSO_DONE && lasso_new(&copy, LASSO_NO_LIMIT) == LASSO_DONE);
     CHECK(lasso_intern_batch(&lasso, bytes, 11, offsets, 5, codes, 3, &report) == LASSO_CODES_TOO_SHORT);

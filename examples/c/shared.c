@@ -38,7 +38,7 @@ static int check_calls(void)
     struct lasso_text lent = LASSO_NO_TEXT;
     uint32_t code = 77;
     size_t whole = 77;
-    uint8_t text[8] = "........";
+    uint8_t text[8] = {'.', '.', '.', '.', '.', '.', '.', '.'};
     CHECK(sizeof shared == 16);
     CHECK(intern(&shared, "red", &code) == LASSO_NO_INTERNER && get(&shared, "red", &code) == LASSO_NO_INTERNER && code == 77);
     CHECK(lasso_shared_len(&shared) == 0 && lasso_shared_see(&shared) == LASSO_NO_INTERNER);

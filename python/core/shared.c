@@ -88,7 +88,7 @@ static PyObject *seat_freeze(Core *seat, PyObject *none)
     for (each = seat->next; each != seat; each = each->next)
         each->freezer = seat;
     for (each = seat->next; each != seat; each = next) {
-        Py_INCREF(each);
+        Py_INCREF((PyObject *)each);
         core_wait(each);
         next = each->next;
         Py_DECREF(each);

@@ -66,7 +66,8 @@ def _encode_rows(core: Core | Seat, texts: Any, codes: array[int], appends: bool
     if as_they_are:
         core._check_rows(rows, nulls)
     codes.frombytes(bytes(4 * len(rows)))
-    for start in range(0, max(len(rows), 1), _ROWS):
+    # Meanwhile another thread may have changed the list: there is a code for each row that there was.
+    for start in range(0, max(len(codes), 1), _ROWS):
         stop = min(start + _ROWS, len(codes))
         if as_they_are:
             core._rows(rows, start, stop, 0, nulls, codes, appends)

@@ -18,6 +18,7 @@ import producers
 import pytest
 
 from lasso import NULL, Codes, Interner, InternerClosed, LassoError, NotUtf8
+from lasso.sources import encode_into
 
 
 class Named(Interner):
@@ -376,3 +377,17 @@ def test_threads_change_the_list_that_is_encoded() -> None:
                 assert "the texts changed" in str(fault)
 
     assert together(encode, encode, shrink) == []
+
+
+def test_a_thread_cuts_the_list_once_its_rows_are_counted() -> None:
+    rows = ["red"] * 100000
+
+    class Counted(array):  # type: ignore[type-arg]
+        """Codes that get their room just before another thread cuts the list."""
+
+        def frombytes(self, data: Any) -> None:
+            super().frombytes(data)
+            del rows[65536:]
+
+    with pytest.raises(RuntimeError, match="the texts changed"):
+        encode_into(Interner(), rows, None, Counted("I"), True)
