@@ -1,16 +1,18 @@
 //! What each call returns for a text of each length, and what it leaves unchanged; and `allocated_bytes` after each of
 //! many texts.
-use crate::checks::{runs, runs_as, runs_each, runs_in, runs_in_one};
+use crate::checks::{is_so_at, runs, runs_as, runs_each, runs_in, runs_in_one};
 use Step::{
     Allocates, AllocatesOver, ByNew, ByOne, Copies, Counts, EachInterns, EqualsItself, Finds,
     Interns, IsLimited, Keeps, Limits, New, Reads, Uses,
 };
 use lasso_parts::keys::{Key, MicroSpur, Spur};
+use lasso_parts::util::{Capacity, FixedState, LassoResult, MemoryLimits};
 use lasso_shared::threaded::ThreadedRodeo;
 use std::test::*;
 use test_common::hashers::{LowState, SameState};
 use test_common::keys::BelowTwo;
 use test_steps::Host;
+use test_steps::calls::Shared;
 use test_steps::cases::{Maker, PLAIN, SIZE, make};
 use test_steps::steps::{Call, FULL, KEEPING, NO_KEY, Step, WAYS, Way};
 use test_steps::texts::LENGTHS;
@@ -297,6 +299,25 @@ fn bytes_of_room_for_texts(rt: HostRuntime) -> Result<(), Fail> {
     // the default is room for 50 texts, and 4096 bytes
     static DEFAULT: [Step; 1] = [Allocates(6144)];
     runs(&rt, Maker::Default, &DEFAULT)
+}
+
+// Makes an interner with room for 2048 texts by the constructor of this number.
+fn with_room(rt: &impl Host, maker: usize) -> LassoResult<Shared> {
+    let (room, limits) = (Capacity::new(2048, 10), MemoryLimits::default());
+    match maker {
+        0 => ThreadedRodeo::with_capacity(rt.alloc(), room),
+        1 => ThreadedRodeo::with_capacity_and_memory_limits(rt.alloc(), room, limits),
+        _ => ThreadedRodeo::with_capacity_and_hasher(rt.alloc(), room, FixedState::new()),
+    }
+}
+
+#[test]
+fn each_constructor_makes_room_for_texts(rt: HostRuntime) -> Result<(), Fail> {
+    for maker in 0..3usize {
+        let bytes = with_room(&rt, maker)?.allocated_bytes(&rt);
+        is_so_at(&rt, bytes == 10 + 2048 * 32 + 16 * 256 * 5, maker);
+    }
+    Ok(())
 }
 
 // The first text makes 32 cells of 32 bytes, which are enough for all texts. The first bucket has ten bytes.

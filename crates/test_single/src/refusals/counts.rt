@@ -149,6 +149,10 @@ fn calls_that_ask_for_no_memory(rt: HostRuntime) -> Result<(), Fail> {
     let mut rodeo = Metered::<Spur>::new(&memory)?;
     rodeo.extend(TEXTS.iter().copied())?;
     let (mut other, key) = (rodeo.try_clone()?, key_at(0)?);
+    let (like, lent) = (
+        rodeo.try_clone()?.into_reader(),
+        rodeo.try_clone()?.into_resolver(),
+    );
     let before = memory.requests();
     is_so(&rt, before > 0, "the requests that are counted");
     interns_again(&mut rodeo, rt.alloc())?;
@@ -160,6 +164,7 @@ fn calls_that_ask_for_no_memory(rt: HostRuntime) -> Result<(), Fail> {
         rodeo == other && rodeo.capacity() >= TEXTS.len(),
         "the same",
     );
+    is_so(&rt, (&rodeo).into_iter().len() == TEXTS.len(), "a walk");
     rodeo.set_memory_limits(MemoryLimits::new(7));
     is_so(&rt, rodeo.max_memory_usage() == 7, "the limit");
     is_so(&rt, rodeo.current_memory_usage() == 4096, "the usage");
@@ -172,6 +177,12 @@ fn calls_that_ask_for_no_memory(rt: HostRuntime) -> Result<(), Fail> {
         other.eq_reader(&reader) && reader.eq_rodeo(&other),
         "a reader",
     );
+    is_so(
+        &rt,
+        reader == like && reader.eq_resolver(&lent),
+        "two readers",
+    );
+    is_so(&rt, (&reader).into_iter().len() == TEXTS.len(), "its walk");
     is_so(&rt, memory.requests() == before, "the requests of a reader");
     let resolver = reader.into_resolver();
     is_read!(&rt, &resolver, key);
@@ -179,6 +190,16 @@ fn calls_that_ask_for_no_memory(rt: HostRuntime) -> Result<(), Fail> {
         &rt,
         other.eq_resolver(&resolver) && resolver.eq_rodeo(&other),
         "a resolver",
+    );
+    is_so(
+        &rt,
+        resolver == lent && resolver.eq_reader(&like),
+        "two resolvers",
+    );
+    is_so(
+        &rt,
+        (&resolver).into_iter().len() == TEXTS.len(),
+        "its walk",
     );
     other.clear();
     is_so(&rt, other.is_empty(), "a clear");
