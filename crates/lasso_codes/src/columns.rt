@@ -1,4 +1,4 @@
-//! The numbers of a column's lines, and how a column is written: a header line, the dictionary's lines in the
+//! The codes of a column's lines, and how a column is written: a header line, the dictionary's lines in the
 //! order of their codes, and an entry for each line.
 ghost use Rattle.std.specs.Prelude.{◌≡◌, ◌+◌, ◌≤◌, ◌++◌, ◌∷◌, [], Err, IfOk, IfErr, OnOk, OnErr, MatchResult, length, map, take, vec_capacity, vec_len, decimal, flat_map};
 ghost use Rattle.lasso_codes.specs.Columns.{column_of, entry_at, entry_bytes, head_of, header, header_front};
@@ -23,56 +23,56 @@ pub const TEXT_HEADER: &[u8] = b"lasso-codes 1 text ";
 /// The start of the header of a column whose entries are bytes.
 pub const BINARY_HEADER: &[u8] = b"lasso-codes 1 binary ";
 
-/// Appends the entry of the line with this number.
+/// Appends the code of the line with this number.
 ///
 /// # Errors
-/// Out of memory. The entries are as they were.
-pub fn append(numbers: &mut Vec<u32>, entry: u32, number: usize) -> Result<(), LineError>
-    ensures items { OnOk result (numbers.new.items ≡ numbers.old.items ++ entry ∷ []) }
-    ensures error { IfErr result (λ error. error ≡ Refused number FailedAllocation) }
-    ensures full { OnErr result (vec_capacity numbers.old ≤ vec_len numbers.old) }
+/// Out of memory. The codes are as they were.
+pub fn append(codes: &mut Vec<u32>, code: u32, line: usize) -> Result<(), LineError>
+    ensures items { OnOk result (codes.new.items ≡ codes.old.items ++ code ∷ []) }
+    ensures error { IfErr result (λ error. error ≡ Refused line FailedAllocation) }
+    ensures full { OnErr result (vec_capacity codes.old ≤ vec_len codes.old) }
 {
-    if numbers.push(entry).is_err() {
+    if codes.push(code).is_err() {
         let error = LassoError::new(LassoErrorKind::FailedAllocation);
-        return Err(LineError::Refused(number, error));
+        return Err(LineError::Refused(line, error));
     }
     Ok(())
 }
 
-/// Writes the column whose dictionary is the lines of the table. `numbers` has an entry for each line: its
-/// code, or `NULL`.
+/// Writes the column whose dictionary is the lines of the table. `codes` has the code of each line, or
+/// `NULL`.
 ///
 /// # Errors
 /// As `write_bytes`.
 pub fn write_column<W: Write + Drop>(
     output: &mut Output<W>,
     table: &LineTable<'_>,
-    numbers: &[u32],
+    codes: &[u32],
     binary: bool,
 ) -> Result<(), RunError>
-    ensures written { Writes output.old.written output.new.written (WritesAll (column_of binary table.now (map entry_at numbers.now)) result) }
+    ensures written { Writes output.old.written output.new.written (WritesAll (column_of binary table.now (map entry_at codes.now)) result) }
     ensures writes { output.new.failures ≡ output.old.failures + failed_writes result }
     ensures gone { output.new.gone ≡ output.old.gone + gone_readers result }
 {
-    write_head(output, table, numbers.len(), binary)?;
-    write_entries(output, binary, numbers)
+    write_head(output, table, codes.len(), binary)?;
+    write_entries(output, binary, codes)
 }
 
-/// Writes the column without texts that has these entries.
+/// Writes the column without texts whose lines have these codes.
 ///
 /// # Errors
 /// As `write_bytes`.
 pub fn write_codes<W: Write + Drop>(
     output: &mut Output<W>,
-    numbers: &[u32],
+    codes: &[u32],
     binary: bool,
 ) -> Result<(), RunError>
-    ensures written { Writes output.old.written output.new.written (WritesAll (column_of binary [] (map entry_at numbers.now)) result) }
+    ensures written { Writes output.old.written output.new.written (WritesAll (column_of binary [] (map entry_at codes.now)) result) }
     ensures writes { output.new.failures ≡ output.old.failures + failed_writes result }
     ensures gone { output.new.gone ≡ output.old.gone + gone_readers result }
 {
-    write_header(output, binary, 0, numbers.len() as u64)?;
-    write_entries(output, binary, numbers)
+    write_header(output, binary, 0, codes.len() as u64)?;
+    write_entries(output, binary, codes)
 }
 
 /// Writes what comes before the entries of a column of this number of lines: the header, and the lines of the table.
@@ -158,24 +158,24 @@ const BLOCK_SIZE: usize = 4096;
 /// The length of the longest entry: ten digits and a line feed.
 pub const LONGEST_ENTRY: usize = 11;
 
-/// Writes the entry of each number.
+/// Writes the entry of each code.
 ///
 /// # Errors
 /// As `write_bytes`.
 pub fn write_entries<W: Write + Drop>(
     output: &mut Output<W>,
     binary: bool,
-    numbers: &[u32],
+    codes: &[u32],
 ) -> Result<(), RunError>
-    ensures written { Writes output.old.written output.new.written (WritesAll (flat_map (λ n. entry_bytes binary (entry_at n)) numbers.now) result) }
+    ensures written { Writes output.old.written output.new.written (WritesAll (flat_map (λ n. entry_bytes binary (entry_at n)) codes.now) result) }
     ensures writes { output.new.failures ≡ output.old.failures + failed_writes result }
     ensures gone { output.new.gone ≡ output.old.gone + gone_readers result }
 {
     let mut block = [0; BLOCK_SIZE];
     let mut filled = 0;
-    for number in numbers {
+    for code in codes {
         filled = make_room(output, &block, filled)?;
-        filled = put_entry(&mut block, filled, binary, *number);
+        filled = put_entry(&mut block, filled, binary, *code);
     }
     write_bytes(output, &block[..filled])
 }
@@ -204,23 +204,23 @@ fn make_room<W: Write + Drop>(
     Ok(0)
 }
 
-/// Puts the entry of the number into the block at the position `at`. Returns the position after it. There must be
+/// Puts the entry of the code into the block at the position `at`. Returns the position after it. There must be
 /// room for the longest entry.
 #[inline]
-pub fn put_entry(block: &mut [u8], at: usize, binary: bool, number: u32) -> usize
+pub fn put_entry(block: &mut [u8], at: usize, binary: bool, code: u32) -> usize
     requires { at + 11 ≤ length block.old }
-    ensures put { take result block.new ≡ take at block.old ++ entry_bytes binary (entry_at number) }
+    ensures put { take result block.new ≡ take at block.old ++ entry_bytes binary (entry_at code) }
     ensures within { result ≤ at + 11 }
     ensures len { length block.new ≡ length block.old }
 {
     if binary {
-        return put(block, at, &number.to_le_bytes());
+        return put(block, at, &code.to_le_bytes());
     }
-    if number == NULL {
+    if code == NULL {
         return put(block, at, b"-\n");
     }
     let mut digits = Buffer::new();
-    let after = put(block, at, digits.format(number).as_bytes());
+    let after = put(block, at, digits.format(code).as_bytes());
     put(block, after, b"\n")
 }
 

@@ -252,7 +252,7 @@ fn encode_and_read<R: AllocGlobal + Threads + Sync, I: BufRead>(
         ensures last { IsLastFor (word_of null.entry) rodeo.entry.now.texts now.entry.now.blocks.items result.last }
     {
         let next = read_next(rt.alloc(), input, chunk, spare, now, plan, by);
-        let last = encode_last(rt.alloc(), rodeo, now, null, hasher);
+        let last = encode_last_block(rt.alloc(), rodeo, now, null, hasher);
         Turn { next, last }
     };
     let (made, turn) = join_mut(rt, &mut work, &mut read);
@@ -278,7 +278,7 @@ fn encode_others<R: AllocGlobal + Threads + Sync>(
 }
 
 // Encodes the last block. Returns `None` if there is none, or if memory or codes run out.
-fn encode_last(
+fn encode_last_block(
     alloc: Global,
     rodeo: &SpurRodeo,
     now: &Blocks,

@@ -10,6 +10,7 @@
 #![tactic(auto)]
 
 mod digits;
+mod escaping;
 pub mod failures;
 pub mod laws;
 mod line;
@@ -19,14 +20,13 @@ mod skipping;
 mod stretch;
 #[cfg(test)]
 mod tests;
-mod texts;
 mod workers;
 
+pub use escaping::{
+    MARK, append_escaped, append_line, escape_in, is_let_in, is_marked, line_of, own_text, text_of,
+};
 pub use line::Line;
 pub use newlines::{after_newline, find_newline, first_line};
 pub use numbers::parse_digits;
 pub use stretch::Stretch;
-pub use texts::{
-    MARK, append_escaped, append_line, escape_in, is_let_in, is_marked, line_of, own_text, text_of,
-};
 pub use workers::MAX_WORKERS;

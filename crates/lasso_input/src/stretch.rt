@@ -7,10 +7,10 @@ ghost use Rattle.lasso_input.specs.Lines.{NoFeed, lines_of};
 ghost use Rattle.lasso_input.specs.Skipping.{AreSkipped};
 ghost use Rattle.lasso_input.specs.Texts.{IsPlain};
 
+use crate::escaping::FIRST_OF_MARK;
 use crate::line::Line;
 use crate::newlines::{after_newline, find_newline};
 use crate::skipping::skip_lines;
-use crate::texts::FIRST_OF_MARK;
 use lasso_parts::keys::Key;
 use lasso_single::batch::{Batch, TOGETHER, look_ahead};
 use lasso_single::rodeo::Rodeo;

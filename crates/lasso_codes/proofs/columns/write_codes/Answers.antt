@@ -10,10 +10,10 @@ pub returns-in_err-write_header-clause-written : goal.returns-in_err-write_heade
 returns-in_err-write_header-clause-written g c =
     let p = err_from_is_err_and c.from_residual.result c.from_residual.ensures.1 in
     let error = c.in_err-write_header.field-0.0 in
-    let head = header c.args.binary 0 (length c.args.numbers.now) in
-    rw (p.1, p.2) (head_fails c.args.binary [] c.args.numbers.now _ _ error (subst (λ (bs : List ℕ). Writes c.args.output.now.written c.write_header.new.output.written (WritesAll bs (Err error))) (sym (append-nil head)) c.in_err-write_header.ensures.written))
+    let head = header c.args.binary 0 (length c.args.codes.now) in
+    rw (p.1, p.2) (head_fails c.args.binary [] c.args.codes.now _ _ error (subst (λ (bs : List ℕ). Writes c.args.output.now.written c.write_header.new.output.written (WritesAll bs (Err error))) (sym (append-nil head)) c.in_err-write_header.ensures.written))
 
 pub returns-clause-written : goal.returns-clause-written
 returns-clause-written g c =
-    let head = header c.args.binary 0 (length c.args.numbers.now) in
-    head_then c.args.binary [] c.args.numbers.now _ _ _ c.write_entries.result (subst (λ (bs : List ℕ). Writes c.args.output.now.written c.write_header.new.output.written (λ part. part ≡ bs)) (sym (append-nil head)) c.in_ok-write_header.ensures.written) c.write_entries.ensures.written
+    let head = header c.args.binary 0 (length c.args.codes.now) in
+    head_then c.args.binary [] c.args.codes.now _ _ _ c.write_entries.result (subst (λ (bs : List ℕ). Writes c.args.output.now.written c.write_header.new.output.written (λ part. part ≡ bs)) (sym (append-nil head)) c.in_ok-write_header.ensures.written) c.write_entries.ensures.written

@@ -1,7 +1,7 @@
 use Rattle.std.proofs.Common.{ℕ, ◌≡◌, ◌-◌, ◌≤◌, List, ◌++◌, take, length, ap, ◌∙◌, arith}
 use Rattle.std.specs.Prelude.{replicate, vec_len}
 use Rattle.lasso_input.proofs.LineTexts.{escaped_written}
-use Rattle.lasso_input.proofs.texts.append_escaped.Goals as goal
+use Rattle.lasso_input.proofs.escaping.append_escaped.Goals as goal
 
 pub returns : goal.returns
 returns g c =

@@ -6,7 +6,7 @@ use Rattle.lasso_input.proofs.FirstLines.{rest_behind}
 use Rattle.lasso_input.proofs.HexDigits.{nothing_is_read}
 use Rattle.lasso_input.proofs.LineTexts.{read_is_line, unmarked_is_line, unread_is_line}
 use Rattle.lasso_input.specs.Texts.{is_marked, line_of}
-use Rattle.lasso_input.proofs.texts.append_line.Goals as goal
+use Rattle.lasso_input.proofs.escaping.append_line.Goals as goal
 
 pub returns-then-not-is_marked : goal.returns-then-not-is_marked
 returns-then-not-is_marked g c =

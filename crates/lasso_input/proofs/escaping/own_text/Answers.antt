@@ -1,6 +1,6 @@
 use Rattle.std.proofs.Common.{sym, ◌∙◌}
 use Rattle.lasso_input.proofs.LineTexts.{other_by_bytes, other_by_mark, own_by_parts}
-use Rattle.lasso_input.proofs.texts.own_text.Goals as goal
+use Rattle.lasso_input.proofs.escaping.own_text.Goals as goal
 
 pub returns-in_default : goal.returns-in_default
 returns-in_default c = other_by_bytes c.args.line.now c.in_default.ensures

@@ -1,5 +1,5 @@
 use Rattle.lasso_input.proofs.LettingIn.{any_let_in, other_let_out, utf8_let_in}
-use Rattle.lasso_input.proofs.texts.is_let_in.Goals as goal
+use Rattle.lasso_input.proofs.escaping.is_let_in.Goals as goal
 
 pub returns-then-not-only_utf8 : goal.returns-then-not-only_utf8
 returns-then-not-only_utf8 c = any_let_in c.args.only_utf8 c.args.line.now c.if-not-only_utf8.true

@@ -1,7 +1,7 @@
 use Rattle.std.proofs.Common.{ℕ, ◌≡◌, List, ◌++◌, ap, sym, ◌∙◌}
 use Rattle.lasso_input.proofs.LineTexts.{escaped_parts}
 use Rattle.lasso_input.specs.Texts.{mark}
-use Rattle.lasso_input.proofs.texts.put_escaped.Goals as goal
+use Rattle.lasso_input.proofs.escaping.put_escaped.Goals as goal
 
 pub returns : goal.returns
 returns c =

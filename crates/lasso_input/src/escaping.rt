@@ -1,4 +1,4 @@
-//! Texts of lines of any bytes.
+//! Texts for lines of any bytes: a line that can't be its own text is escaped.
 //!
 //! A line that is UTF-8 and doesn't begin with the mark is its own text. The text of any other line is the mark
 //! and then the line's bytes as digits. So an interner of texts can hold lines of any bytes.

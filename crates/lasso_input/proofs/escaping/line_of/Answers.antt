@@ -1,7 +1,7 @@
 use Rattle.std.proofs.Common.{◌≡◌, ◌∙◌, false, sym}
 use Rattle.lasso_input.proofs.LineTexts.{unmarked_is_line}
 use Rattle.lasso_input.specs.Texts.{is_marked}
-use Rattle.lasso_input.proofs.texts.line_of.Goals as goal
+use Rattle.lasso_input.proofs.escaping.line_of.Goals as goal
 
 pub returns-then-not-is_marked-clause-line : goal.returns-then-not-is_marked-clause-line
 returns-then-not-is_marked-clause-line g c =

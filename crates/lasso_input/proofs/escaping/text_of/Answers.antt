@@ -1,7 +1,7 @@
 use Rattle.std.proofs.Common.{◌∙◌, ap, sym}
 use Rattle.lasso_input.proofs.LineTexts.{other_is_escaped, own_is_text}
 use Rattle.lasso_input.specs.Texts.{escaped}
-use Rattle.lasso_input.proofs.texts.text_of.Goals as goal
+use Rattle.lasso_input.proofs.escaping.text_of.Goals as goal
 
 pub returns-in-Some-clause-text : goal.returns-in-Some-clause-text
 returns-in-Some-clause-text g c = c.in-Some.ensures.0 ∙ sym (own_is_text c.args.line.now c.in-Some.ensures.1)
