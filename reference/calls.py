@@ -108,6 +108,7 @@ def some_step(random):
         (6, ("shared_intern_batch", handle, small_data, small_offsets, None, 0, about(random, texts), False)),
         (3, ("shared_texts", handle, random.choice([0, 0, 1, 5, ENDLESS]), random.choice([0, 1, 5, 50]))),
         (9, ("shared_intern", handle, some_text(random))),
+        (6, ("shared_intern_static", handle, some_text(random))),
         (3, ("shared_get", handle, some_text(random))),
         (3, ("shared_resolve", handle, code, random.choice([0, 1, 3, 20, 9000]))),
         (4, ("shared_text", handle, code)),
@@ -162,7 +163,7 @@ class Run:
         self.held = {kind: [None] * HANDLES for kind in (OWN, SHARED)}
         # What is lent: of each interner for one thread the address and the text, and those of shared ones with the interner.
         self.lent, self.shared_lent = [[] for _ in range(HANDLES)], []
-        # The bytes of static texts, each with the interner that keeps it.
+        # The bytes of static texts, each with the kind and the interner that keeps it.
         self.memory, self.kept = memory, []
 
     def step(self, step):
@@ -202,10 +203,11 @@ class Run:
 
     def end_kept(self):
         """Gives back the bytes of static texts that no interner has any more."""
+        live = [*self.held[OWN], *(share.interner for share in self.held[SHARED] if share)]
         still = []
         for interner, text, buffer in self.kept:
             expect("the bytes of a static text", buffer.content(), text)
-            if any(interner is other for other in self.held[OWN]) and text in interner.codes:
+            if any(interner is other for other in live) and text in interner.codes:
                 still.append((interner, text, buffer))
             else:
                 buffer.end()
@@ -337,7 +339,7 @@ class Run:
         if is_present or isinstance(wanted, Refused):
             buffer.end()
         else:
-            self.kept.append((held, text, buffer))
+            self.kept.append((held.interner if kind == SHARED else held, text, buffer))
 
     def intern_batch(self, kind, handle, data, offsets, present, null, codes_room, is_large):
         wanted = self.tried(kind, handle, lambda held: reference.intern_batch(held, data, offsets, present, null, codes_room))
@@ -478,7 +480,8 @@ def some_shared_filling(random):
     """A call that fills buckets of a shared interner."""
     if random.random() < 0.1:
         return ("shared_set_limit", 0, random.choice([0, 9000, 20000, 60000, ENDLESS]))
-    return ("shared_intern", 0, random.choice(PIECES).encode() * random.choice([1, 5, 14, 100, 1000, 2000, 5000]) + b"%d" % random.randrange(100))
+    name = "shared_intern" if random.random() < 0.8 else "shared_intern_static"
+    return (name, 0, random.choice(PIECES).encode() * random.choice([1, 5, 14, 100, 1000, 2000, 5000]) + b"%d" % random.randrange(100))
 
 
 def some_sharing(random):

@@ -288,6 +288,12 @@ class SharedHandle:
             raise Refused(FROZEN)
         return self.interner.intern(text)
 
+    def intern_static(self, text):
+        """lasso_shared_intern_static: the code."""
+        if self.is_frozen:
+            raise Refused(FROZEN)
+        return self.interner.intern_static(text)
+
     def copy(self):
         """lasso_shared_copy: the interner of one thread."""
         texts = list(self.codes)[: self.seen]

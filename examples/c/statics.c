@@ -70,7 +70,35 @@ static int check_not_kept(void)
     return 0;
 }
 
+/* The same of an interner that threads share: the text stays for each handle until the last one is freed. */
+static int check_shared(void)
+{
+    struct lasso_shared first = LASSO_SHARED_NONE, second = LASSO_SHARED_NONE;
+    struct lasso copy = LASSO_NONE;
+    struct lasso_text text = LASSO_NO_TEXT;
+    uint32_t code = 77;
+    size_t memory = 77;
+    uint8_t *bytes = block();
+    CHECK(bytes != NULL && lasso_shared_intern_static_wait(&first, bytes, LENGTH, &code) == LASSO_NO_INTERNER && code == 77);
+    CHECK(lasso_shared_new_sized(&first, 50, 1, 0) == LASSO_DONE && lasso_shared_join(&first, &second) == LASSO_DONE);
+    CHECK(lasso_shared_intern_wait(&first, bytes, LENGTH, &code) == LASSO_LIMIT_REACHED && code == 77);
+    CHECK(lasso_shared_intern_static_wait(&first, bytes, LENGTH, &code) == LASSO_DONE && code == 0);
+    CHECK(lasso_shared_intern_static_wait(&second, (const uint8_t *)LONG_TEXT, LENGTH, &code) == LASSO_DONE && code == 0);
+    CHECK(lasso_shared_intern_static_wait(&second, NULL, 0, &code) == LASSO_DONE && code == 1);
+    CHECK(lasso_shared_memory_wait(&first, &memory) == LASSO_DONE && memory == 1);
+    lasso_shared_free(&first);
+    CHECK(lasso_shared_text_now(&second, 0, &text) == LASSO_DONE && text.bytes == bytes && text.length == LENGTH);
+    CHECK(lasso_shared_copy(&second, &copy) == LASSO_DONE && !is_at(&copy, 0, bytes) && lasso_memory(&copy) == LENGTH);
+    CHECK(lasso_shared_freeze(&second) == LASSO_DONE);
+    CHECK(lasso_shared_intern_static(&second, bytes, LENGTH, &code) == LASSO_FROZEN);
+    lasso_shared_free(&second);
+    free(bytes);
+    CHECK(lasso_get(&copy, (const uint8_t *)LONG_TEXT, LENGTH, &code) == LASSO_DONE && code == 0);
+    lasso_free(&copy);
+    return 0;
+}
+
 int main(void)
 {
-    return check_ends() || check_not_kept();
+    return check_ends() || check_not_kept() || check_shared();
 }

@@ -15,7 +15,8 @@
  * For every call:
  * - A length counts elements, not bytes: bytes of a uint8_t array, numbers of an int32_t, int64_t or uint32_t
  *   array.
- * - The caller owns all arrays. None is kept after a call returns, but for the text of lasso_intern_static.
+ * - The caller owns all arrays. None is kept after a call returns, but for the text of lasso_intern_static and of
+ *   lasso_shared_intern_static.
  * - A pointer is aligned for its elements. It may be NULL if its length is 0. A handle, a report and each other
  *   pointer without a length is never NULL, except that lasso_free(NULL) and lasso_shared_free(NULL) do nothing.
  *   (For an array of no elements, inline functions of this header pass another pointer than NULL. A caller without
@@ -540,7 +541,7 @@ void lasso_free(struct lasso *lasso);
  * No call takes NULL for a handle, but lasso_shared_free. A handle that holds none is no fault: calls return
  * LASSO_NO_INTERNER, or 0, and write nothing but a report.
  *
- * No call waits. lasso_shared_intern, lasso_shared_intern_batch, lasso_shared_get, lasso_shared_memory,
+ * No call waits. The calls whose names begin with lasso_shared_intern, lasso_shared_get, lasso_shared_memory,
  * lasso_shared_limit and lasso_shared_set_limit return LASSO_BUSY if another thread is inside a step of the interner,
  * after they looked about a hundred times. The caller tries again, as the inline calls do whose names end with _wait.
  * What to rely on:
@@ -647,6 +648,24 @@ uint32_t lasso_shared_join(struct lasso_shared *shared, struct lasso_shared *oth
  * LASSO_BUSY they don't, as far as tests tell: what is proved leaves it open.
  */
 uint32_t lasso_shared_intern(struct lasso_shared *shared, const uint8_t *text, size_t text_length, uint32_t *code);
+
+/*
+ * lasso_shared_intern for a text whose bytes stay where they are, as those of a string literal or of a static const
+ * array: an absent text is kept without a copy. It takes none of the bytes that lasso_shared_memory counts, and the
+ * limit refuses none.
+ *
+ * shared              a handle, not NULL.
+ * text                read, and kept: the bytes stay valid and unchanged until the last handle of the interner is
+ *                     freed, frozen or not, and as long as a text is read that was lent of it. An interner that
+ *                     lasso_shared_copy makes has a copy of its own. Of a present text, these bytes are not kept.
+ * code                written: one number.
+ *
+ * Returns the first that applies: LASSO_NOT_UTF8; LASSO_NO_INTERNER; LASSO_FROZEN, also for a present text. Else it
+ * returns LASSO_BUSY; for an absent text LASSO_NO_MEMORY or LASSO_NO_CODE_LEFT; else LASSO_DONE. If it is not
+ * LASSO_DONE, no text was appended, no bytes stay taken, and *code is as it was. What is proved supposes that the bytes
+ * stay for ever; that no call reads them once the last handle is freed is tested.
+ */
+uint32_t lasso_shared_intern_static(struct lasso_shared *shared, const uint8_t *text, size_t text_length, uint32_t *code);
 
 /*
  * Interns the texts of a layout in order, and writes a code for each, as lasso_intern_batch does. It stops at the first
@@ -1085,6 +1104,13 @@ static inline uint32_t lasso_shared_intern_inline(struct lasso_shared *shared, c
 }
 #define lasso_shared_intern lasso_shared_intern_inline
 
+static inline uint32_t lasso_shared_intern_static_inline(struct lasso_shared *shared,
+                                                         const uint8_t *text, size_t text_length, uint32_t *code)
+{
+    return lasso_shared_intern_static(shared, (const uint8_t *)lasso_read_from(text, text_length), text_length, code);
+}
+#define lasso_shared_intern_static lasso_shared_intern_static_inline
+
 static inline uint32_t lasso_shared_get_inline(struct lasso_shared *shared, const uint8_t *text, size_t text_length, uint32_t *code)
 {
     return lasso_shared_get(shared, (const uint8_t *)lasso_read_from(text, text_length), text_length, code);
@@ -1132,6 +1158,16 @@ static inline uint32_t lasso_shared_intern_wait(struct lasso_shared *shared, con
 {
     uint32_t status;
     while ((status = lasso_shared_intern(shared, text, text_length, code)) == LASSO_BUSY)
+        sched_yield();
+    return status;
+}
+
+/* lasso_shared_intern_static, again and again until it is not LASSO_BUSY, as lasso_shared_intern_wait does. */
+static inline uint32_t lasso_shared_intern_static_wait(struct lasso_shared *shared,
+                                                       const uint8_t *text, size_t text_length, uint32_t *code)
+{
+    uint32_t status;
+    while ((status = lasso_shared_intern_static(shared, text, text_length, code)) == LASSO_BUSY)
         sched_yield();
     return status;
 }

@@ -16,5 +16,6 @@ pub mod Seeds
 pub mod SeededLaws
 pub mod SharedSeats
 pub mod SharedSteps
+pub mod SharedStatics
 pub mod TextFacts
 pub mod StaticFacts

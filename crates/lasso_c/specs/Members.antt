@@ -94,6 +94,12 @@ IsInternStatus false held status = status ≡ NOT_UTF8
 IsInternStatus true held status =
     IsStatusOf held status (MatchBool (is_frozen held) (status ≡ FROZEN) ((status ≡ DONE) ⊎ (status ≡ NO_CODE_LEFT) ⊎ (status ≡ LIMIT_REACHED) ⊎ (status ≡ NO_MEMORY) ⊎ (status ≡ BUSY)))
 
+-- a status of interning static bytes that are UTF-8 or not: the limit refuses none
+abbrev pub IsStaticStatus : (utf8 : Bool) → Option Member → (status : ℕ) → Type 0
+IsStaticStatus false held status = status ≡ NOT_UTF8
+IsStaticStatus true held status =
+    IsStatusOf held status (MatchBool (is_frozen held) (status ≡ FROZEN) ((status ≡ DONE) ⊎ (status ≡ NO_CODE_LEFT) ⊎ (status ≡ NO_MEMORY) ⊎ (status ≡ BUSY)))
+
 -- a status of looking bytes up that are UTF-8 or not
 abbrev pub IsGetStatus : (utf8 : Bool) → Option Member → (status : ℕ) → Type 0
 IsGetStatus false held status = status ≡ NOT_UTF8

@@ -23,6 +23,7 @@ pub mod limits;
 pub mod making;
 mod member;
 mod seat;
+pub mod statics;
 
 use crate::handle::Lasso;
 use crate::shared::handle::LassoShared;

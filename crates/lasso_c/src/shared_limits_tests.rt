@@ -2,6 +2,7 @@
 use crate::shared::handle::LassoShared;
 use crate::shared::limits::{lasso_shared_limit, lasso_shared_memory, lasso_shared_set_limit};
 use crate::shared::making::lasso_shared_new;
+use crate::shared::statics::lasso_shared_intern_static;
 use crate::shared::{
     lasso_shared_free, lasso_shared_get, lasso_shared_intern, lasso_shared_join, lasso_shared_len,
 };
@@ -25,6 +26,8 @@ enum Step {
     Takes(usize, (u32, usize)),
     // interning a text of this letter and length has this status and writes this code, 77 if none
     Interns(usize, (u8, usize), (u32, u32)),
+    // interning the text, which is kept where it is, has this status and writes this code
+    InternsStatic(usize, &'static [u8], (u32, u32)),
     // looking it up
     Finds(usize, (u8, usize), (u32, u32)),
     // the number of texts
@@ -38,6 +41,12 @@ fn interns(shared: &mut LassoShared, text: (u8, usize), want: (u32, u32)) -> See
     let letters = [text.0; MOST];
     let mut code = 77;
     let status = lasso_shared_intern(shared, &letters[..text.1.min(MOST)], &mut code);
+    (status, (status, code) == want)
+}
+
+fn interns_static(shared: &mut LassoShared, text: &'static [u8], want: (u32, u32)) -> Seen {
+    let mut code = 77;
+    let status = lasso_shared_intern_static(shared, text, &mut code);
     (status, (status, code) == want)
 }
 
@@ -84,6 +93,9 @@ fn take(alloc: Global, handles: &mut [LassoShared; 2], step: &Step) -> Seen {
         Step::IsLimited(handle, want) => is_limited(&mut handles[at(handle)], want),
         Step::Takes(handle, want) => takes(&mut handles[at(handle)], want),
         Step::Interns(handle, text, want) => interns(&mut handles[at(handle)], text, want),
+        Step::InternsStatic(handle, text, want) => {
+            interns_static(&mut handles[at(handle)], text, want)
+        }
         Step::Finds(handle, text, want) => finds(&mut handles[at(handle)], text, want),
         Step::Counts(handle, count) => (0, lasso_shared_len(&mut handles[at(handle)]) == count),
         Step::Frees(handle) => frees(alloc, &mut handles[at(handle)]),
@@ -191,4 +203,22 @@ static FREED: [Step; 7] = [
 #[test]
 fn a_limit_stays_when_a_handle_is_let_go(rt: HostRuntime) -> Result<(), Fail> {
     walk(&rt, true, &FREED)
+}
+
+// The first text fills the first bucket, which is all that the limit leaves, so no other text is copied.
+static PAST_THE_LIMIT: [Step; 9] = [
+    Step::Limits(0, 0, 0),
+    Step::Interns(0, (b'a', 4096), (0, 0)),
+    Step::Interns(0, (b'b', 1), (10, 77)),
+    Step::InternsStatic(0, b"b", (0, 1)),
+    Step::InternsStatic(0, b"a text that is kept where it is", (0, 2)),
+    Step::Interns(0, (b'b', 1), (0, 1)),
+    Step::Takes(0, (0, 4096)),
+    Step::IsLimited(0, (0, 0)),
+    Step::Counts(0, 3),
+];
+
+#[test]
+fn the_limit_refuses_no_static_text(rt: HostRuntime) -> Result<(), Fail> {
+    walk(&rt, true, &PAST_THE_LIMIT)
 }

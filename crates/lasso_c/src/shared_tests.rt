@@ -6,6 +6,7 @@ use crate::shared::freezing::lasso_shared_freeze;
 use crate::shared::handle::LassoShared;
 use crate::shared::lending::{lasso_shared_text, lasso_shared_texts};
 use crate::shared::making::lasso_shared_new;
+use crate::shared::statics::lasso_shared_intern_static;
 use crate::shared::{
     lasso_shared_free, lasso_shared_get, lasso_shared_intern, lasso_shared_join, lasso_shared_len,
     lasso_shared_resolve, lasso_shared_see,
@@ -25,6 +26,8 @@ enum Step {
     Joins(usize, u32),
     // interning the text has this status and writes this code, 77 if none
     Interns(usize, &'static [u8], (u32, u32)),
+    // the same for a text that is kept where it is
+    InternsStatic(usize, &'static [u8], (u32, u32)),
     // looking the text up has this status and writes this code, 77 if none
     Finds(usize, &'static [u8], (u32, u32)),
     // the text of the code has this status, begins so, and has this number of bytes, 77 if there is none
@@ -48,6 +51,12 @@ enum Step {
 fn interns(shared: &mut LassoShared, text: &[u8], want: (u32, u32)) -> Seen {
     let mut code = 77;
     let status = lasso_shared_intern(shared, text, &mut code);
+    (status, (status, code) == want)
+}
+
+fn interns_static(shared: &mut LassoShared, text: &'static [u8], want: (u32, u32)) -> Seen {
+    let mut code = 77;
+    let status = lasso_shared_intern_static(shared, text, &mut code);
     (status, (status, code) == want)
 }
 
@@ -98,6 +107,8 @@ fn take(alloc: Global, [first, second]: &mut [LassoShared; 2], step: &Step) -> S
         Step::Joins(_, want) => is_status(lasso_shared_join(alloc, second, first), want),
         Step::Interns(0, text, want) => interns(first, text, want),
         Step::Interns(_, text, want) => interns(second, text, want),
+        Step::InternsStatic(0, text, want) => interns_static(first, text, want),
+        Step::InternsStatic(_, text, want) => interns_static(second, text, want),
         Step::Finds(0, text, want) => finds(first, text, want),
         Step::Finds(_, text, want) => finds(second, text, want),
         Step::Resolves(0, code, want) => resolves(first, code, want),
@@ -192,6 +203,33 @@ static TWO_HANDLES: [Step; 18] = [
 #[test]
 fn two_handles_have_one_list(rt: HostRuntime) -> Result<(), Fail> {
     walk(&rt, &TWO_HANDLES)
+}
+
+static STATIC_TEXTS: [Step; 19] = [
+    Step::InternsStatic(0, b"red", (12, 77)),
+    Step::InternsStatic(0, b"\xc3", (3, 77)),
+    Step::Makes(0),
+    Step::InternsStatic(0, b"red", (0, 0)),
+    Step::Interns(0, b"blue", (0, 1)),
+    Step::InternsStatic(0, b"blue", (0, 1)),
+    Step::InternsStatic(0, b"", (0, 2)),
+    Step::InternsStatic(0, b"\xc3", (3, 77)),
+    Step::Joins(0, 0),
+    Step::InternsStatic(1, b"red", (0, 0)),
+    Step::Interns(1, b"red", (0, 0)),
+    Step::InternsStatic(1, b"green", (0, 3)),
+    Step::Counts(0, 4),
+    Step::Frees(0),
+    Step::Resolves(1, 3, (0, b"gree", 5)),
+    Step::Freezes(1, 0),
+    Step::InternsStatic(1, b"red", (17, 77)),
+    Step::Lends(1, 0, (0, b"red")),
+    Step::Lends(1, 2, (0, b"")),
+];
+
+#[test]
+fn keeps_static_texts_for_all_handles(rt: HostRuntime) -> Result<(), Fail> {
+    walk(&rt, &STATIC_TEXTS)
 }
 
 static TWO_INTERNERS: [Step; 12] = [

@@ -8,12 +8,13 @@ use Rattle.lasso_log.specs.Calls.{IsCall, Stores, TakesBytes}
 use Rattle.lasso_log.specs.Charges.{IsRefusal}
 use Rattle.lasso_log.specs.History.{Charge, Event, History}
 use Rattle.lasso_log.specs.Notes.{NoteView, history, Since}
-use Rattle.lasso_log.specs.Replies.{Question, Copied, Intern, Interned, Get, Found}
+use Rattle.lasso_log.specs.Replies.{Question, Copied, Static, Intern, Interned, Get, Found}
 use Rattle.lasso_log.specs.Views.{InternerId, list_of}
 use Rattle.lasso_shared.specs.Shards.{PutsLast}
 use Rattle.lasso_log.proofs.Tickets.{since_trans}
 use Rattle.lasso_shared.proofs.Called.{called_later, got}
 use Rattle.lasso_shared.proofs.Stored.{called_put, charged_bytes, puts_later, refused_later, since_append, takes_later}
+use Rattle.lasso_shared.proofs.Whole.{since_self}
 
 -- what a pass may have stored, after steps without an event
 pub store_later : (p : ℕ) (a b c : List NoteView) (text : Text) → Since p a b [] → ((own : List Event) × ((own ≡ []) ⊎ Stores Copied text own) × Since p b c own) → (own : List Event) × ((own ≡ []) ⊎ Stores Copied text own) × Since p a c own
@@ -51,6 +52,12 @@ module _ {K : Type 0} (key_at : ℕ → Option K) (of : InternerId) (p : ℕ) wh
       → IfSome o (λ r. IsCall key_at of.opening (history before) (history after) p (Intern Copied text) (Interned r))
   called_puts before mid after stored text None s stores put = tt
   called_puts before mid after stored text (Some r) s stores put = called_put key_at of p Copied before mid after stored text r s stores put
+
+  -- a text that is kept where it is was put last, or no key was left for it
+  pub called_puts_static : (before after : List NoteView) (text : Text) (o : Option (Result K LassoErrorKind)) → IfSome o (PutsLast key_at of p before after text)
+      → IfSome o (λ r. IsCall key_at of.opening (history before) (history after) p (Intern Static text) (Interned r))
+  called_puts_static before after text None put = tt
+  called_puts_static before after text (Some r) put = called_put key_at of p Static before before after [] text r (since_self p before) refl put
 
   -- what the pass saw before, without an event of its own, may be counted to what put the text last
   pub puts_later_if : (before mid after : List NoteView) (text : Text) (o : Option (Result K LassoErrorKind)) → Since p before mid [] → IfSome o (PutsLast key_at of p mid after text) → IfSome o (PutsLast key_at of p before after text)

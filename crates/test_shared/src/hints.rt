@@ -17,6 +17,7 @@ enum Call {
     Copied,
     CopiedNow,
     Static,
+    StaticNow,
     Item,
     CopiedAll,
     Get,
@@ -24,10 +25,11 @@ enum Call {
     GetAll,
 }
 
-static CALLS: [Call; 8] = [
+static CALLS: [Call; 9] = [
     Call::Copied,
     Call::CopiedNow,
     Call::Static,
+    Call::StaticNow,
     Call::Item,
     Call::CopiedAll,
     Call::Get,
@@ -36,7 +38,7 @@ static CALLS: [Call; 8] = [
 ];
 
 // How many of the calls intern the text.
-const INTERNING: usize = 5;
+const INTERNING: usize = 6;
 
 // More texts than a round of hints has.
 const ROUND: usize = 70_000;
@@ -53,6 +55,7 @@ fn make(
         Call::Copied => drop(shared.try_get_or_intern_as(rt, pass, text)?),
         Call::CopiedNow => drop(until_free(rt, || shared.intern_now_as(pass, text))?),
         Call::Static => drop(shared.try_get_or_intern_static_as(rt, pass, text)?),
+        Call::StaticNow => drop(until_free(rt, || shared.intern_static_now_as(pass, text))?),
         Call::Item => shared.extend_as(rt, pass, &mut [text].into_iter())?,
         Call::CopiedAll => {
             let mut keys = Vec::new(rt.alloc());

@@ -45,7 +45,7 @@ fn a_text_of_each_length_is_found(rt: HostRuntime) -> Result<(), Fail> {
 
 #[test]
 fn a_text_of_each_length_is_found_by_a_pass(rt: HostRuntime) -> Result<(), Fail> {
-    static STEPS: [Step; 9] = [
+    static STEPS: [Step; 12] = [
         New(Way::CopiedByPass, "a-"),
         Finds("a.", None),
         ByNew(Call::Finds("a.", None)),
@@ -55,8 +55,11 @@ fn a_text_of_each_length_is_found_by_a_pass(rt: HostRuntime) -> Result<(), Fail>
         New(Way::Now, "c-"),
         Finds("c.", None),
         ByNew(Call::Finds("c.", None)),
+        New(Way::StaticNow, "d-"),
+        Finds("d.", None),
+        ByNew(Call::Finds("d.", None)),
     ];
-    static LAST: [Step; 1] = [Counts(123)];
+    static LAST: [Step; 1] = [Counts(164)];
     runs_in_one(&rt, Maker::Default, &STEPS, &LENGTHS, &LAST)
 }
 

@@ -291,7 +291,7 @@ fn a_text_of_each_thread_resolves(rt: HostRuntime) -> Result<(), Fail> {
 // How many times a call hashes its text.
 
 // A text for each of `WAYS`.
-static OF_WAYS: [&str; 8] = ["a", "b", "c", "d", "e", "", "f", "g"];
+static OF_WAYS: [&str; 9] = ["a", "b", "c", "d", "e", "", "f", "g", "h"];
 
 // Each call interns an absent text and then finds it. After `extend` the number of the text is looked up.
 #[test]

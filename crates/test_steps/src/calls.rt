@@ -161,6 +161,12 @@ impl<'a, K: Key, S: BuildHasher + Drop, R: Host> Caller<'a, K, S, R> {
         until_free(self.rt, || shared.intern_now_as(pass, text))
     }
 
+    /// Interns a static text without waiting, again until nobody is in the way.
+    pub fn kept_now(&mut self, text: &'static str) -> LassoResult<K> {
+        let (shared, pass) = (self.shared, &mut self.pass);
+        until_free(self.rt, || shared.intern_static_now_as(pass, text))
+    }
+
     /// The number of the text, if it is present, without waiting, again until nobody is in the way.
     pub fn found_now(&mut self, text: &str) -> Option<usize> {
         let (shared, pass) = (self.shared, &mut self.pass);

@@ -28,12 +28,14 @@ pub enum Way {
     StaticByPass,
     /// By a new pass without waiting, again until nobody is in the way.
     Now,
+    /// The same of a static text.
+    StaticNow,
     /// The call of the case.
     Given,
 }
 
 /// Each call that interns a text.
-pub static WAYS: [Way; 8] = [
+pub static WAYS: [Way; 9] = [
     Way::TryCopied,
     Way::Copied,
     Way::Item,
@@ -42,6 +44,7 @@ pub static WAYS: [Way; 8] = [
     Way::TryStatic,
     Way::Static,
     Way::StaticByPass,
+    Way::StaticNow,
 ];
 
 /// Those that copy it.
@@ -54,7 +57,12 @@ pub static COPYING: [Way; 5] = [
 ];
 
 /// Those that keep it.
-pub static KEEPING: [Way; 3] = [Way::TryStatic, Way::Static, Way::StaticByPass];
+pub static KEEPING: [Way; 4] = [
+    Way::TryStatic,
+    Way::Static,
+    Way::StaticByPass,
+    Way::StaticNow,
+];
 
 /// A call by a pass, and what it has to return.
 #[derive(Clone, Copy)]
@@ -191,6 +199,7 @@ impl<'a, K: Key, S: BuildHasher + Drop, R: Host> Caller<'a, K, S, R> {
             Way::CopiedByPass => numbered(Caller::new(rt, shared).copied(text)),
             Way::StaticByPass => numbered(Caller::new(rt, shared).kept(text)),
             Way::Now => numbered(Caller::new(rt, shared).copied_now(text)),
+            Way::StaticNow => numbered(Caller::new(rt, shared).kept_now(text)),
         }
     }
 

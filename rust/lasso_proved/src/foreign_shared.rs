@@ -38,6 +38,12 @@ extern "C" {
     fn lasso_shared_join(shared: *mut Shared, other: *mut Shared) -> u32;
     fn lasso_shared_intern(shared: *mut Shared, text: *const u8, len: usize, code: *mut u32)
         -> u32;
+    fn lasso_shared_intern_static(
+        shared: *mut Shared,
+        text: *const u8,
+        len: usize,
+        code: *mut u32,
+    ) -> u32;
     fn lasso_shared_get(shared: *mut Shared, text: *const u8, len: usize, code: *mut u32) -> u32;
     fn lasso_shared_see(shared: *mut Shared) -> u32;
     fn lasso_shared_text(shared: *mut Shared, code: u32, text: *mut LassoText) -> u32;
@@ -153,6 +159,17 @@ impl Users {
         // SAFETY: a handle under its lock, a text, and a variable (1, 2).
         let intern =
             |user: &mut Shared| unsafe { lasso_shared_intern(user, bytes, len, &mut code) };
+        let status = self.user()?.wait(intern);
+        outcome(status).map(|()| code)
+    }
+
+    /// The code of a static text, which is appended without a copy if it is absent.
+    #[inline]
+    pub(crate) fn intern_static(&self, text: &'static str) -> LassoResult<u32> {
+        let (bytes, len, mut code) = (text.as_ptr(), text.len(), 0);
+        // SAFETY: a handle under its lock, a static text, and a variable (1, 2, 8).
+        let intern =
+            |user: &mut Shared| unsafe { lasso_shared_intern_static(user, bytes, len, &mut code) };
         let status = self.user()?.wait(intern);
         outcome(status).map(|()| code)
     }

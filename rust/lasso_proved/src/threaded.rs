@@ -165,18 +165,28 @@ impl<K: Key, S: BuildHasher> ThreadedRodeo<K, S> {
     /// ```
     pub fn try_get_or_intern<T: AsRef<str>>(&self, val: T) -> LassoResult<K> {
         let text = val.as_ref();
+        self.intern_by(text, || self.users.intern(text))
+    }
+
+    /// The key of a text, which this call interns if it is absent and the key type has a key for it.
+    #[inline]
+    fn intern_by(&self, text: &str, intern: impl FnOnce() -> LassoResult<u32>) -> LassoResult<K> {
         if K::try_from_usize(LAST_POSITION).is_some() {
-            return self.users.intern(text).map(key_of);
+            return intern().map(key_of);
         }
         match self.users.get(text)? {
             Some(code) => Ok(key_of(code)),
-            None => self.intern_if_key_left(text),
+            None => self.intern_if_key_left(text, intern),
         }
     }
 
     /// Interns a text that was absent, unless the key type has no key for it.
     #[cold]
-    fn intern_if_key_left(&self, text: &str) -> LassoResult<K> {
+    fn intern_if_key_left(
+        &self,
+        text: &str,
+        intern: impl FnOnce() -> LassoResult<u32>,
+    ) -> LassoResult<K> {
         let _last_keys = self
             .last_keys
             .lock()
@@ -188,28 +198,29 @@ impl<K: Key, S: BuildHasher> ThreadedRodeo<K, S> {
         if K::try_from_usize(self.len()).is_none() {
             return Err(LassoError::new(LassoErrorKind::KeySpaceExhaustion));
         }
-        self.users.intern(text).map(key_of)
+        intern().map(key_of)
     }
 
-    /// The key of a static text: the same call as [`get_or_intern`](Self::get_or_intern). An absent
-    /// text is copied too.
+    /// The key of a static text. An absent text is kept without a copy.
     ///
     /// # Panics
     ///
-    /// If an absent text is refused.
+    /// If an absent text is refused, as [`try_get_or_intern_static`](Self::try_get_or_intern_static)
+    /// refuses it.
     #[track_caller]
     pub fn get_or_intern_static(&self, string: &'static str) -> K {
-        self.get_or_intern(string)
+        or_panic(self.try_get_or_intern_static(string))
     }
 
-    /// The key of a static text: the same call as [`try_get_or_intern`](Self::try_get_or_intern).
-    /// An absent text is copied too, and counts for the limit.
+    /// The key of a static text. An absent text is kept without a copy, and takes none of the bytes
+    /// that the limit is for.
     ///
     /// # Errors
     ///
-    /// Those of `try_get_or_intern`.
+    /// An absent text is refused if no key is left, and if memory is out. The interner is as it was
+    /// then. A present text is refused only if a thread's first call has no memory for its handle.
     pub fn try_get_or_intern_static(&self, string: &'static str) -> LassoResult<K> {
-        self.try_get_or_intern(string)
+        self.intern_by(string, || self.users.intern_static(string))
     }
 
     /// The key of a text, or `None` if it is absent.

@@ -146,18 +146,32 @@ fn a_capacity_that_no_memory_has() {
     limited(usize::MAX, usize::MAX);
 }
 
+#[test]
+fn static_texts_stay_where_they_are_past_the_limit() {
+    let rodeo = limited(10, 0);
+    rodeo.get_or_intern("0123456789");
+    let texts = ["x", "", "a text of more than ten bytes"];
+    for (text, position) in texts.into_iter().zip(1..) {
+        let this = rodeo.try_get_or_intern_static(text).unwrap();
+        assert_eq!((this, rodeo.resolve(&this)), (key(position), text));
+        assert!(text.is_empty() || rodeo.resolve(&this).as_ptr() == text.as_ptr());
+        assert_eq!(rodeo.get_or_intern_static(text), this);
+        assert_eq!(rodeo.get_or_intern(text), this);
+    }
+    assert!(rodeo.try_get_or_intern("y").is_err());
+    assert_eq!((rodeo.len(), rodeo.current_memory_usage()), (4, 10));
+    let (this, reader) = (key(3), rodeo.into_reader());
+    assert_eq!(reader.resolve(&this).as_ptr(), texts[2].as_ptr());
+}
+
 // Each text fills the bucket that is made for it.
 #[test]
 fn the_limit_counts_the_bytes_of_buckets() {
     let rodeo = limited(10, 10);
     let first = rodeo.get_or_intern("0123456789");
     for text in ["x", "a text of more than ten bytes"] {
-        for refused in [
-            rodeo.try_get_or_intern(text),
-            rodeo.try_get_or_intern_static(text),
-        ] {
-            assert!(refused.unwrap_err().kind().is_memory_limit());
-        }
+        let refused = rodeo.try_get_or_intern(text);
+        assert!(refused.unwrap_err().kind().is_memory_limit());
         assert_eq!(rodeo.get(text), None);
     }
     assert_eq!(rodeo.try_get_or_intern("0123456789"), Ok(first));

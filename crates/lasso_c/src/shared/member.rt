@@ -3,7 +3,7 @@ ghost use Rattle.std.specs.Prelude.{◌≡◌, ◌-◌, [], IfOk, IfSome, IsFals
 ghost use mathlib.Core.List.{IsPrefix};
 ghost use Rattle.lasso_single.specs.Copies.{clone_size, read_of};
 ghost use Rattle.lasso_log.specs.History.{opened};
-ghost use Rattle.lasso_log.specs.Replies.{Copied, Done, Found, Get, Intern, Interned, Len, MaxUsage, Number, Resolve, Resolved, SetLimit, Usage};
+ghost use Rattle.lasso_log.specs.Replies.{Copied, Done, Found, Get, Intern, Interned, Len, MaxUsage, Number, Resolve, Resolved, SetLimit, Static, Usage};
 ghost use Rattle.lasso_log.specs.Views.{PassView, SnapshotView};
 ghost use Rattle.lasso_c.specs.Layout.{CopiesFront};
 ghost use Rattle.lasso_c.specs.Passes.{AppendsNone, CopiesCall, IsCallOf, IsQuiet, texts_of};
@@ -97,6 +97,18 @@ impl Member {
     {
         self.count();
         self.shared.rodeo.intern_now_as(&mut self.pass, text)
+    }
+
+    // The key of the text, which is appended without a copy if it is absent, or `None` if another thread is inside a step.
+    pub(crate) fn intern_static(&mut self, text: &'static str) -> Option<LassoResult<Spur>>
+        ensures call { IfSome result (λ r. IsCallOf self.old.pass self.new.pass (Intern Static text.now) (Interned r)) }
+        ensures busy { IsNone result → IsQuiet self.old.pass self.new.pass }
+        ensures list { self.new.list ≡ self.old.list }
+        ensures seed { self.new.shared.seed ≡ self.old.shared.seed }
+        ensures frozen { self.new.shared.is_frozen ≡ self.old.shared.is_frozen }
+    {
+        self.count();
+        self.shared.rodeo.intern_static_now_as(&mut self.pass, text)
     }
 
     // The key of the text, if it is there, or `None` if another thread is inside a step.

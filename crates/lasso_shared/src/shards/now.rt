@@ -2,7 +2,8 @@
 //!
 //! Where a waiting call waits for a lock, these look a few times, and then return `None`. No text was appended then, and the
 //! caller may try again. A new text's shard and the spine are locked before its bytes are taken: so nobody is in the way from then
-//! on. That is not proved: the bytes may stay taken if a word moves while the spine is locked, as the contracts say.
+//! on. That is not proved: the bytes may stay taken if a word moves while the spine is locked, as the contracts say. A static text
+//! has none to take.
 ghost use Rattle.std.specs.Prelude.{◌≡◌, ◌<◌, [], IfSome, IsNone};
 ghost use mathlib.Core.List.{IsPrefix};
 ghost use Rattle.lasso_parts.specs.Hashing.{hash_by};
@@ -10,7 +11,7 @@ ghost use Rattle.lasso_parts.specs.Index.{room};
 ghost use Rattle.lasso_parts.specs.Texts.{key_of};
 ghost use Rattle.lasso_log.specs.History.{Lacks};
 ghost use Rattle.lasso_log.specs.Notes.{Since};
-ghost use Rattle.lasso_log.specs.Replies.{Copied, Found, Get, Intern, Interned};
+ghost use Rattle.lasso_log.specs.Replies.{Copied, Found, Get, Intern, Interned, Static};
 ghost use Rattle.lasso_log.specs.Views.{PassView, InternerId, SnapshotView, SpineView, IsSamePass, list_of};
 ghost use Rattle.lasso_shared.specs.Locked.{IsLocked, IsWholeFor};
 ghost use Rattle.lasso_shared.specs.Now.{MayStore};
@@ -22,6 +23,7 @@ use crate::shards::shard::{BoxedTally, Shard, Tally};
 use crate::shards::tag::number_of;
 use lasso_lock::locks::TaggedMutexGuard;
 use lasso_log::log::{KeptCell, Pass};
+use lasso_log::shared_memory::piece::Piece;
 use lasso_parts::index::hash_text;
 use lasso_parts::keys::Key;
 use lasso_parts::util::LassoResult;
@@ -258,6 +260,107 @@ impl<K: Key, S: BuildHasher + Drop> Shards<K, S> {
             None => None,
             Some(Some(key)) => Some(Ok(key)),
             Some(None) => self.intern_new_now(pass, hash, text),
+        }
+    }
+
+    // Interns a static text that the shard lacks. The shard is locked, and so is the spine.
+    fn put_static_now(
+        &self,
+        tally: &mut Tally<K, S>,
+        shard: &mut Shard<K, S>,
+        pass: &mut Pass<K>,
+        hash: u64,
+        text: &'static str,
+    ) -> Option<LassoResult<K>>
+        requires of { pass.old.of ≡ self.now.log }
+        requires hashed { hash ≡ hash_by S.BuildHasher S.Hasher.Hasher self.now.hasher text.now }
+        requires held { IsLocked (hash_by S.BuildHasher S.Hasher.Hasher self.now.hasher) (shard_of hash) self.now.log shard.old }
+        requires tally { IsTally (hash_by S.BuildHasher S.Hasher.Hasher self.now.hasher) self.now.log tally.old.spine tally.old.counts }
+        requires whole { IsWholeFor (hash_by S.BuildHasher S.Hasher.Hasher self.now.hasher) (shard_of hash) self.now.log shard.old pass.old }
+        requires lacks { Lacks (list_of self.now.log shard.old.known.notes) text.now }
+        ensures same { IsSamePass pass.new pass.old }
+        ensures call { IfSome result (λ r. IsPassCall K.key_at self.now.log pass.old pass.new (Intern Static text.now) (Interned r)) }
+        ensures busy { IsNone result → Since pass.old.number pass.old.notes pass.new.notes [] }
+        ensures held { IsLocked (hash_by S.BuildHasher S.Hasher.Hasher self.now.hasher) (shard_of hash) self.now.log shard.new }
+        ensures tally { IsTally (hash_by S.BuildHasher S.Hasher.Hasher self.now.hasher) self.now.log tally.new.spine tally.new.counts }
+    {
+        if let Err(error) = self.grow_index(shard, pass, number_of(hash)) {
+            return Some(Err(error));
+        }
+        let cell = match self.log.reserve_next(self.alloc, &mut tally.spine) {
+            Ok(cell) => cell,
+            Err(error) => return Some(Err(error)),
+        };
+        self.append_current_now(tally, shard, pass, cell, hash, Piece::from_static(text))
+    }
+
+    // Interns a static text whose shard the caller has locked, as `intern_held` does.
+    fn intern_held_static_now(
+        &self,
+        shard: &mut Shard<K, S>,
+        pass: &mut Pass<K>,
+        hash: u64,
+        text: &'static str,
+    ) -> Option<LassoResult<K>>
+        requires of { pass.old.of ≡ self.now.log }
+        requires hashed { hash ≡ hash_by S.BuildHasher S.Hasher.Hasher self.now.hasher text.now }
+        requires held { IsLocked (hash_by S.BuildHasher S.Hasher.Hasher self.now.hasher) (shard_of hash) self.now.log shard.old }
+        ensures same { IsSamePass pass.new pass.old }
+        ensures call { IfSome result (λ r. IsPassCall K.key_at self.now.log pass.old pass.new (Intern Static text.now) (Interned r)) }
+        ensures busy { IsNone result → Since pass.old.number pass.old.notes pass.new.notes [] }
+        ensures held { IsLocked (hash_by S.BuildHasher S.Hasher.Hasher self.now.hasher) (shard_of hash) self.now.log shard.new }
+    {
+        if let Some(key) = self.find(shard, pass, hash, text) {
+            return Some(Ok(key));
+        }
+        let Some((guard, mut held)) = self.lock_current_now(shard, pass, number_of(hash)) else {
+            return None;
+        };
+        let reply = self.put_static_now(&mut held.tally, shard, pass, hash, text);
+        guard.put_back(held);
+        reply
+    }
+
+    // Interns a static text that the first look-up did not find, as `intern_new` does.
+    #[inline(never)]
+    #[tactic(auto, using(crate::proofs::Whole::since_self))]
+    fn intern_new_static_now(
+        &self,
+        pass: &mut Pass<K>,
+        hash: u64,
+        text: &'static str,
+    ) -> Option<LassoResult<K>>
+        requires of { pass.old.of ≡ self.now.log }
+        requires hashed { hash ≡ hash_by S.BuildHasher S.Hasher.Hasher self.now.hasher text.now }
+        ensures same { IsSamePass pass.new pass.old }
+        ensures call { IfSome result (λ r. IsPassCall K.key_at self.now.log pass.old pass.new (Intern Static text.now) (Interned r)) }
+        ensures busy { IsNone result → Since pass.old.number pass.old.notes pass.new.notes [] }
+    {
+        let Some((guard, mut shard)) = self.lock(number_of(hash)).write_now() else {
+            return None;
+        };
+        let reply = self.intern_held_static_now(&mut shard.shard, pass, hash, text);
+        guard.put_back(shard);
+        reply
+    }
+
+    /// Returns the text's key, and appends an absent text first, which is kept where it is, as `intern` does. If it returns `None`,
+    /// no event was added.
+    pub fn intern_static_now(
+        &self,
+        pass: &mut Pass<K>,
+        text: &'static str,
+    ) -> Option<LassoResult<K>>
+        requires of { pass.old.of ≡ self.now.log }
+        ensures same { IsSamePass pass.new pass.old }
+        ensures call { IfSome result (λ r. IsPassCall K.key_at self.now.log pass.old pass.new (Intern Static text.now) (Interned r)) }
+        ensures busy { IsNone result → Since pass.old.number pass.old.notes pass.new.notes [] }
+    {
+        let hash = hash_text(&self.hasher, text);
+        match self.peek_now(pass, hash, text) {
+            None => None,
+            Some(Some(key)) => Some(Ok(key)),
+            Some(None) => self.intern_new_static_now(pass, hash, text),
         }
     }
 }

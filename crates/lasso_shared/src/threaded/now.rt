@@ -3,7 +3,7 @@
 ghost use Rattle.std.specs.Prelude.{◌≡◌, [], IfSome, IsFalse, IsNone, IsTrue, option_map, slice_get};
 ghost use Rattle.lasso_log.specs.History.{IsLegal, IsOpening};
 ghost use Rattle.lasso_log.specs.Notes.{Since};
-ghost use Rattle.lasso_log.specs.Replies.{Copied, Done, Found, Get, Intern, Interned, MaxUsage, Number, SetLimit, Usage};
+ghost use Rattle.lasso_log.specs.Replies.{Copied, Done, Found, Get, Intern, Interned, MaxUsage, Number, SetLimit, Static, Usage};
 ghost use Rattle.lasso_log.specs.Views.{PassView, InternerId, SnapshotView, IsSamePass, list_of, seen};
 ghost use Rattle.lasso_shared.specs.Now.{MayStore};
 ghost use Rattle.lasso_shared.specs.PassCalls.{IsPassCall};
@@ -39,6 +39,34 @@ impl<K: Key, S: BuildHasher + Drop> ThreadedRodeo<K, S> {
         ensures legal { IsLegal K.key_at self.now.opening (seen pass.new) }
     {
         let reply = self.shards.intern_now(pass, text);
+        pass.prove_legal();
+        reply
+    }
+
+    /// Returns the text's key, and appends an absent text first, which is kept where it is, as `try_get_or_intern_static_as` does,
+    /// with its errors. It returns `None` if other calls are in the way, and adds no event then. It does not wait.
+    ///
+    /// ```rust
+    /// let rodeo: SpurThreadedRodeo = ThreadedRodeo::default(rt.alloc())?;
+    /// let mut pass = rodeo.pass();
+    /// let Some(key) = rodeo.intern_static_now_as(&mut pass, "Hello, world!") else {
+    ///     return Ok(());
+    /// };
+    /// assert!(rt; rodeo.get_now_as(&mut pass, "Hello, world!") == Some(Some(key?)));
+    /// ```
+    pub fn intern_static_now_as(
+        &self,
+        pass: &mut Pass<K>,
+        text: &'static str,
+    ) -> Option<LassoResult<K>>
+        requires { pass.old.of ≡ self.now }
+        ensures same { IsSamePass pass.new pass.old }
+        ensures call { IfSome result (λ r. IsPassCall K.key_at self.now pass.old pass.new (Intern Static text.now) (Interned r)) }
+        ensures busy { IsNone result → Since pass.old.number pass.old.notes pass.new.notes [] }
+        ensures opening { IsOpening K.key_at self.now.opening }
+        ensures legal { IsLegal K.key_at self.now.opening (seen pass.new) }
+    {
+        let reply = self.shards.intern_static_now(pass, text);
         pass.prove_legal();
         reply
     }
