@@ -1,6 +1,6 @@
 //! The hash of texts under a seed, against vectors that another program computed; how many times an interner hashes a
 //! text, and how its index and its list grow.
-use crate::interners::{has_count, interns_numbers, is_so, is_so_at};
+use crate::interners::{Host, has_count, interns_numbers, is_so, is_so_at};
 use lasso_parts::hasher::{TextState, hash_with_seed};
 use lasso_parts::index::hash_text;
 use lasso_parts::keys::Spur;
@@ -336,28 +336,45 @@ fn a_clone_has_room_for_its_texts(rt: HostRuntime) -> Result<(), Fail> {
     let mut rodeo = counted(rt.alloc(), &made)?;
     let are_in = interns_numbers(rt.alloc(), &mut rodeo, CLONED, 4096)?;
     is_so(&rt, are_in, "the texts");
-    let before = made.get();
-    let copy = rodeo.try_clone()?;
-    let hashed = made.get().saturating_sub(before);
-    is_so(&rt, hashed == CLONED as u64, "the texts that were hashed");
-    is_so(&rt, has_count(&copy, CLONED), "the texts of the clone");
-    is_so(&rt, copy.allocated_bytes() < MOST_OF_A_CLONE, "the room");
+    for is_plain in [false, true] {
+        let before = made.get();
+        let copy = if is_plain {
+            rodeo.clone()?
+        } else {
+            rodeo.try_clone()?
+        };
+        let hashed = made.get().saturating_sub(before);
+        is_so(&rt, hashed == CLONED as u64, "the texts that were hashed");
+        is_so(&rt, has_count(&copy, CLONED), "the texts of the clone");
+        is_so(&rt, copy.allocated_bytes() < MOST_OF_A_CLONE, "the room");
+    }
     Ok(())
 }
 
-// Copies an interner of two texts over another. The copy hashes each text once, with the source's hasher, and
-// the target uses that hasher from then on.
-#[test]
-fn a_copy_asks_the_hasher_of_its_source(rt: HostRuntime) -> Result<(), Fail> {
+// Copies an interner of two texts over another by the call of this number. The copy hashes each text once, with the
+// source's hasher, and the target uses that hasher from then on.
+fn copies_with_its_hasher(rt: &impl Host, call: usize) -> Result<(), Fail> {
     let (of_source, of_target) = (Cell::new(0), Cell::new(0));
     let mut source = counted(rt.alloc(), &of_source)?;
     source.extend(["a", "b"])?;
     let mut target = counted(rt.alloc(), &of_target)?;
-    is_so(&rt, of_source.get() == 2, "the texts of the source");
-    target.try_clone_from(&source)?;
-    is_so(&rt, of_source.get() == 4, "the texts of the copy");
-    is_so(&rt, target.contains("b"), "a text of the copy");
-    is_so(&rt, of_source.get() == 5, "a text that is looked up");
-    is_so(&rt, of_target.get() == 0, "the hasher that was there");
+    is_so_at(rt, of_source.get() == 2, call);
+    match call {
+        0 => target.try_clone_from(&source)?,
+        1 => target.clone_from(&source)?,
+        _ => drop(run_commands(rt.alloc(), &mut target, &[Command::CloneFrom(&source)])?),
+    }
+    is_so_at(rt, of_source.get() == 4, call);
+    is_so_at(rt, target.contains("b"), call);
+    is_so_at(rt, of_source.get() == 5, call);
+    is_so_at(rt, of_target.get() == 0, call);
+    Ok(())
+}
+
+#[test]
+fn a_copy_asks_the_hasher_of_its_source(rt: HostRuntime) -> Result<(), Fail> {
+    for call in 0..3usize {
+        copies_with_its_hasher(&rt, call)?;
+    }
     Ok(())
 }
