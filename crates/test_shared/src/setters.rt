@@ -162,12 +162,17 @@ fn no_call_that_shows_texts_sets_a_limit(rt: HostRuntime) -> Result<(), Fail> {
     Ok(())
 }
 
-// Whether the limit refuses each copy of the texts.
+// How often each text is refused, so that the other thread sets limits meanwhile.
+const ROUNDS: usize = 50;
+
+// Whether the limit refuses each copy of the texts, each time.
 fn are_refused(rt: &impl Host, shared: &Shared, texts: &[String]) -> LassoResult<bool> {
     let mut all = true;
-    for text in texts.iter() {
-        let refusal = refusal_of(shared.try_get_or_intern(rt, text.as_str()))?;
-        all &= refusal == Some(LassoErrorKind::MemoryLimitReached);
+    for _ in 0..ROUNDS {
+        for text in texts.iter() {
+            let refusal = refusal_of(shared.try_get_or_intern(rt, text.as_str()))?;
+            all &= refusal == Some(LassoErrorKind::MemoryLimitReached);
+        }
     }
     Ok(all)
 }
