@@ -134,7 +134,7 @@ fn reads_by(rt: &impl Host, shared: &Shared, pass: &mut Pass<Spur>, count: usize
     is_so(rt, is_usage, "the usage");
 }
 
-// Fails unless the interner has this many texts, and so many of its four bytes left.
+// Fails unless the interner has `count` texts, and `bytes` of its four bytes left.
 fn has_left(rt: &impl Host, shared: &Shared, count: usize, bytes: usize) -> LassoResult<()> {
     let rest = "-".repeat(rt.alloc(), bytes)?;
     let number = numbered(shared.try_get_or_intern(rt, rest.as_str()))?;
